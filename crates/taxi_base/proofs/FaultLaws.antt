@@ -31,9 +31,9 @@ taken-none free a zero h t low high = absurd (omega arith)
 taken-none free a (suc n) h t low high =
     elim (cases_Bool (free a)) [
       | inl unheld ↦ elim (cases_lt a t) [
-          | inl later ↦ taken-none free (a + 1) n (rw unheld at h) t (omega arith) (omega arith)
-          | inr here ↦ let e : t ≡ a = omega arith in rw e unheld
-        ]
+        | inl later ↦ taken-none free (a + 1) n (rw unheld at h) t (omega arith) (omega arith)
+        | inr here ↦ let e : t ≡ a = omega arith in rw e unheld
+      ]
       | inr shut ↦ absurd (cc (rw shut at h))
     ]
 
