@@ -4,13 +4,15 @@ ghost use Rattle.taxi_base.specs.declared.numbers.Class.{Class};
 ghost use Rattle.taxi_base.specs.declared.rows.Span.{Span};
 ghost use Rattle.taxi_base.specs.declared.rows.Step.{Step};
 ghost use Rattle.taxi_base.specs.Airport.{Airport, arc_exists, layout_of};
-ghost use Rattle.taxi_base.specs.Windows.{span_has, IsPart, AllFree, IsWindow, AreWindows};
+ghost use Rattle.taxi_base.specs.Windows.{span_has, IsPart, AllFree, IsWindow, AreWindows, windows_before};
 ghost use Rattle.taxi_base.specs.Walks.{Conditions, IsInside, last_of, AreJoined, IsFeasibleWalk};
 ghost use Rattle.taxi_base.specs.State.{State, without, IsClashFree, IsFeasibleState, IsSound};
 ghost use Rattle.taxi_base.specs.Faults.{conditions_in, route_fault};
 
-/// The free seconds determine the list of windows, and it has each window and nothing else.
+/// The free seconds determine the list of windows, and it has each window and nothing else. Where nothing is free from a
+/// horizon on, there is such a list.
 pub fn windows_are_unique_and_complete()
+    ensures made { (free : ℕ → Bool) (horizon : ℕ) → ((t : ℕ) → horizon ≤ t → IsFalse (free t)) → AreWindows free (windows_before free horizon) }
     ensures unique { (free : ℕ → Bool) (ws vs : List Span) → AreWindows free ws → AreWindows free vs → ws ≡ vs }
     ensures sound { (free : ℕ → Bool) (ws : List Span) (w : Span) → AreWindows free ws → Contains ws w → IsWindow free w }
     ensures complete { (free : ℕ → Bool) (ws : List Span) (w : Span) → AreWindows free ws → IsWindow free w → Contains ws w }
