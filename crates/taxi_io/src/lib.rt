@@ -1,0 +1,15 @@
+//! Files that are read and output that is written, each piece of which may fail.
+//! A failure is answered only where a count of faults rose.
+#![tactic(auto)]
+
+mod reading;
+mod shelf;
+mod sink;
+mod trouble;
+mod writing;
+
+pub use reading::read_all;
+pub use shelf::Shelf;
+pub use sink::Sink;
+pub use trouble::{ReadRefused, Trouble};
+pub use writing::write_all;
