@@ -1,6 +1,7 @@
 -- What are the files of a shelf, where it tells them, and what is left of the one that is begun?
 use Rattle.std.specs.Prelude.{◌≡◌, ◌↔◌, ℕ, List, [], ◌∷◌, Option, Some, None, nat_eq, if◌then◌else◌}
 use lib.Pointwise.{pointwise}
+use Rattle.std.specs.Io.KnownBytes.{prepend_known}
 
 -- names, each with its file's bytes
 abbrev pub Files : Type 0
@@ -20,6 +21,10 @@ IsFile (Some files) name bytes = file_of files name ≡ Some bytes
 abbrev pub Begins : Option Files → List ℕ → Option (List ℕ) → Type 0
 Begins None name rest = rest ≡ None
 Begins (Some files) name rest = (bytes : List ℕ) × (file_of files name ≡ Some bytes) × (rest ≡ Some bytes)
+
+-- what is left, where it is told, lost this piece from its front
+abbrev pub Gave : Option (List ℕ) → Option (List ℕ) → List ℕ → Type 0
+Gave old new piece = old ≡ prepend_known piece new
 
 -- where it is told what is left, n is 0 exactly where that is nothing
 abbrev pub IsAtEndOnly : Option (List ℕ) → ℕ → Type 0

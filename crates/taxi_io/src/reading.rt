@@ -1,5 +1,6 @@
 //! Reading a file whole.
-ghost use Rattle.std.specs.Prelude.{◌≡◌, ◌<◌, ◌≤◌, ℕ, List, length, IfOk, IsErrOf};
+ghost use Rattle.std.specs.Prelude.{◌≡◌, ◌<◌, ◌≤◌, ℕ, List, length, IfOk, OnOk, IsErrOf};
+ghost use Rattle.std.specs.Io.KnownBytes.{IsAtEnd};
 ghost use Rattle.taxi_io.specs.Counts.{Rose};
 ghost use Rattle.taxi_io.specs.Files.{IsFile, SameNames};
 
@@ -15,6 +16,7 @@ pub fn read_all<S: Shelf>(alloc: Global, shelf: &mut S, name: &str, limit: usize
     requires known { S.knows shelf.old name.now }
     ensures whole { IfOk result (λ bytes. IsFile (S.files shelf.old) name.now bytes.items) }
     ensures within { IfOk result (λ bytes. length bytes.items ≤ limit) }
+    ensures lost { OnOk result (IsAtEnd (S.rest shelf.new)) }
     ensures too_large { IsErrOf result ReadRefused.TooLarge → (bytes : List ℕ) × IsFile (S.files shelf.old) name.now bytes × (limit < length bytes) }
     ensures fault { IsErrOf result ReadRefused.Fault → Rose (S.faults shelf.old) (S.faults shelf.new) }
     ensures later { S.faults shelf.old ≤ S.faults shelf.new }

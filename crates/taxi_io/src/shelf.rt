@@ -1,8 +1,7 @@
 //! Files that are begun by name and read a piece at a time.
 ghost use Rattle.std.specs.Prelude.{◌≡◌, ◌<◌, ◌≤◌, ℕ, List, Option, Bool, length, take, is_ok, IfOk, OnOk, OnErr, IsErrOf, IsTrue};
-ghost use Rattle.std.specs.Io.KnownBytes.{Consumes};
 ghost use Rattle.taxi_io.specs.Counts.{Rose};
-ghost use Rattle.taxi_io.specs.Files.{Files, Begins, IsAtEndOnly, SameNames};
+ghost use Rattle.taxi_io.specs.Files.{Files, Begins, Gave, IsAtEndOnly, SameNames};
 
 use crate::trouble::Trouble;
 
@@ -39,7 +38,7 @@ pub trait Shelf {
         requires begun { IsTrue (begun self.old) }
         requires room { 0 < length buffer.old }
         ensures bound { IfOk result (λ n. n ≤ length buffer.new) }
-        ensures bytes { IfOk result (λ n. Consumes (rest self.old) (rest self.new) (take n buffer.new)) }
+        ensures bytes { IfOk result (λ n. Gave (rest self.old) (rest self.new) (take n buffer.new)) }
         ensures end { IfOk result (IsAtEndOnly (rest self.old)) }
         ensures kept { OnErr result (rest self.new ≡ rest self.old) }
         ensures begun { IsTrue (begun self.new) }

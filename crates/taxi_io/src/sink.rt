@@ -1,7 +1,7 @@
 //! Output that takes bytes a piece at a time.
 ghost use Rattle.std.specs.Prelude.{◌≡◌, ◌<◌, ◌≤◌, ℕ, List, Option, length, take, IfOk, OnErr, IsErrOf};
-ghost use Rattle.std.specs.Io.KnownBytes.{Appends};
 ghost use Rattle.taxi_io.specs.Counts.{Rose};
+ghost use Rattle.taxi_io.specs.Written.{Grew};
 
 use crate::trouble::Trouble;
 
@@ -18,7 +18,7 @@ pub trait Sink {
         requires { 0 < length piece.now }
         ensures some { IfOk result (λ n. 0 < n) }
         ensures bound { IfOk result (λ n. n ≤ length piece.now) }
-        ensures grew { IfOk result (λ n. Appends (written self.old) (written self.new) (take n piece.now)) }
+        ensures grew { IfOk result (λ n. Grew (written self.old) (written self.new) (take n piece.now)) }
         ensures kept { OnErr result (written self.new ≡ written self.old) }
         ensures failed { IsErrOf result Trouble.Failed → Rose (faults self.old) (faults self.new) }
         ensures later { faults self.old ≤ faults self.new };

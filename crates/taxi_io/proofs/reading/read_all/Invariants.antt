@@ -1,6 +1,5 @@
 use Rattle.std.proofs.Common.{◌≡◌, ◌≤◌, ◌+◌, ◌-◌, true, vec_len}
-use Rattle.std.specs.Io.KnownBytes.{Consumes}
-use Rattle.taxi_io.specs.Files.{Begins, SameNames}
+use Rattle.taxi_io.specs.Files.{Begins, Gave, SameNames}
 use Rattle.taxi_io.proofs.reading.read_all.Given as goal
 
 -- the bytes so far are the front of what the begun file had left at first
@@ -9,7 +8,7 @@ invariant-loop-buffer g l =
     let s = g.S.Shelf in
     record {
       whole : Begins (s.files l.fn.shelf) l.fn.name (s.rest l.initial.shelf);
-      front : Consumes (s.rest l.initial.shelf) (s.rest l.shelf) l.bytes.items;
+      front : Gave (s.rest l.initial.shelf) (s.rest l.shelf) l.bytes.items;
       begun : s.begun l.shelf ≡ true;
       later : s.faults l.fn.shelf ≤ s.faults l.shelf;
       files : s.files l.shelf ≡ s.files l.fn.shelf;
