@@ -2,3 +2,5 @@ pub mod Counts
 pub mod Files
 pub mod Refusals
 pub mod Written
+pub mod Calls
+pub mod SinkInMemory

@@ -2,12 +2,15 @@
 //! A failure is answered only where a count of faults rose.
 #![tactic(auto)]
 
+mod memory_sink;
+mod planned_faults;
 mod reading;
 mod shelf;
 mod sink;
 mod trouble;
 mod writing;
 
+pub use memory_sink::MemorySink;
 pub use reading::read_all;
 pub use shelf::Shelf;
 pub use sink::Sink;
