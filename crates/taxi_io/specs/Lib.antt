@@ -4,3 +4,5 @@ pub mod Refusals
 pub mod Written
 pub mod Calls
 pub mod SinkInMemory
+pub mod ShelfInMemory
+pub mod HeldFiles

@@ -2,6 +2,7 @@
 //! A failure is answered only where a count of faults rose.
 #![tactic(auto)]
 
+mod memory_shelf;
 mod memory_sink;
 mod planned_faults;
 mod reading;
@@ -10,6 +11,7 @@ mod sink;
 mod trouble;
 mod writing;
 
+pub use memory_shelf::MemoryShelf;
 pub use memory_sink::MemorySink;
 pub use reading::read_all;
 pub use shelf::Shelf;
