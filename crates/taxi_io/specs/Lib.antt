@@ -6,3 +6,4 @@ pub mod Calls
 pub mod SinkInMemory
 pub mod ShelfInMemory
 pub mod HeldFiles
+pub mod ShelfOfMachine

@@ -1,5 +1,6 @@
 //! How a read or a write may end other than well.
 use std::alloc::AllocError;
+use std::io;
 use thiserror::Error;
 
 /// What one call of a shelf or a sink answers in place of a result.
@@ -21,6 +22,17 @@ impl From<AllocError> for Trouble {
 
     fn from(_e: AllocError) -> Trouble {
         Trouble::Memory
+    }
+}
+
+/// An error of the machine is a failure, but for want of memory.
+impl From<io::Error> for Trouble {
+    fn from(error: io::Error) -> Trouble {
+        if error.kind() == io::ErrorKind::OutOfMemory {
+            Trouble::Memory
+        } else {
+            Trouble::Failed
+        }
     }
 }
 
