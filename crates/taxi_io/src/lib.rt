@@ -22,3 +22,8 @@ pub use shelf::Shelf;
 pub use sink::Sink;
 pub use trouble::{ReadRefused, Trouble};
 pub use writing::write_all;
+
+#[cfg(test)]
+mod tests;
+#[cfg(test)]
+mod uses;
