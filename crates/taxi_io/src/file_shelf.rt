@@ -1,13 +1,14 @@
 //! The machine's files, and standard input under the name `-`. Nothing is told of their bytes.
 ghost use Rattle.std.specs.Prelude.{◌≡◌, ◌≤◌, ◌<◌, length, false, is_ok, is_err, IfOk, IsTrue};
 ghost use Rattle.taxi_io.specs.Calls.{faults_after};
+ghost use Rattle.taxi_io.specs.Counts.{next_count};
 
 use crate::shelf::Shelf;
 use crate::trouble::Trouble;
-use std::fs;
 use std::io::Read;
 use std::marker::Model;
 use std::rt::Files;
+use std::{fs, io};
 
 /// The name that stands for standard input.
 const STANDARD_INPUT: &str = "-";
@@ -50,6 +51,16 @@ impl<'a, R: Files + Input> FileShelf<'a, R> {
             faults: 0,
         }
     }
+
+    // Counts an error, and says what it is.
+    fn fail(&mut self, error: io::Error) -> Trouble
+        ensures begun { self.new.begun ≡ self.old.begun }
+        ensures faults { self.new.faults ≡ next_count self.old.faults }
+        ensures later { self.old.faults ≤ self.new.faults }
+    {
+        self.faults = self.faults.saturating_add(1);
+        Trouble::from(error)
+    }
 }
 
 impl<'a, R: Files + Input> Shelf for FileShelf<'a, R> {
@@ -80,10 +91,7 @@ impl<'a, R: Files + Input> Shelf for FileShelf<'a, R> {
                 self.source = Source::Opened(file);
                 Ok(())
             }
-            Err(error) => {
-                self.faults = self.faults.saturating_add(1);
-                Err(Trouble::from(error))
-            }
+            Err(error) => Err(self.fail(error)),
         }
     }
 
@@ -95,16 +103,13 @@ impl<'a, R: Files + Input> Shelf for FileShelf<'a, R> {
         ensures later { self.old.faults ≤ self.new.faults }
     {
         let outcome = match &mut self.source {
-            Source::Nothing => Ok(0),
+            Source::Nothing => unreachable!(),
             Source::Opened(file) => file.read(buffer),
             Source::StandardInput(input) => input.read(buffer),
         };
         match outcome {
             Ok(count) => Ok(count),
-            Err(error) => {
-                self.faults = self.faults.saturating_add(1);
-                Err(Trouble::from(error))
-            }
+            Err(error) => Err(self.fail(error)),
         }
     }
 }

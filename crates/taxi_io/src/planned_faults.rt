@@ -34,7 +34,10 @@ impl PlannedFaults {
     {
         self.calls = self.calls.saturating_add(1);
         let number = self.calls;
-        let fails = self.failing.iter().any(|listed| u64::from(*listed) == number);
+        let fails = self
+            .failing
+            .iter()
+            .any(|listed| u64::from(*listed) == number);
         if fails {
             self.count_fault();
         }

@@ -12,7 +12,12 @@ use std::alloc::Global;
 const PIECE: usize = 4096;
 
 /// Reads a file whole, of at most `limit` bytes. It never asks for more than one byte past the limit.
-pub fn read_all<S: Shelf>(alloc: Global, shelf: &mut S, name: &str, limit: usize) -> Result<Vec<u8>, ReadRefused>
+pub fn read_all<S: Shelf>(
+    alloc: Global,
+    shelf: &mut S,
+    name: &str,
+    limit: usize,
+) -> Result<Vec<u8>, ReadRefused>
     requires known { S.knows shelf.old name.now }
     ensures whole { IfOk result (λ bytes. IsFile (S.files shelf.old) name.now bytes.items) }
     ensures within { IfOk result (λ bytes. length bytes.items ≤ limit) }

@@ -7,6 +7,7 @@ use std::process::Abort;
 use std::test::Fail;
 
 const NODES: &str = "nodes.csv";
+
 const BYTES: &[u8] = b"N1,N2";
 
 // A shelf of one file of five bytes and one that is empty.
@@ -73,9 +74,16 @@ fn a_fault_before_the_excess(rt: HostRuntime) -> Result<(), Fail> {
 #[test]
 fn each_write_failing_in_turn(rt: HostRuntime) -> Result<(), Fail> {
     let alloc = rt.alloc();
-    for (call, front) in [(1u32, b"".as_slice()), (2, b"N1".as_slice()), (3, b"N1,N".as_slice())] {
+    for (call, front) in [
+        (1u32, b"".as_slice()),
+        (2, b"N1".as_slice()),
+        (3, b"N1,N".as_slice()),
+    ] {
         let mut sink = MemorySink::new(alloc, 2, Vec::from_slice(alloc, [call].as_slice())?);
-        assert!(rt; write_all(&mut sink, BYTES) == Err(Trouble::Failed), "at write {call}");
+        assert!(rt;
+            write_all(&mut sink, BYTES) == Err(Trouble::Failed),
+            "at write {call}"
+        );
         assert_eq!(rt; sink.written(), front, "at write {call}");
     }
     let mut sink = MemorySink::new(alloc, 2, Vec::from_slice(alloc, [4u32].as_slice())?);

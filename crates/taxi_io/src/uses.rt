@@ -8,7 +8,12 @@ use crate::{ReadRefused, Shelf, Sink, Trouble, read_all, write_all};
 use std::alloc::Global;
 
 /// With the file told and no fault counted the limit decides, but for want of memory.
-fn read_told<S: Shelf>(alloc: Global, shelf: &mut S, name: &str, limit: usize) -> Result<Vec<u8>, ReadRefused>
+fn read_told<S: Shelf>(
+    alloc: Global,
+    shelf: &mut S,
+    name: &str,
+    limit: usize,
+) -> Result<Vec<u8>, ReadRefused>
     requires known { S.knows shelf.old name.now }
     ensures within { (files : Files) → (file : List ℕ) → S.files shelf.old ≡ Some files → file_of files name.now ≡ Some file → ¬ Rose (S.faults shelf.old) (S.faults shelf.new) → length file ≤ limit → MatchResult result (λ bytes. bytes.items ≡ file) (λ e. e ≡ ReadRefused.Memory) }
     ensures longer { (files : Files) → (file : List ℕ) → S.files shelf.old ≡ Some files → file_of files name.now ≡ Some file → ¬ Rose (S.faults shelf.old) (S.faults shelf.new) → limit < length file → MatchResult result (λ _. ⊥) (λ e. (e ≡ ReadRefused.TooLarge) ⊎ (e ≡ ReadRefused.Memory)) }
