@@ -1,8 +1,8 @@
 -- A file in memory, by its name and by its number.
-use Rattle.std.proofs.Common.{◌≡◌, ◌-◌, ◌<◌, ◌∷◌, ◌∙◌, [], ℕ, zero, suc, List, Option, Some, None, IsSome, option_map, min, refl, ap, length, map, drop, take, slice_get, arith, true, false, nat_eq}
+use Rattle.std.proofs.Common.{◌≡◌, ◌-◌, ◌<◌, ◌∷◌, ◌∙◌, [], ℕ, zero, suc, List, Some, IsSome, option_map, min, refl, ap, length, map, drop, take, slice_get, arith, true, nat_eq}
 use Rattle.std.proofs.lemmas.List.{drop_min, take_all, length-drop}
 use lib.Pointwise.{pointwise}
-use Rattle.taxi_io.specs.Files.{Files, file_of}
+use Rattle.taxi_io.specs.Files.{file_of}
 
 -- the file at i has the name, and is the first of the files from i on
 pub file_of-drop : {X : Type 0} (t : X → List ℕ × List ℕ) (xs : List X) (i : ℕ) (name : List ℕ) (x : X) → slice_get xs i ≡ Some x → pointwise nat_eq (t x).0 name ≡ true

@@ -1,5 +1,5 @@
 -- What are the files of a shelf, where it tells them, and what is left of the one that is begun?
-use Rattle.std.specs.Prelude.{◌≡◌, ◌↔◌, ℕ, List, [], ◌∷◌, Option, Some, None, nat_eq, if◌then◌else◌}
+use Rattle.std.specs.Prelude.{◌≡◌, ◌<◌, ◌↔◌, ℕ, List, length, [], ◌∷◌, Option, Some, None, nat_eq, if◌then◌else◌}
 use lib.Pointwise.{pointwise}
 use Rattle.std.specs.Io.KnownBytes.{prepend_known}
 
@@ -16,6 +16,10 @@ file_of (f ∷ fs) name = if pointwise nat_eq f.0 name then Some f.1 else file_o
 abbrev pub IsFile : Option Files → List ℕ → List ℕ → Type 0
 IsFile None name bytes = Unit {0}
 IsFile (Some files) name bytes = file_of files name ≡ Some bytes
+
+-- where the files are told, the file of this name has more bytes than the limit
+abbrev pub IsLonger : Option Files → List ℕ → ℕ → Type 0
+IsLonger told name limit = (bytes : List ℕ) × IsFile told name bytes × (limit < length bytes)
 
 -- where the files are told, there is a file of this name, and it is left whole; else nothing is told of what is left
 abbrev pub Begins : Option Files → List ℕ → Option (List ℕ) → Type 0

@@ -34,7 +34,14 @@ impl Model for MemoryShelf {
 
     ghost use Rattle.taxi_io.specs.HeldFiles.{files_of, left_of};
 
-    ghost view = { λ s. record { files = files_of s.files.items; piece = s.piece; failing = s.plan.failing.items; calls = s.plan.calls; faults = s.plan.faults; rest = left_of s.files.items s.begun } };
+    ghost view = { λ s. record {
+      files = files_of s.files.items;
+      piece = s.piece;
+      failing = s.plan.failing.items;
+      calls = s.plan.calls;
+      faults = s.plan.faults;
+      rest = left_of s.files.items s.begun;
+    } };
 
     ghost invariant = { λ s. 1 ≤ s.piece };
 }
@@ -44,7 +51,14 @@ impl MemoryShelf {
     /// together from 1, and those in `failing` will fail.
     pub fn new(files: Vec<(String, Vec<u8>)>, piece: usize, failing: Vec<u32>) -> MemoryShelf
         requires { 1 ≤ piece }
-        ensures { result ≡ record { files = files_of files.items; piece = piece; failing = failing.items; calls = 0; faults = 0; rest = None } }
+        ensures { result ≡ record {
+          files = files_of files.items;
+          piece = piece;
+          failing = failing.items;
+          calls = 0;
+          faults = 0;
+          rest = None;
+        } }
     {
         MemoryShelf {
             files,
@@ -57,7 +71,8 @@ impl MemoryShelf {
 
 // The number of the first file of this name.
 fn find_file(files: &[(String, Vec<u8>)], name: &str) -> Option<usize>
-    ensures found { IfSome result (λ i. (i < length files.now) × (file_of (files_of files.now) name.now ≡ option_map (λ f. f.1.items) (slice_get files.now i))) }
+    ensures found { IfSome result (λ i. (i < length files.now)
+        × (file_of (files_of files.now) name.now ≡ option_map (λ f. f.1.items) (slice_get files.now i))) }
     ensures none { IfNone result (file_of (files_of files.now) name.now ≡ None) }
 {
     for (i, file) in files.iter().enumerate() {
@@ -126,11 +141,13 @@ impl Shelf for MemoryShelf {
     fn read(&mut self, buffer: &mut [u8]) -> Result<usize, Trouble>
         requires begun { IsTrue (is_some self.old.rest) }
         requires room { 0 < length buffer.old }
-        ensures count { IfOk result (λ n. n ≡ min self.old.piece (min (length buffer.old) (length (bytes_left self.old)))) }
+        ensures count { IfOk result (λ n.
+            n ≡ min self.old.piece (min (length buffer.old) (length (bytes_left self.old)))) }
         ensures some { IfOk result (λ n. n ≡ 0 → bytes_left self.old ≡ []) }
         ensures bytes { IfOk result (λ n. buffer.new ≡ take n (bytes_left self.old) ++ drop n buffer.old) }
         ensures ok { IfOk result (λ n. self.new ≡ after_read self.old (drop n (bytes_left self.old))) }
-        ensures refused { OnErr result ((self.new ≡ after_read self.old (bytes_left self.old)) × (buffer.new ≡ buffer.old)) }
+        ensures refused { OnErr result (self.new ≡ after_read self.old (bytes_left self.old)) }
+        ensures untouched { OnErr result (buffer.new ≡ buffer.old) }
         ensures listed { IsErrOf result Trouble.Failed ↔ IsTrue (fails_next self.old) }
         ensures failed { IsOkUnless result Trouble.Failed }
         ensures later { self.old.faults ≤ self.new.faults }

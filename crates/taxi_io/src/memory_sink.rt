@@ -22,7 +22,13 @@ impl Model for MemorySink {
 
     ghost Value = { SinkInMemory };
 
-    ghost view = { λ s. record { written = s.written.items; piece = s.piece; failing = s.plan.failing.items; calls = s.plan.calls; faults = s.plan.faults } };
+    ghost view = { λ s. record {
+      written = s.written.items;
+      piece = s.piece;
+      failing = s.plan.failing.items;
+      calls = s.plan.calls;
+      faults = s.plan.faults;
+    } };
 
     ghost invariant = { λ s. 1 ≤ s.piece };
 }
@@ -31,7 +37,13 @@ impl MemorySink {
     /// A sink that has taken nothing. The writes whose numbers, from 1, are in `failing` will fail.
     pub fn new(alloc: Global, piece: usize, failing: Vec<u32>) -> MemorySink
         requires { 1 ≤ piece }
-        ensures { result ≡ record { written = []; piece = piece; failing = failing.items; calls = 0; faults = 0 } }
+        ensures { result ≡ record {
+          written = [];
+          piece = piece;
+          failing = failing.items;
+          calls = 0;
+          faults = 0;
+        } }
     {
         MemorySink {
             written: Vec::new(alloc),

@@ -1,8 +1,8 @@
 //! Reading a file whole.
-ghost use Rattle.std.specs.Prelude.{◌≡◌, ◌<◌, ◌≤◌, ℕ, List, length, IfOk, OnOk, IsErrOf};
+ghost use Rattle.std.specs.Prelude.{◌≡◌, ◌≤◌, length, IfOk, OnOk, IsErrOf};
 ghost use Rattle.std.specs.Io.KnownBytes.{IsAtEnd};
 ghost use Rattle.taxi_io.specs.Counts.{Rose};
-ghost use Rattle.taxi_io.specs.Files.{IsFile, SameNames};
+ghost use Rattle.taxi_io.specs.Files.{IsFile, IsLonger, SameNames};
 
 use crate::shelf::Shelf;
 use crate::trouble::ReadRefused;
@@ -19,11 +19,16 @@ pub fn read_all<S: Shelf>(
     limit: usize,
 ) -> Result<Vec<u8>, ReadRefused>
     requires known { S.knows shelf.old name.now }
+
+    // So a file that is told and longer than the limit is never Ok.
     ensures whole { IfOk result (λ bytes. IsFile (S.files shelf.old) name.now bytes.items) }
     ensures within { IfOk result (λ bytes. length bytes.items ≤ limit) }
     ensures lost { OnOk result (IsAtEnd (S.rest shelf.new)) }
-    ensures too_large { IsErrOf result ReadRefused.TooLarge → (bytes : List ℕ) × IsFile (S.files shelf.old) name.now bytes × (limit < length bytes) }
+
+    // So a file that is told and within the limit is never too large.
+    ensures too_large { IsErrOf result ReadRefused.TooLarge → IsLonger (S.files shelf.old) name.now limit }
     ensures fault { IsErrOf result ReadRefused.Fault → Rose (S.faults shelf.old) (S.faults shelf.new) }
+
     ensures later { S.faults shelf.old ≤ S.faults shelf.new }
     ensures files { S.files shelf.new ≡ S.files shelf.old }
     ensures names { SameNames (S.knows shelf.old) (S.knows shelf.new) }

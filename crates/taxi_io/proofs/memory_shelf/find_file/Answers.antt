@@ -1,4 +1,4 @@
-use Rattle.std.proofs.Common.{◌≡◌, ◌∙◌, sym, ap, refl, option_map, string_bytes, String, Vec, ℕ, List, length, nat_eq}
+use Rattle.std.proofs.Common.{◌∙◌, sym, ap, refl, option_map, string_bytes, String, Vec, ℕ, List, length, nat_eq}
 use Rattle.std.proofs.lemmas.Option.{slice_get_read}
 use Rattle.std.specs.Global.{Global}
 use lib.Pointwise.{pointwise}

@@ -1,4 +1,4 @@
-use Rattle.std.proofs.Common.{◌≡◌, ◌∙◌, sym, ap, refl, option_map, String, Vec, ℕ, List, Some, drop, length}
+use Rattle.std.proofs.Common.{◌∙◌, sym, ap, refl, option_map, String, Vec, ℕ, List, Some, drop, length}
 use Rattle.std.proofs.lemmas.Option.{slice_get_read}
 use Rattle.std.specs.Global.{Global}
 use Rattle.taxi_io.proofs.HeldFiles.{slice_get-within, drop-slice}
