@@ -1,0 +1,12 @@
+use Rattle.std.proofs.Common.{◌≡◌, ◌≤◌, ◌++◌, ℕ, List, length}
+use Rattle.taxi_io.specs.Written.{Grew}
+use Rattle.taxi_io.proofs.writing.write_all.Given as goal
+
+-- what was written and what is left make the piece
+abbrev pub invariant-loop-rest : goal.invariant-loop-rest
+invariant-loop-rest g l =
+    let k = g.K.Sink in
+    (done : List ℕ) × (done ++ l.rest ≡ l.fn.piece) × Grew (k.written l.fn.sink) (k.written l.sink) done × (k.faults l.fn.sink ≤ k.faults l.sink)
+
+abbrev pub decreases-loop-rest : goal.decreases-loop-rest
+decreases-loop-rest g l = length l.rest

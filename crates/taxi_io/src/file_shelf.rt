@@ -1,0 +1,115 @@
+//! The machine's files, and standard input under the name `-`. Nothing is told of their bytes.
+ghost use Rattle.std.specs.Prelude.{◌≡◌, ◌≤◌, ◌<◌, length, false, is_ok, is_err, IfOk, IsTrue};
+ghost use Rattle.taxi_io.specs.Calls.{faults_after};
+ghost use Rattle.taxi_io.specs.Counts.{next_count};
+
+use crate::shelf::Shelf;
+use crate::trouble::Trouble;
+use std::io::Read;
+use std::marker::Model;
+use std::rt::Files;
+use std::{fs, io};
+
+/// The name that stands for standard input.
+const STANDARD_INPUT: &str = "-";
+
+// Where the begun file's bytes come from.
+#[derive(Drop)]
+enum Source<F, I> {
+    Nothing,
+    Opened(F),
+    StandardInput(I),
+}
+
+/// Files of the machine by their paths; the name `-` is standard input.
+/// Each call that fails counts as a fault, one for want of memory among them.
+#[derive(Drop)]
+pub struct FileShelf<'a, R: Files + Input> {
+    rt: &'a R,
+    source: Source<R::File, R::Reader>,
+    faults: u64,
+}
+
+impl<'a, R: Files + Input> Model for FileShelf<'a, R> {
+    ghost use Rattle.taxi_io.specs.ShelfOfMachine.{ShelfOfMachine};
+
+    ghost Value = { ShelfOfMachine };
+
+    ghost use Rattle.taxi_io.specs.ShelfOfMachine.{is_begun};
+
+    ghost view = { λ s. record { begun = is_begun s.source; faults = s.faults } };
+}
+
+impl<'a, R: Files + Input> FileShelf<'a, R> {
+    /// A shelf with nothing begun.
+    pub fn new(rt: &'a R) -> FileShelf<'a, R>
+        ensures { result ≡ record { begun = false; faults = 0 } }
+    {
+        FileShelf {
+            rt,
+            source: Source::Nothing,
+            faults: 0,
+        }
+    }
+
+    // Counts an error, and says what it is.
+    fn fail(&mut self, error: io::Error) -> Trouble
+        ensures begun { self.new.begun ≡ self.old.begun }
+        ensures faults { self.new.faults ≡ next_count self.old.faults }
+        ensures later { self.old.faults ≤ self.new.faults }
+    {
+        self.faults = self.faults.saturating_add(1);
+        Trouble::from(error)
+    }
+}
+
+impl<'a, R: Files + Input> Shelf for FileShelf<'a, R> {
+    ghost use Rattle.std.specs.Prelude.{None};
+
+    ghost files = { λ s. None };
+
+    ghost begun = { λ s. s.begun };
+
+    ghost rest = { λ s. None };
+
+    ghost faults = { λ s. s.faults };
+
+    ghost knows = { λ s name. Unit {0} };
+
+    fn begin(&mut self, name: &str) -> Result<(), Trouble>
+        ensures begun { self.new.begun ≡ is_ok result }
+        ensures faults { self.new.faults ≡ faults_after (is_err result) self.old.faults }
+        ensures later { self.old.faults ≤ self.new.faults }
+    {
+        self.source = Source::Nothing;
+        if name == STANDARD_INPUT {
+            self.source = Source::StandardInput(self.rt.reader());
+            return Ok(());
+        }
+        match fs::open(self.rt, name) {
+            Ok(file) => {
+                self.source = Source::Opened(file);
+                Ok(())
+            }
+            Err(error) => Err(self.fail(error)),
+        }
+    }
+
+    fn read(&mut self, buffer: &mut [u8]) -> Result<usize, Trouble>
+        requires begun { IsTrue self.old.begun }
+        ensures bound { IfOk result (λ n. n ≤ length buffer.new) }
+        ensures begun { IsTrue self.new.begun }
+        ensures faults { self.new.faults ≡ faults_after (is_err result) self.old.faults }
+        ensures later { self.old.faults ≤ self.new.faults }
+    {
+        let outcome = match &mut self.source {
+            Source::Nothing => unreachable!(),
+            Source::Opened(file) => file.read(buffer),
+            Source::StandardInput(input) => input.read(buffer),
+        };
+        match outcome {
+            Ok(count) => Ok(count),
+            Err(error) => Err(self.fail(error)),
+        }
+    }
+}

@@ -1,0 +1,97 @@
+//! Files and output that fail at each of their calls in turn, with answers found by hand.
+ghost use Rattle.std.specs.Prelude.{◌≤◌};
+
+use super::*;
+use std::alloc::{AllocError, Global};
+use std::process::Abort;
+use std::test::Fail;
+
+const NODES: &str = "nodes.csv";
+
+const BYTES: &[u8] = b"N1,N2";
+
+// A shelf of one file of five bytes and one that is empty.
+fn small_shelf(alloc: Global, piece: usize, failing: &[u32]) -> Result<MemoryShelf, AllocError>
+    requires { 1 ≤ piece }
+{
+    let mut files = Vec::new(alloc);
+    let nodes = Vec::from_slice(alloc, BYTES)?;
+    files.push((String::from_str(alloc, NODES)?, nodes))?;
+    files.push((String::from_str(alloc, "empty.csv")?, Vec::new(alloc)))?;
+    Ok(MemoryShelf::new(files, piece, Vec::from_slice(alloc, failing)?))
+}
+
+#[test]
+fn each_read_failing_in_turn(rt: HostRuntime) -> Result<(), Fail> {
+    let alloc = rt.alloc();
+    // Pieces of two bytes: call 1 begins, 2 to 4 give the bytes, and 5 is the end.
+    for call in [1u32, 2, 3, 4, 5] {
+        let mut shelf = small_shelf(alloc, 2, [call].as_slice())?;
+        let first = read_all(alloc, &mut shelf, NODES, 9);
+        assert!(rt; first == Err(ReadRefused::Fault), "at call {call}");
+        let again = read_all(alloc, &mut shelf, NODES, 9)?;
+        assert_eq!(rt; again.as_slice(), BYTES, "after call {call}");
+    }
+    let mut shelf = small_shelf(alloc, 2, [6u32].as_slice())?;
+    assert_eq!(rt; read_all(alloc, &mut shelf, NODES, 9)?.as_slice(), BYTES);
+    Ok(())
+}
+
+// Reads the two files of the shelf at limits on both sides of their lengths.
+fn read_at_limits<R: Abort>(rt: &R, alloc: Global, shelf: &mut MemoryShelf) -> Result<(), Fail> {
+    for limit in [5usize, 6, 5000] {
+        let whole = read_all(alloc, shelf, NODES, limit)?;
+        assert_eq!(rt; whole.as_slice(), BYTES, "at limit {limit}");
+    }
+    for limit in [0usize, 1, 4] {
+        let longer = read_all(alloc, shelf, NODES, limit);
+        assert!(rt; longer == Err(ReadRefused::TooLarge), "at limit {limit}");
+    }
+    assert!(rt; read_all(alloc, shelf, "empty.csv", 0)?.is_empty());
+    assert!(rt; read_all(alloc, shelf, "nodes.cs", 9) == Err(ReadRefused::Fault));
+    Ok(())
+}
+
+#[test]
+fn limits_in_pieces_of_one_two_and_all_bytes(rt: HostRuntime) -> Result<(), Fail> {
+    let alloc = rt.alloc();
+    read_at_limits(&rt, alloc, &mut small_shelf(alloc, 1, [].as_slice())?)?;
+    read_at_limits(&rt, alloc, &mut small_shelf(alloc, 2, [].as_slice())?)?;
+    read_at_limits(&rt, alloc, &mut small_shelf(alloc, 4096, [].as_slice())?)
+}
+
+#[test]
+fn a_fault_before_the_excess(rt: HostRuntime) -> Result<(), Fail> {
+    let alloc = rt.alloc();
+    // With limit 4 the fourth call gives the fifth byte.
+    let mut early = small_shelf(alloc, 2, [4u32].as_slice())?;
+    assert!(rt; read_all(alloc, &mut early, NODES, 4) == Err(ReadRefused::Fault));
+    let mut late = small_shelf(alloc, 2, [5u32].as_slice())?;
+    assert!(rt; read_all(alloc, &mut late, NODES, 4) == Err(ReadRefused::TooLarge));
+    Ok(())
+}
+
+#[test]
+fn each_write_failing_in_turn(rt: HostRuntime) -> Result<(), Fail> {
+    let alloc = rt.alloc();
+    for (call, front) in [
+        (1u32, b"".as_slice()),
+        (2, b"N1".as_slice()),
+        (3, b"N1,N".as_slice()),
+    ] {
+        let mut sink = MemorySink::new(alloc, 2, Vec::from_slice(alloc, [call].as_slice())?);
+        assert!(rt;
+            write_all(&mut sink, BYTES) == Err(Trouble::Failed),
+            "at write {call}"
+        );
+        assert_eq!(rt; sink.written(), front, "at write {call}");
+    }
+    let mut sink = MemorySink::new(alloc, 2, Vec::from_slice(alloc, [4u32].as_slice())?);
+    write_all(&mut sink, BYTES)?;
+    assert_eq!(rt; sink.written(), BYTES);
+    write_all(&mut sink, b"")?;
+    assert!(rt; write_all(&mut sink, b"\n") == Err(Trouble::Failed));
+    write_all(&mut sink, b"\n")?;
+    assert_eq!(rt; sink.written(), b"N1,N2\n".as_slice());
+    Ok(())
+}
