@@ -85,8 +85,6 @@ impl LabelQueue {
     pub fn clear(&mut self)
         ensures { self.new ≡ replicate (length self.old) None }
     {
-        for key in self.keys.iter_mut() {
-            *key = None;
-        }
+        self.keys.as_mut_slice().fill(None);
     }
 }
