@@ -3,6 +3,7 @@
 //! Labels are numbers below a limit. A contract sees the key of each.
 #![tactic(auto)]
 
+mod heap;
 mod queue;
 
 pub use queue::LabelQueue;
