@@ -3,6 +3,8 @@ ghost use Rattle.std.specs.Prelude.{◌≡◌, ◌<◌, ◌↔◌, None, length,
 ghost use Rattle.label_queue.specs.Keys.{lowered, without, IsEmpty};
 ghost use Rattle.label_queue.specs.Least.{IsLeast};
 
+use crate::heap;
+use crate::heap::Entry;
 use std::alloc::Global;
 use std::marker::Model;
 use taxi_base::Memory;
@@ -10,7 +12,9 @@ use taxi_base::Memory;
 /// A map from labels to keys with its least. All its room is made at the start.
 #[derive(Drop)]
 pub struct LabelQueue {
-    keys: Vec<Option<u32>>,
+    heap: Vec<Entry>,
+    // By label: where its entry lies in the heap.
+    places: Vec<Option<usize>>,
 }
 
 impl Model for LabelQueue {
@@ -18,7 +22,13 @@ impl Model for LabelQueue {
 
     ghost Value = { List (Option ℕ) };
 
-    ghost view = { λ q. q.keys.items };
+    ghost use Rattle.std.specs.Prelude.{◌≤◌, length, vec_capacity};
+    ghost use Rattle.label_queue.specs.Places.{keys_of, IsIndexedHeap};
+
+    ghost view = { λ q. keys_of q.heap.items q.places.items };
+
+    ghost invariant = { λ q.
+        IsIndexedHeap q.heap.items q.places.items × (length q.places.items ≤ vec_capacity q.heap) };
 }
 
 impl LabelQueue {
@@ -26,19 +36,15 @@ impl LabelQueue {
     pub fn new(alloc: Global, limit: usize) -> Result<LabelQueue, Memory>
         ensures { IfOk result (λ q. q ≡ replicate limit None) }
     {
-        let keys = Vec::from_elem(alloc, None, limit)?;
-        Ok(LabelQueue { keys })
+        let heap = Vec::with_capacity(alloc, limit)?;
+        let places = Vec::from_elem(alloc, None, limit)?;
+        Ok(LabelQueue { heap, places })
     }
 
     pub fn is_empty(&self) -> bool
         ensures { IsTrue result ↔ IsEmpty self.now }
     {
-        for key in &self.keys {
-            if key.is_some() {
-                return false;
-            }
-        }
-        true
+        self.heap.is_empty()
     }
 
     /// Gives the label this key, or leaves it the lesser one that it has. No memory is taken.
@@ -47,12 +53,14 @@ impl LabelQueue {
         ensures ok { IsOk result }
         ensures lowered { self.new ≡ lowered self.old label key }
     {
-        let place = &mut self.keys[label];
-        let least = match *place {
-            Some(old) => old.min(key),
-            None => key,
-        };
-        *place = Some(least);
+        match self.places[label] {
+            None => heap::add(&mut self.heap, &mut self.places, Entry { key, label }),
+            Some(at) => {
+                if key < self.heap[at].key {
+                    heap::lower(&mut self.heap, &mut self.places, at, key);
+                }
+            }
+        }
         Ok(())
     }
 
@@ -63,28 +71,18 @@ impl LabelQueue {
         ensures least { IfSome result (λ pair. IsLeast self.old pair.0 pair.1) }
         ensures taken { IfSome result (λ pair. self.new ≡ without self.old pair.0) }
     {
-        let mut least: Option<(usize, u32)> = None;
-        for label in 0..self.keys.len() {
-            if let Some(key) = self.keys[label] {
-                let is_less = match least {
-                    Some((_, before)) => key < before,
-                    None => true,
-                };
-                if is_less {
-                    least = Some((label, key));
-                }
-            }
+        if self.heap.is_empty() {
+            return None;
         }
-        if let Some((label, _)) = least {
-            self.keys[label] = None;
-        }
-        least
+        let first = heap::take_first(&mut self.heap, &mut self.places);
+        Some((first.label, first.key))
     }
 
-    /// Empty again, with the same limit.
+    /// Empty again, with the same limit. It costs what the queue holds, and not the limit.
     pub fn clear(&mut self)
         ensures { self.new ≡ replicate (length self.old) None }
     {
-        self.keys.as_mut_slice().fill(None);
+        heap::forget(&self.heap, &mut self.places);
+        self.heap.clear();
     }
 }
