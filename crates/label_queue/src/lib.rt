@@ -5,5 +5,7 @@
 
 mod heap;
 mod queue;
+#[cfg(test)]
+mod tests;
 
 pub use queue::LabelQueue;
