@@ -79,7 +79,9 @@ fn agrees_with_a_look_at_every_label(rt: HostRuntime) -> Result<(), Fail> {
     let mut plain = PlainQueue::new();
     let mut seed: u64 = 20_261_127;
     for turn in 0..6000 {
-        seed = seed.wrapping_mul(6_364_136_223_846_793_005).wrapping_add(1_442_695_040_888_963_407);
+        seed = seed
+            .wrapping_mul(6_364_136_223_846_793_005)
+            .wrapping_add(1_442_695_040_888_963_407);
         let draw = seed >> 33;
         let label = (draw % 40) as usize;
         let key = (draw / 40 % 16) as u32;

@@ -1,4 +1,4 @@
-use Rattle.std.proofs.Common.{ap, ◌∙◌, ◌==◌, ◌≡◌, ℕ, length, arith, rules}
+use Rattle.std.proofs.Common.{ap, ◌∙◌, ◌==◌, ◌≡◌, ℕ, length, arith}
 use Rattle.label_queue.proofs.Changes.{IsEmpty-test}
 use Rattle.label_queue.proofs.queue.LabelQueue.is_empty.Goals as goal
 

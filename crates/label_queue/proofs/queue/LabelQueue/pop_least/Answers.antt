@@ -1,4 +1,4 @@
-use Rattle.std.proofs.Common.{ap, refl, sym, ◌∙◌, ◌==◌, ◌≡◌, ℕ, length, arith}
+use Rattle.std.proofs.Common.{refl, sym, ◌∙◌, ◌≡◌, length, arith}
 use Rattle.std.proofs.lemmas.Bool.{eqb-true}
 use Rattle.label_queue.proofs.Changes.{empty-keys}
 use Rattle.label_queue.proofs.queue.LabelQueue.pop_least.Goals as goal
