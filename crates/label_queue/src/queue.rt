@@ -32,7 +32,7 @@ impl Model for LabelQueue {
 }
 
 impl LabelQueue {
-    /// An empty queue for the labels below `limit`.
+    /// An empty queue for the labels below `limit`. `Memory` comes only where memory runs out.
     pub fn new(alloc: Global, limit: usize) -> Result<LabelQueue, Memory>
         ensures { IfOk result (λ q. q ≡ replicate limit None) }
     {
@@ -41,6 +41,7 @@ impl LabelQueue {
         Ok(LabelQueue { heap, places })
     }
 
+    /// Whether no label is in the queue.
     pub fn is_empty(&self) -> bool
         ensures { IsTrue result ↔ IsEmpty self.now }
     {
