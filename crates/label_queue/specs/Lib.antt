@@ -1,0 +1,4 @@
+pub mod Keys
+pub mod Least
+pub mod Heap
+pub mod Places

@@ -1,0 +1,11 @@
+//! A map from labels to keys with its least, in room that is made once.
+//!
+//! Labels are numbers below a limit. A contract sees the key of each.
+#![tactic(auto)]
+
+mod heap;
+mod queue;
+#[cfg(test)]
+mod tests;
+
+pub use queue::LabelQueue;

@@ -1,0 +1,89 @@
+//! The queue of labels.
+ghost use Rattle.std.specs.Prelude.{◌≡◌, ◌<◌, ◌↔◌, None, length, replicate, IfOk, IsOk, IsNone, IfSome, IfNone, IsTrue};
+ghost use Rattle.label_queue.specs.Keys.{lowered, without, IsEmpty};
+ghost use Rattle.label_queue.specs.Least.{IsLeast};
+
+use crate::heap;
+use crate::heap::Entry;
+use std::alloc::Global;
+use std::marker::Model;
+use taxi_base::Memory;
+
+/// A map from labels to keys with its least. All its room is made at the start.
+#[derive(Drop)]
+pub struct LabelQueue {
+    heap: Vec<Entry>,
+    // By label: where its entry lies in the heap.
+    places: Vec<Option<usize>>,
+}
+
+impl Model for LabelQueue {
+    ghost use Rattle.std.specs.Prelude.{List, Option, ℕ};
+
+    ghost Value = { List (Option ℕ) };
+
+    ghost use Rattle.std.specs.Prelude.{◌≤◌, length, vec_capacity};
+    ghost use Rattle.label_queue.specs.Places.{keys_of, IsIndexedHeap};
+
+    ghost view = { λ q. keys_of q.heap.items q.places.items };
+
+    ghost invariant = { λ q.
+        IsIndexedHeap q.heap.items q.places.items × (length q.places.items ≤ vec_capacity q.heap) };
+}
+
+impl LabelQueue {
+    /// An empty queue for the labels below `limit`. `Memory` comes only where memory runs out.
+    pub fn new(alloc: Global, limit: usize) -> Result<LabelQueue, Memory>
+        ensures { IfOk result (λ q. q ≡ replicate limit None) }
+    {
+        let heap = Vec::with_capacity(alloc, limit)?;
+        let places = Vec::from_elem(alloc, None, limit)?;
+        Ok(LabelQueue { heap, places })
+    }
+
+    /// Whether no label is in the queue.
+    pub fn is_empty(&self) -> bool
+        ensures { IsTrue result ↔ IsEmpty self.now }
+    {
+        self.heap.is_empty()
+    }
+
+    /// Gives the label this key, or leaves it the lesser one that it has. No memory is taken.
+    pub fn insert_or_lower(&mut self, label: usize, key: u32) -> Result<(), Memory>
+        requires { label < length self.old }
+        ensures ok { IsOk result }
+        ensures lowered { self.new ≡ lowered self.old label key }
+    {
+        match self.places[label] {
+            None => heap::add(&mut self.heap, &mut self.places, Entry { key, label }),
+            Some(at) => {
+                if key < self.heap[at].key {
+                    heap::lower(&mut self.heap, &mut self.places, at, key);
+                }
+            }
+        }
+        Ok(())
+    }
+
+    /// Takes out the label with the least key, at a tie the least label.
+    pub fn pop_least(&mut self) -> Option<(usize, u32)>
+        ensures none { IsNone result ↔ IsEmpty self.old }
+        ensures unchanged { IfNone result (self.new ≡ self.old) }
+        ensures least { IfSome result (λ pair. IsLeast self.old pair.0 pair.1) }
+        ensures taken { IfSome result (λ pair. self.new ≡ without self.old pair.0) }
+    {
+        if self.heap.is_empty() {
+            return None;
+        }
+        let first = heap::take_first(&mut self.heap, &mut self.places);
+        Some((first.label, first.key))
+    }
+
+    /// Empty again, with the same limit. It costs what the queue holds, and not the limit.
+    pub fn clear(&mut self)
+        ensures { self.new ≡ replicate (length self.old) None }
+    {
+        heap::forget(&self.heap, &mut self.places);
+        self.heap.clear();
+    }
+}
