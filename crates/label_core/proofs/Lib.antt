@@ -1,0 +1,16 @@
+pub mod AttainedValues
+pub mod Clearance
+pub mod ClosedTables
+pub mod ExactTables
+pub mod GroundWalks
+pub mod MirroredBest
+pub mod MirroredPicked
+pub mod MirroredTables
+pub mod MirroredWalks
+pub mod NoneSooner
+pub mod PickedValues
+pub mod PickedWalks
+pub mod RenamedCells
+pub mod SameNetwork
+pub mod SearchEnds
+pub mod SettledCells

@@ -1,0 +1,13 @@
+pub mod Walks
+pub mod Labels
+pub mod Tables
+pub mod Picked
+pub mod Best
+pub mod BackwardWalks
+pub mod BackwardLabels
+pub mod BackwardTables
+pub mod BackwardPicked
+pub mod Mirror
+pub mod Settling
+pub mod Ground
+pub mod BackwardBest

@@ -1,0 +1,6 @@
+mod Parts
+mod FirstLine
+pub mod Numbers
+mod Stored
+mod FiledSteps
+pub mod ArcWords

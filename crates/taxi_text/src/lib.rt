@@ -1,0 +1,23 @@
+//! The texts that the router reads and writes: lines, words, numbers and commands.
+#![tactic(auto)]
+
+mod command;
+mod fields;
+mod filed;
+mod laws;
+mod line;
+mod part;
+mod reader;
+mod texts;
+mod word;
+
+pub use command::{Command, CommandRefused, FiledStep};
+pub use fields::{read_arc_word, read_number};
+pub use laws::{arc_words_are_read_again, numbers_are_read_again};
+pub use line::{LineSlices, lines, skipped};
+pub use reader::read_command;
+pub use texts::{ShortText, push_bytes, push_number};
+pub use word::{WordSlices, words};
+
+#[cfg(test)]
+mod tests;

@@ -1,0 +1,201 @@
+//! From a line to its command.
+ghost use Rattle.std.specs.Prelude.{◌≡◌, ◌↔◌, ◌==◌, Some, None, IfOk, IsSomeAnd, length, drop};
+ghost use Rattle.taxi_text.specs.Commands.{command_of, IsFile, file_of, unfiled_of, asked_of, arrival_of, departure_of, cancel_of, reroute_of, divert_of, windows_of, occupancy_of, timetable_of, first_as, the_end};
+ghost use Rattle.taxi_text.specs.Fields.{name_of, number_of};
+ghost use Rattle.taxi_text.specs.Reading.{IsReading};
+ghost use Rattle.taxi_text.specs.Words.{words_left};
+
+use crate::command::{Command, CommandRefused};
+use crate::fields::read_number;
+use crate::filed::read_steps;
+use crate::word::{WordSlices, words};
+use std::alloc::Global;
+use taxi_base::{Name, Time};
+
+/// The one command of a line. A line that is not in the grammar is a `BadLine`; only a `file` command takes memory.
+#[tactic(auto, unfolding(crate::specs::Commands::command_of))]
+pub fn read_command(alloc: Global, line: &[u8]) -> Result<Command, CommandRefused>
+    ensures ok { IfOk result (λ command. command_of line.now ≡ Some command) }
+    ensures bad_line { (result ≡ Err CommandRefused.BadLine) ↔ (command_of line.now ≡ None) }
+    ensures memory { result ≡ Err CommandRefused.Memory → IsSomeAnd (command_of line.now) IsFile }
+{
+    let mut words = words(line);
+    let Some(verb) = words.next() else {
+        return Err(CommandRefused::BadLine);
+    };
+    if verb == b"file".as_slice() {
+        return read_file(alloc, &mut words);
+    }
+    match read_unfiled(verb, &mut words) {
+        Some(command) => Ok(command),
+        None => Err(CommandRefused::BadLine),
+    }
+}
+
+fn read_file(alloc: Global, words: &mut WordSlices<'_>) -> Result<Command, CommandRefused>
+    ensures { IsReading (file_of (words_left words.old)) result }
+{
+    let Some(flight) = next_name(words) else {
+        return Err(CommandRefused::BadLine);
+    };
+    let Some(class) = next_name(words) else {
+        return Err(CommandRefused::BadLine);
+    };
+    let Some(start) = next_number(words) else {
+        return Err(CommandRefused::BadLine);
+    };
+    let steps = read_steps(alloc, words)?;
+    Ok(Command::File {
+        flight,
+        class,
+        start,
+        steps,
+    })
+}
+
+fn read_unfiled(verb: &[u8], words: &mut WordSlices<'_>) -> Option<Command>
+    ensures { result ≡ unfiled_of verb.now (words_left words.old) }
+{
+    if verb == b"arrival".as_slice() {
+        read_arrival(words)
+    } else if verb == b"departure".as_slice() {
+        read_departure(words)
+    } else if verb == b"cancel".as_slice() {
+        read_cancel(words)
+    } else if verb == b"reroute".as_slice() {
+        read_reroute(words)
+    } else if verb == b"divert".as_slice() {
+        read_divert(words)
+    } else if verb == b"windows".as_slice() {
+        read_windows(words)
+    } else if verb == b"occupancy".as_slice() {
+        read_occupancy(words)
+    } else if verb == b"timetable".as_slice() {
+        at_end(words, Command::Timetable)
+    } else {
+        None
+    }
+}
+
+// What an arrival or a departure asks for, with its hold or its queue as slack.
+#[derive(Clone, Copy)]
+struct Asked {
+    flight: Name,
+    class: Name,
+    from: Name,
+    to: Name,
+    time: Time,
+    slack: Time,
+}
+
+fn read_asked(words: &mut WordSlices<'_>) -> Option<Asked>
+    ensures { result ≡ asked_of (words_left words.old) }
+{
+    let flight = next_name(words)?;
+    let class = next_name(words)?;
+    let from = next_name(words)?;
+    let to = next_name(words)?;
+    let time = next_number(words)?;
+    let slack = next_number(words)?;
+    let asked = Asked {
+        flight,
+        class,
+        from,
+        to,
+        time,
+        slack,
+    };
+    at_end(words, asked)
+}
+
+fn read_arrival(words: &mut WordSlices<'_>) -> Option<Command>
+    ensures { result ≡ arrival_of (words_left words.old) }
+{
+    let asked = read_asked(words)?;
+    Some(Command::Arrival {
+        flight: asked.flight,
+        class: asked.class,
+        from: asked.from,
+        to: asked.to,
+        time: asked.time,
+        hold: asked.slack,
+    })
+}
+
+fn read_departure(words: &mut WordSlices<'_>) -> Option<Command>
+    ensures { result ≡ departure_of (words_left words.old) }
+{
+    let asked = read_asked(words)?;
+    Some(Command::Departure {
+        flight: asked.flight,
+        class: asked.class,
+        from: asked.from,
+        to: asked.to,
+        time: asked.time,
+        queue: asked.slack,
+    })
+}
+
+fn read_cancel(words: &mut WordSlices<'_>) -> Option<Command>
+    ensures { result ≡ cancel_of (words_left words.old) }
+{
+    let flight = next_name(words)?;
+    at_end(words, Command::Cancel { flight })
+}
+
+fn read_reroute(words: &mut WordSlices<'_>) -> Option<Command>
+    ensures { result ≡ reroute_of (words_left words.old) }
+{
+    let flight = next_name(words)?;
+    let time = next_number(words)?;
+    at_end(words, Command::Reroute { flight, time })
+}
+
+fn read_divert(words: &mut WordSlices<'_>) -> Option<Command>
+    ensures { result ≡ divert_of (words_left words.old) }
+{
+    let flight = next_name(words)?;
+    let time = next_number(words)?;
+    let node = next_name(words)?;
+    at_end(words, Command::Divert { flight, time, node })
+}
+
+fn read_windows(words: &mut WordSlices<'_>) -> Option<Command>
+    ensures { result ≡ windows_of (words_left words.old) }
+{
+    let segment = next_name(words)?;
+    at_end(words, Command::Windows { segment })
+}
+
+fn read_occupancy(words: &mut WordSlices<'_>) -> Option<Command>
+    ensures { result ≡ occupancy_of (words_left words.old) }
+{
+    let segment = next_name(words)?;
+    at_end(words, Command::Occupancy { segment })
+}
+
+fn next_name(words: &mut WordSlices<'_>) -> Option<Name>
+    ensures value { result ≡ first_as name_of (words_left words.old) }
+    ensures rest { words_left words.new ≡ drop 1 (words_left words.old) }
+{
+    let word = words.next()?;
+    Name::read(word)
+}
+
+fn next_number(words: &mut WordSlices<'_>) -> Option<Time>
+    ensures value { result ≡ first_as number_of (words_left words.old) }
+    ensures rest { words_left words.new ≡ drop 1 (words_left words.old) }
+{
+    let word = words.next()?;
+    read_number(word)
+}
+
+// The value, where no further word comes.
+fn at_end<T: Drop>(words: &mut WordSlices<'_>, value: T) -> Option<T>
+    ensures { result ≡ the_end value (words_left words.old) }
+{
+    match words.next() {
+        None => Some(value),
+        Some(_) => None,
+    }
+}

@@ -1,0 +1,141 @@
+use super::*;
+use std::test::*;
+use taxi_base::{List, Memory, Name};
+
+#[test]
+fn lines_and_words_are_cut(rt: HostRuntime) -> Result<(), Fail> {
+    let mut cut = lines(b"cancel F1\r\n\n#x\r\r\nlast\r");
+    assert_eq!(rt; cut.next(), Some(b"cancel F1".as_slice()));
+    assert_eq!(rt; cut.next(), Some(b"".as_slice()));
+    assert_eq!(rt; cut.next(), Some(b"#x\r".as_slice()));
+    assert_eq!(rt; cut.next(), Some(b"last".as_slice()));
+    assert!(rt; cut.next().is_none());
+    assert!(rt; lines(b"").next().is_none());
+    assert!(rt; skipped(b"") && skipped(b" \t") && skipped(b"#"));
+    assert!(rt; !skipped(b" #") && !skipped(b"timetable"));
+    let mut cut = words(b"cancel  F1");
+    assert_eq!(rt; cut.next(), Some(b"cancel".as_slice()));
+    assert_eq!(rt; cut.next(), Some(b"".as_slice()));
+    assert_eq!(rt; cut.next(), Some(b"F1".as_slice()));
+    assert!(rt; cut.next().is_none());
+    Ok(())
+}
+
+#[test]
+fn numbers_arcs_and_texts(rt: HostRuntime) -> Result<(), Fail> {
+    assert_eq!(rt; read_number(b"0604800"), Some(604_800));
+    assert_eq!(rt; read_number(b"9999999"), Some(9_999_999));
+    assert!(rt;
+        read_number(b"00000007").is_none()
+            && read_number(b"").is_none()
+            && read_number(b"+1").is_none()
+    );
+    let (segment, forward) = read_arc_word(b"A--").ok_or("A- backward")?;
+    assert!(rt; !forward);
+    assert_eq!(rt; segment.bytes(), b"A-".as_slice());
+    assert!(rt; read_arc_word(b"+").is_none() && read_arc_word(b"A").is_none());
+    let mut out = Vec::new(rt.alloc());
+    push_bytes(&mut out, b"done ")?;
+    push_number(&mut out, 0)?;
+    push_number(&mut out, 604_800)?;
+    assert_eq!(rt; out.as_slice(), b"done 0604800".as_slice());
+    let mut text = ShortText::new();
+    text.push(b"bad-");
+    text.push(b"line");
+    assert_eq!(rt; text.bytes(), b"bad-line".as_slice());
+    Ok(())
+}
+
+#[test]
+fn each_form_of_command(rt: HostRuntime) -> Result<(), Fail> {
+    let alloc = rt.alloc();
+    match read_command(alloc, b"file F1 M 007 A+ 30 B-- 60")? {
+        Command::File {
+            flight,
+            class,
+            start,
+            steps,
+        } => {
+            assert_eq!(rt; flight.bytes(), b"F1".as_slice());
+            assert_eq!(rt; class.bytes(), b"M".as_slice());
+            assert_eq!(rt; start, 7);
+            assert_eq!(rt; steps.as_slice().len(), 2);
+            for step in steps.as_slice() {
+                assert!(rt; step.leave == if step.forward { 30 } else { 60 });
+            }
+        }
+        _ => return Err(Fail::from("a file command")),
+    }
+    assert!(rt;
+        matches!(
+            read_command(alloc, b"arrival F1 M R S1 0 600")?,
+            Command::Arrival {
+                time: 0,
+                hold: 600,
+                ..
+            }
+        )
+    );
+    assert!(rt;
+        matches!(
+            read_command(alloc, b"departure F1 M S1 R 900 60")?,
+            Command::Departure {
+                time: 900,
+                queue: 60,
+                ..
+            }
+        )
+    );
+    assert!(rt; matches!(read_command(alloc, b"cancel F1")?, Command::Cancel { .. }));
+    assert!(rt;
+        matches!(
+            read_command(alloc, b"reroute F1 12")?,
+            Command::Reroute { time: 12, .. }
+        )
+    );
+    assert!(rt;
+        matches!(
+            read_command(alloc, b"divert F1 12 S2")?,
+            Command::Divert { time: 12, .. }
+        )
+    );
+    assert!(rt; matches!(read_command(alloc, b"windows A")?, Command::Windows { .. }));
+    assert!(rt;
+        matches!(
+            read_command(alloc, b"occupancy A")?,
+            Command::Occupancy { .. }
+        )
+    );
+    assert!(rt; matches!(read_command(alloc, b"timetable")?, Command::Timetable));
+    Ok(())
+}
+
+#[test]
+fn bad_lines(rt: HostRuntime) -> Result<(), Fail> {
+    let alloc = rt.alloc();
+    let refused: [&[u8]; 12] = [
+        b"",
+        b"cancel",
+        b"cancel  F1",
+        b"cancel F1 ",
+        b" cancel F1",
+        b"cancel F*",
+        b"cancel F\xff",
+        b"Cancel F1",
+        b"timetable now",
+        b"reroute F1 00000001",
+        b"file F1 M 0",
+        b"file F1 M 0 A+ 30 B+",
+    ];
+    for line in refused {
+        assert!(rt; matches!(read_command(alloc, line), Err(CommandRefused::BadLine)));
+    }
+    let mut line = Vec::from_slice(alloc, b"file F1 M 0")?;
+    for _ in 0..256 {
+        push_bytes(&mut line, b" A+ 1")?;
+    }
+    assert!(rt; matches!(read_command(alloc, &line), Ok(Command::File { .. })));
+    push_bytes(&mut line, b" A+ 1")?;
+    assert!(rt; matches!(read_command(alloc, &line), Err(CommandRefused::BadLine)));
+    Ok(())
+}
