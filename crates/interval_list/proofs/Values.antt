@@ -1,0 +1,59 @@
+-- The machine values of a place and of the owner of a chain's nodes. Assumes `Logic`.
+use Rattle.std.proofs.Common.{◌≡◌, List, [], ◌∷◌, ◌++◌, T, lit<, refl, subst}
+use seplogic.Ra.Ura.{Ura}
+use mir.Syntax.{ty_ptr}
+use mir.Val.{Val, vstruct, vcons, vnil, of_list, has_ty, WT}
+use types.Logic.{Logic}
+use types.Kit.{Item, Goal, Seq, Step, step, ‵, ◌$◌, drop, fsplit, fjoin, fpick, fpack, feq_i, feq_l}
+use denote.RattleType.{RattleType, Valss}
+use denote.Builtin.{RawPtr}
+use denote.Memory.{lone}
+use denote.RawPtr.{Ptr, block_ptr, null_ptr, ptr_val}
+use denote.Steps.{nothing}
+use denote.Struct.Struct.{within}
+use denote.Struct.Owning.{shape}
+use Rattle.std.specs.contracts.alloc.Global as global
+use Rattle.std.specs.contracts.impls.GlobalAllocator.TheImpl.{ghosts}
+use Rattle.interval_list.specs.contracts.node.Node as node
+use Rattle.interval_list.specs.contracts.node.Place as place
+use Rattle.interval_list.specs.contracts.nodes.Nodes as nodes
+use Rattle.interval_list.specs.contracts.loose.Loose as loose
+use Rattle.interval_list.specs.Ownership.{nodes_own}
+
+abbrev pub N : RattleType
+N = nodes.the_row
+
+abbrev pub P : RattleType
+P = place.the_row
+
+-- a node as its pointer
+abbrev pub L : RattleType
+L = loose.the_row node.the_row global.the_row ghosts
+
+abbrev pub word : Ptr → Val
+word p = vstruct (vcons (ptr_val p) vnil)
+
+abbrev pub no_word : Val
+no_word = vstruct vnil
+
+pub ptr_good : (p : Ptr) → T (has_ty ty_ptr (ptr_val p)) × WT (ptr_val p)
+ptr_good (block_ptr b o) = (tt, tt)
+ptr_good null_ptr = (tt, record { fits = lit< tt })
+
+pub word_good : (p : Ptr) → T (has_ty (lone P.mir) (word p)) × WT (word p)
+word_good (block_ptr b o) = (tt, (tt, tt))
+word_good null_ptr = (tt, (record { fits = lit< tt }, tt))
+
+module _ {M : Type 1} {𝓤 : Ura M} {𝓛 : Logic 𝓤} {K : Type 0} {Γ : List (Item 𝓤)} {G : Goal 𝓤 𝓛.H} where
+  pub place_had : K → (p : Ptr) (vs : List Val) → (vs ≡ word p ∷ [] → Seq K 𝓛 Γ G) → Seq K 𝓛 (‵ (P.own_val (record { at = p }) vs) ∷ Γ) G
+  place_had t p vs k = fpick t (λ vss. fsplit t $ feq_l t (λ ev. fsplit t $ feq_l t (λ e. drop t $ k (subst (λ (ws : List Val). vs ≡ vstruct (of_list (ws ++ [])) ∷ []) e ev))))
+
+  pub place_made : K → (p : Ptr) → Step K 𝓛 (‵ (P.own_val (record { at = p }) (word p ∷ [])) ∷ Γ) G Γ G
+  place_made t p = step (λ s.
+      nothing t $ feq_i t (List Val) (ptr_val p ∷ []) (ptr_val p ∷ []) refl $ fjoin t $ feq_i t (List Val) (word p ∷ []) (word p ∷ []) refl $ fjoin t $
+      fpack t (Valss (RawPtr ∷ [])) (within (record { name = []; args = []; types = []; fields = RawPtr ∷ [] }) (p, tt) (word p ∷ [])) (ptr_val p ∷ [], tt) $ s)
+
+  pub nodes_made : K → (d : N.Denot) → Step K 𝓛 (‵ (N.own_val d (no_word ∷ [])) ∷ Γ) G (‵ (nodes_own d.cells) ∷ Γ) G
+  nodes_made t d = step (λ s.
+      nothing t $ feq_i t (List Val) (no_word ∷ []) (no_word ∷ []) refl $ fjoin t $
+      fpack t (Valss []) (within (shape nodes.the_type) tt (no_word ∷ [])) tt $ fjoin t $ s)

@@ -1,0 +1,5 @@
+pub mod Cells
+pub mod Edits
+pub mod Intervals
+pub mod Ownership
+pub mod Steps

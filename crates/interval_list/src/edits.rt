@@ -1,0 +1,186 @@
+//! Seconds are taken out of a chain of windows and given back, in nodes that are there.
+ghost use Rattle.std.specs.Prelude.{◌≡◌, ◌+◌, ◌^◌, ◌<◌, ◌≤◌, ◌++◌, length, take, drop};
+ghost use Rattle.taxi_base.specs.Windows.{AreApart};
+ghost use Rattle.interval_list.specs.Cells.{IsAt, IsGap, place_of, node_of, windows_of};
+ghost use Rattle.interval_list.specs.Edits.{inserted};
+ghost use Rattle.interval_list.specs.Intervals.{span, spans_of, ids_of};
+ghost use Rattle.interval_list.specs.Steps.{window, top, below_top, cut_window, cut_spare, cut, merged, HasRoomToCut, HasRoomToMerge};
+
+use crate::Window;
+use crate::chain::Chain;
+use crate::node::Place;
+use std::alloc::Global;
+use taxi_base::Time;
+
+/// Takes the seconds from `from` up to `until` out of the windows.
+pub(crate) fn take_out(
+    windows: &mut Chain,
+    spares: &mut Chain,
+    alloc: Global,
+    from: Time,
+    until: Time,
+)
+    requires some { from < until }
+    requires apart { AreApart 0 (spans_of (windows_of windows.old)) }
+    requires room { HasRoomToCut (span from until) (windows_of windows.old) (ids_of (windows_of spares.old)) }
+    requires small { length windows.old + length spares.old < 2 ^ 64 }
+    ensures windows { windows_of windows.new ≡ (cut (span from until) (windows_of windows.old) (ids_of (windows_of spares.old))).0 }
+    ensures spares { ids_of (windows_of spares.new) ≡ (cut (span from until) (windows_of windows.old) (ids_of (windows_of spares.old))).1 }
+{
+    let mut place = windows.first();
+    let mut i = 0;
+    while i < windows.len() {
+        let window = windows.window(place, i);
+        if until <= window.from {
+            return;
+        }
+        let next = windows.next(place, i);
+        i += cut_at(windows, spares, alloc, place, i, from, until);
+        place = next;
+    }
+}
+
+/// A gap between two nodes, and the window that is to stand there but for its id.
+#[derive(Clone, Copy)]
+struct Gap {
+    index: usize,
+    prev: Place,
+    next: Place,
+    from: Time,
+    until: Time,
+}
+
+/// Gives the seconds from `from` up to `until` back to the windows.
+pub(crate) fn give_back(
+    windows: &mut Chain,
+    spares: &mut Chain,
+    alloc: Global,
+    from: Time,
+    until: Time,
+)
+    requires room { HasRoomToMerge (span from until) (windows_of windows.old) (ids_of (windows_of spares.old)) }
+    requires small { length windows.old + length spares.old < 2 ^ 64 }
+    ensures windows { windows_of windows.new ≡ (merged (span from until) (windows_of windows.old) (ids_of (windows_of spares.old))).0 }
+    ensures spares { ids_of (windows_of spares.new) ≡ (merged (span from until) (windows_of windows.old) (ids_of (windows_of spares.old))).1 }
+{
+    let gap = clear(windows, spares, alloc, from, until);
+    let spare = spares.pop(alloc);
+    let id = spare.window.id;
+    windows.put(
+        gap.index,
+        gap.prev,
+        gap.next,
+        spare,
+        Window {
+            from: gap.from,
+            until: gap.until,
+            id,
+        },
+    );
+}
+
+/// Takes out each window that the seconds meet or touch, and finds the gap for the one that has them all.
+fn clear(windows: &mut Chain, spares: &mut Chain, alloc: Global, from: Time, until: Time) -> Gap
+    requires room { HasRoomToMerge (span from until) (windows_of windows.old) (ids_of (windows_of spares.old)) }
+    requires small { length windows.old + length spares.old < 2 ^ 64 }
+    ensures gap { IsGap windows.new result.index result.prev.at result.next.at }
+    ensures windows { (merged (span from until) (windows_of windows.old) (ids_of (windows_of spares.old))).0 ≡ inserted (windows_of windows.new) result.index (window result.from result.until (top (ids_of (windows_of spares.new)))) }
+    ensures spares { (merged (span from until) (windows_of windows.old) (ids_of (windows_of spares.old))).1 ≡ below_top (ids_of (windows_of spares.new)) }
+    ensures some { 0 < length spares.new }
+    ensures same { length windows.new + length spares.new ≡ length windows.old + length spares.old }
+{
+    let mut from = from;
+    let mut until = until;
+    let mut index = 0;
+    let mut next = windows.first();
+    let mut prev = next;
+    while index < windows.len() {
+        let window = windows.window(next, index);
+        if until < window.from {
+            return Gap {
+                index,
+                prev,
+                next,
+                from,
+                until,
+            };
+        }
+        let behind = windows.next(next, index);
+        if window.until < from {
+            prev = next;
+            index += 1;
+        } else {
+            from = from.min(window.from);
+            until = until.max(window.until);
+            let joined = windows.take(alloc, next, index);
+            spares.push(joined);
+        }
+        next = behind;
+    }
+    Gap {
+        index,
+        prev,
+        next,
+        from,
+        until,
+    }
+}
+
+/// Takes the seconds out of window `i`. Says how many windows stand in its place.
+fn cut_at(
+    windows: &mut Chain,
+    spares: &mut Chain,
+    alloc: Global,
+    place: Place,
+    i: usize,
+    from: Time,
+    until: Time,
+) -> usize
+    requires at { IsAt windows.old place.at i }
+    requires spare { (node_of windows.old i).window.from < from → until < (node_of windows.old i).window.until → 0 < length spares.old }
+    requires small { length windows.old + length spares.old < 2 ^ 64 }
+    ensures windows { windows_of windows.new ≡ take i (windows_of windows.old) ++ (cut_window (span from until) (node_of windows.old i).window (ids_of (windows_of spares.old)) ++ drop (i + 1) (windows_of windows.old)) }
+    ensures spares { ids_of (windows_of spares.new) ≡ cut_spare (span from until) (node_of windows.old i).window (ids_of (windows_of spares.old)) }
+    ensures stands { result ≡ length (cut_window (span from until) (node_of windows.old i).window (ids_of (windows_of spares.old))) }
+    ensures next { place_of windows.new (i + result) ≡ place_of windows.old (i + 1) }
+{
+    let whole = windows.window(place, i);
+    let left = Window {
+        from: whole.from,
+        until: whole.until.min(from),
+        id: whole.id,
+    };
+    let right = Window {
+        from: whole.from.max(until),
+        until: whole.until,
+        id: whole.id,
+    };
+    if whole.from < from {
+        windows.set(place, i, left);
+        if until < whole.until {
+            let next = windows.next(place, i);
+            let node = spares.pop(alloc);
+            let id = node.window.id;
+            windows.put(
+                i + 1,
+                place,
+                next,
+                node,
+                Window {
+                    from: right.from,
+                    until: right.until,
+                    id,
+                },
+            );
+            return 2;
+        }
+        return 1;
+    }
+    if until < whole.until {
+        windows.set(place, i, right);
+        return 1;
+    }
+    let node = windows.take(alloc, place, i);
+    spares.push(node);
+    0
+}
