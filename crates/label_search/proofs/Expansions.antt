@@ -1,0 +1,120 @@
+-- Expanding a cell to one next cell after another.
+use Rattle.std.proofs.Common.{◌≡◌, ℕ, ◌<◌, ◌≤◌, Option, Some, None, refl, sym, ap, ◌∙◌, subst, ◌⊎◌, inl, inr, arith}
+use Rattle.std.specs.Prelude.{IsSomeAnd}
+use Rattle.std.proofs.lemmas.Bool.{cases_eq}
+use Rattle.label_queue.specs.Keys.{key_of}
+use Rattle.label_core.specs.Walks.{Network}
+use Rattle.label_core.specs.Labels.{IsExpansion}
+use Rattle.label_search.specs.declared.labels.Label.{Label}
+use Rattle.label_search.specs.Labels.{Standing, label_of, IsOffered, IsImproved, Same, WasOffered}
+use Rattle.label_search.specs.Labels.IsOffered.{first, lower, tied, kept}
+use Rattle.label_search.specs.Expanding.{label_by, WasExpandedTo, IsExpanded}
+
+-- an offer that is made again changes nothing
+twice : {offer : Label} {l m n : Option Label} {i j k : Option ℕ} → IsOffered offer l i m j → IsOffered offer m j n k → IsOffered offer l i n k
+twice {offer} (first key) (lower old key' less) = absurd (omega arith)
+twice {offer} (first key) (tied old key' same less) = absurd (omega arith)
+twice {offer} (first key) (kept old key' by tie) = first key
+twice {offer} (lower old key less) (lower old' key' less') = absurd (omega arith)
+twice {offer} (lower old key less) (tied old' key' same less') = absurd (omega arith)
+twice {offer} (lower old key less) (kept old' key' by tie) = lower old key less
+twice {offer} (tied old key same less) (lower old' key' less') = absurd (omega arith)
+twice {offer} (tied old key same less) (tied old' key' same' less') = absurd (omega arith)
+twice {offer} (tied old key same less) (kept old' key' by tie) = tied old key same less
+twice {offer} (kept old key by tie) (lower old' key' less') = absurd (omega arith)
+twice {offer} (kept old key by tie) (tied old' key' same' less') = absurd (omega (arith, tie))
+twice {offer} (kept old key by tie) (kept old' key' by' tie') = kept old key by tie
+
+-- a label that isn't above the value by which the offer is above
+known_by : (old : Option Label) (key : Option ℕ) (offer : Label) (v : ℕ) → IsSomeAnd old (λ l. l.value ≤ v) → v < offer.value → IsOffered offer old key old key
+known_by None key offer v by above = absurd by
+known_by (Some l) key offer v by above = kept l key (omega arith) (λ le. absurd (omega arith))
+
+module _ (network : Network ℕ) (c v : ℕ) where
+  -- a cell has one expansion at most
+  expansion_single : (d t u : ℕ) → IsExpansion network c v d t → IsExpansion network c v d u → t ≡ u
+  expansion_single d t u one two = omega (arith, one.value, two.value)
+
+  same_here : (s : Standing) (d : ℕ) → Same s s d
+  same_here s d = record { label = refl; key = refl }
+
+  expanded_not : (IsDone : ℕ → Type 0) (s : Standing) → ((d t : ℕ) → IsDone d → IsExpansion network c v d t → WasOffered s s d (label_by c t)) → IsExpanded network c v IsDone s s
+  expanded_not IsDone s done = record { lengths = record { known = refl; keys = refl }; each = λ d. inl (same_here s d); done = done }
+
+  -- the next cell's label is no later than the time at which cell c can be left
+  pub expanded_known : (s : Standing) (next : ℕ) → 1 ≤ network.seconds next → IsSomeAnd (label_of s.known next) (λ l. l.value ≤ v) → IsExpanded network c v (λ d. d ≡ next) s s
+  expanded_known s next takes by = expanded_not (λ d. d ≡ next) s (λ d t same e. (
+      let seconds : network.seconds d ≡ network.seconds next = ap network.seconds same in
+      known_by (label_of s.known d) (key_of s.keys d) (label_by c t) v (subst (λ x. IsSomeAnd (label_of s.known x) (λ l. l.value ≤ v)) (sym same) by) (omega (arith, e.value))))
+
+  -- there is no expansion to it
+  pub expanded_nothing : (s : Standing) (next : ℕ) → ((t : ℕ) → IsExpansion network c v next t → ⊥) → IsExpanded network c v (λ d. d ≡ next) s s
+  expanded_nothing s next none = expanded_not (λ d. d ≡ next) s (λ d t same e. absurd (none t (subst (λ x. IsExpansion network c v x t) same e)))
+
+  -- it was offered its expansion
+  pub expanded_offer : (old new : Standing) (next t : ℕ) → IsExpansion network c v next t → IsImproved old new next (label_by c t) → IsExpanded network c v (λ d. d ≡ next) old new
+  expanded_offer old new next t e improved = record {
+    lengths = improved.lengths;
+    each = λ d. elim (cases_eq d next) [
+      | inl same ↦ inr (subst (λ x. WasExpandedTo network c v old new x) (sym same) (record { value = t; expands = e; offered = improved.here }))
+      | inr other ↦ inl (improved.elsewhere d other)
+    ];
+    done = λ d u same e'. (
+        let moved : IsExpansion network c v next u = subst (λ x. IsExpansion network c v x u) same e' in
+        subst (λ x. WasOffered old new x (label_by c u)) (sym same)
+        (subst (λ n. WasOffered old new next (label_by c n)) (expansion_single next t u e moved) improved.here));
+  }
+
+  module _ (A B : ℕ → Type 0) (old mid new : Standing) (one : IsExpanded network c v A old mid) (two : IsExpanded network c v B mid new) where
+    offered_since : (d : ℕ) (offer : Label) → Same old mid d → WasOffered mid new d offer → WasOffered old new d offer
+    offered_since d offer same offered = rw (sym same.label, sym same.key) offered
+
+    offered_until : (d : ℕ) (offer : Label) → WasOffered old mid d offer → Same mid new d → WasOffered old new d offer
+    offered_until d offer offered same = rw (same.label, same.key) offered
+
+    offered_both : (d t : ℕ) → IsExpansion network c v d t → WasOffered old mid d (label_by c t) → WasExpandedTo network c v mid new d → WasOffered old new d (label_by c t)
+    offered_both d t e offered to =
+        let again : WasOffered mid new d (label_by c t) = subst (λ n. WasOffered mid new d (label_by c n)) (expansion_single d to.value t to.expands e) to.offered in
+        twice offered again
+
+    each_then : (d : ℕ) → Same old mid d ⊎ WasExpandedTo network c v old mid d → Same mid new d ⊎ WasExpandedTo network c v mid new d → Same old new d ⊎ WasExpandedTo network c v old new d
+    each_then d (inl a) (inl b) = inl (record { label = b.label ∙ a.label; key = b.key ∙ a.key })
+    each_then d (inl a) (inr b) = inr (record { value = b.value; expands = b.expands; offered = offered_since d (label_by c b.value) a b.offered })
+    each_then d (inr a) (inl b) = inr (record { value = a.value; expands = a.expands; offered = offered_until d (label_by c a.value) a.offered b })
+    each_then d (inr a) (inr b) = inr (record { value = a.value; expands = a.expands; offered = offered_both d a.value a.expands a.offered b })
+
+    done_first : (d t : ℕ) → A d → IsExpansion network c v d t → WasOffered old new d (label_by c t)
+    done_first d t a e = go (two.each d)
+      where
+        go : Same mid new d ⊎ WasExpandedTo network c v mid new d → WasOffered old new d (label_by c t)
+        go (inl same) = offered_until d (label_by c t) (one.done d t a e) same
+        go (inr to) = offered_both d t e (one.done d t a e) to
+
+    done_second : (d t : ℕ) → B d → IsExpansion network c v d t → WasOffered old new d (label_by c t)
+    done_second d t b e = go (one.each d)
+      where
+        go : Same old mid d ⊎ WasExpandedTo network c v old mid d → WasOffered old new d (label_by c t)
+        go (inl same) = offered_since d (label_by c t) same (two.done d t b e)
+        go (inr to) =
+            let before : WasOffered old mid d (label_by c t) = subst (λ n. WasOffered old mid d (label_by c n)) (expansion_single d to.value t to.expands e) to.offered in
+            twice before (two.done d t b e)
+
+    -- one after the other
+    pub expanded_then : (D : ℕ → Type 0) → ((d t : ℕ) → D d → IsExpansion network c v d t → A d ⊎ B d) → IsExpanded network c v D old new
+    expanded_then D split = record {
+      lengths = record { known = two.lengths.known ∙ one.lengths.known; keys = two.lengths.keys ∙ one.lengths.keys };
+      each = λ d. each_then d (one.each d) (two.each d);
+      done = λ d t is e. elim (split d t is e) [ inl a ↦ done_first d t a e | inr b ↦ done_second d t b e ];
+    }
+
+  -- the same cells in other words
+  pub expanded_as : (A D : ℕ → Type 0) (old new : Standing) → IsExpanded network c v A old new → ((d t : ℕ) → D d → IsExpansion network c v d t → A d) → IsExpanded network c v D old new
+  expanded_as A D old new expanded is_in = record {
+    lengths = expanded.lengths;
+    each = expanded.each;
+    done = λ d t is e. expanded.done d t (is_in d t is e) e;
+  }
+
+  -- none yet
+  pub expanded_none : (A : ℕ → Type 0) (s : Standing) → ((d : ℕ) → A d → ⊥) → IsExpanded network c v A s s
+  expanded_none A s none = expanded_not A s (λ d t is e. absurd (none d is))

@@ -1,0 +1,11 @@
+pub mod Offers
+pub mod Expansions
+pub mod Settling
+pub mod Traced
+pub mod Steps
+pub mod Begins
+pub mod Picking
+pub mod Cutting
+pub mod Ends
+pub mod Mirroring
+pub mod Lists

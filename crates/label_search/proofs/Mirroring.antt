@@ -1,0 +1,116 @@
+-- A problem backward in time and its mirror: what is found in the one is found in the other.
+use Rattle.std.proofs.Common.{◌≡◌, ℕ, zero, suc, ◌-◌, ◌≤◌, ◌↔◌, List, [], ◌∷◌, map, reverse, Option, Some, None, option_map, IfSome, IfNone, refl, sym, ap, ◌∙◌, subst, arith}
+use mathlib.Core.List.{reverse_aux}
+use Rattle.label_core.specs.Walks.{Step, IsEarliestExit}
+use Rattle.label_core.specs.Tables.{IsBelow}
+use Rattle.label_core.specs.Best.{IsBestEnd, HasNoWalk, IsPickedRoute}
+use Rattle.label_core.specs.BackwardWalks.{IsLatestEntry}
+use Rattle.label_core.specs.BackwardTables.{IsAbove}
+use Rattle.label_core.specs.BackwardBest.{IsBestBegin, HasNoWalkFrom, IsPickedRouteOn}
+use Rattle.label_core.specs.Mirror.{mirror_start, mirror_starts, mirror_network, mirror_step, IsUpTo}
+use Rattle.label_core.proofs.MirroredWalks.{option_map_some, leads_by, reaches_by, latest_in_mirror, latest_from_mirror, expansion_from_mirror}
+use Rattle.label_core.proofs.MirroredBest.{best_begin, no_walk_from, route_on}
+use Rattle.label_search.specs.declared.cells.Run.{Run}
+use Rattle.label_search.specs.declared.labels.Label.{Label}
+use Rattle.label_search.specs.declared.pick.CellStep.{CellStep}
+use Rattle.label_search.specs.declared.forward.Route.{Route}
+use Rattle.label_search.specs.Problem.{IsProblem, IsPartOf}
+use Rattle.label_search.specs.Labels.{label_of, HasValue}
+use Rattle.label_search.specs.Answer.{step_of, best_of, ComesBefore}
+use Rattle.label_search.specs.Backward.{BackwardProblem, IsBackwardProblem, IsBackwardPartOf, mirror_second, mirror_problem, mirror_label, mirror_cell_step}
+
+-- the label of a cell, once all are seen in the mirror
+label_of-map : (known : List (Option Label)) (c : ℕ) → label_of (map (option_map mirror_label) known) c ≡ option_map mirror_label (label_of known c)
+label_of-map [] c = refl
+label_of-map (x ∷ known) zero = refl
+label_of-map (x ∷ known) (suc c) = label_of-map known c
+
+-- steps, turned and seen in the mirror
+map-reverse_onto : (steps done : List CellStep) (turned : List (Step ℕ)) → map step_of (map mirror_cell_step done) ≡ map (mirror_step mirror_second) turned
+    → map step_of (map mirror_cell_step (reverse_aux steps done)) ≡ map (mirror_step mirror_second) (reverse_aux (map step_of steps) turned)
+map-reverse_onto [] done turned same = same
+map-reverse_onto (s ∷ steps) done turned same = map-reverse_onto steps (s ∷ done) (step_of s ∷ turned) (ap (λ more. mirror_step mirror_second (step_of s) ∷ more) same)
+
+steps_in_mirror : (steps : List CellStep) → map step_of (map mirror_cell_step (reverse steps)) ≡ map (mirror_step mirror_second) (reverse (map step_of steps))
+steps_in_mirror steps = map-reverse_onto steps [] [] refl
+
+-- the part of a run in the mirror
+pub part_in_mirror : (b : BackwardProblem) → IsUpTo mirror_second b.network b.finishes → (c ready : ℕ) (whole part : Run) → IsBackwardPartOf b c (mirror_second - ready) whole part → IsPartOf (mirror_problem b) c ready whole part
+part_in_mirror b fits c ready whole part is_part = record {
+  permitted = is_part.permitted;
+  expansions_in = λ d t is e. is_part.expansions_in d (mirror_second - t) is (expansion_from_mirror b.network b.finishes mirror_second fits c ready d t (omega (arith, e.still_held)) e);
+}
+
+module _ (b : BackwardProblem) (sound : IsBackwardProblem b) where
+  pub up_to : IsUpTo mirror_second b.network b.finishes
+  up_to = record {
+    windows_from = λ c. omega (arith, sound.small_from c);
+    windows_last = λ c. omega (arith, sound.small_last c);
+    finishes_by = λ c f is. omega (arith, sound.small_finishes c f is);
+  }
+
+  -- the problem in the mirror is one
+  pub problem_in_mirror : IsProblem (mirror_problem b)
+  problem_in_mirror = record {
+    takes = sound.takes;
+    small_seconds = sound.small_seconds;
+    small_last = λ c. omega arith;
+    small_count = sound.small_count;
+    turns_in_runs = λ c d turn. sound.turns_in_runs d c turn;
+    turns_inside = λ c d turn. (let inside = sound.turns_inside d c turn in (inside.1, inside.0));
+    starts_inside = λ c s is. (let f = option_map_some (mirror_start mirror_second) (b.finishes c) s is in sound.finishes_inside c f.0 f.1);
+  }
+
+  above_of_below : (best : Option ℕ) (v : ℕ) → IfSome best (λ n. n ≤ mirror_second) → IsBelow best v → IsAbove (option_map (λ n. mirror_second - n) best) (mirror_second - v)
+  above_of_below None v by below = tt
+  above_of_below (Some n) v by below = omega arith
+
+  below_of_above : (best : Option ℕ) (v : ℕ) → v ≤ mirror_second → IfSome best (λ n. n ≤ mirror_second) → IsAbove (option_map (λ n. mirror_second - n) best) v → IsBelow best (mirror_second - v)
+  below_of_above None v inside by above = tt
+  below_of_above (Some n) v inside by above = omega arith
+
+  best_by : (best : Option ℕ) → IfSome best (IsBestEnd (mirror_network mirror_second b.network) (mirror_starts mirror_second b.finishes) b.source) → IfSome best (λ n. n ≤ mirror_second)
+  best_by None is_best = tt
+  best_by (Some n) is_best = reaches_by b.network b.finishes mirror_second up_to is_best.cell n is_best.attained
+
+  -- the table
+  pub table_in_mirror : (known : List (Option Label)) (best : Option ℕ) → IfSome best (IsBestEnd (mirror_network mirror_second b.network) (mirror_starts mirror_second b.finishes) b.source)
+      → ((c v : ℕ) → HasValue known c v ↔ (IsEarliestExit (mirror_network mirror_second b.network) (mirror_starts mirror_second b.finishes) c v × IsBelow best v))
+      → (c v : ℕ) → HasValue (map (option_map mirror_label) known) c v ↔ (IsLatestEntry b.network b.finishes c v × IsAbove (option_map (λ n. mirror_second - n) best) v)
+  table_in_mirror known best is_best table c v = (there, back)
+    where
+      there : HasValue (map (option_map mirror_label) known) c v → IsLatestEntry b.network b.finishes c v × IsAbove (option_map (λ n. mirror_second - n) best) v
+      there has =
+          let label = option_map_some mirror_label (label_of known c) has.0 (sym (label_of-map known c) ∙ has.1) in
+          let value : mirror_second - label.0.value ≡ v = ap (λ (l : Label). l.value) label.2 ∙ has.2 in
+          let row = (table c label.0.value).0 (label.0, label.1, refl) in (
+            subst (λ n. IsLatestEntry b.network b.finishes c n) value (latest_from_mirror b.network b.finishes mirror_second up_to c label.0.value row.0),
+            subst (λ n. IsAbove (option_map (λ n. mirror_second - n) best) n) value (above_of_below best label.0.value (best_by best is_best) row.1),
+          )
+
+      back : IsLatestEntry b.network b.finishes c v × IsAbove (option_map (λ n. mirror_second - n) best) v → HasValue (map (option_map mirror_label) known) c v
+      back h =
+          let by : v ≤ mirror_second = leads_by b.network b.finishes mirror_second up_to c v h.0.attained in
+          let has = (table c (mirror_second - v)).1 (latest_in_mirror b.network b.finishes mirror_second up_to c v h.0, below_of_above best v by (best_by best is_best) h.1) in
+          (mirror_label has.0, label_of-map known c ∙ ap (option_map mirror_label) has.1, omega (arith, has.2))
+
+  pub best_in_mirror : (best : Option ℕ) → IfSome best (IsBestEnd (mirror_network mirror_second b.network) (mirror_starts mirror_second b.finishes) b.source)
+      → IfSome (option_map (λ n. mirror_second - n) best) (IsBestBegin b.network b.finishes b.source)
+  best_in_mirror None is_best = tt
+  best_in_mirror (Some n) is_best = best_begin b.network b.finishes mirror_second up_to ComesBefore b.source n is_best
+
+  pub none_in_mirror : (best : Option ℕ) → IfNone best (HasNoWalk (mirror_network mirror_second b.network) (mirror_starts mirror_second b.finishes) b.source)
+      → IfNone (option_map (λ n. mirror_second - n) best) (HasNoWalkFrom b.network b.finishes b.source)
+  none_in_mirror None none = no_walk_from b.network b.finishes mirror_second up_to ComesBefore b.source none
+  none_in_mirror (Some n) none = tt
+
+  -- the picked route
+  pub route_in_mirror : (found now : Option Route) → best_of now ≡ option_map (λ n. mirror_second - n) (best_of found)
+      → IfSome now (λ r. IfSome found (λ f. r.steps.items ≡ map mirror_cell_step (reverse f.steps.items)))
+      → IfSome found (λ f. IsPickedRoute (mirror_network mirror_second b.network) (mirror_starts mirror_second b.finishes) ComesBefore b.source f.best (map step_of f.steps.items))
+      → IfSome now (λ r. IsPickedRouteOn b.network b.finishes ComesBefore b.source r.best (map step_of r.steps.items))
+  route_in_mirror found None same steps picked = tt
+  route_in_mirror None (Some r) same steps picked = absurd cc
+  route_in_mirror (Some f) (Some r) same steps picked =
+      let best : r.best ≡ mirror_second - f.best = cc in
+      rw (best, steps, steps_in_mirror f.steps.items) (route_on b.network b.finishes mirror_second up_to ComesBefore b.source f.best (map step_of f.steps.items) picked)

@@ -1,0 +1,153 @@
+-- One step of the search: a least cell is taken and expanded; or the search is at its end.
+use Rattle.std.proofs.Common.{◌≡◌, ℕ, zero, suc, ◌+◌, ◌<◌, ◌≤◌, Bool, true, false, Option, Some, None, refl, sym, ap, ◌∙◌, subst, ◌⊎◌, inl, inr, arith}
+use Rattle.std.proofs.lemmas.Bool.{cases_eq, cases_Bool, false≢true}
+use Rattle.std.specs.Prelude.{⊤}
+use Rattle.std.proofs.lemmas.List.{length-set}
+use Rattle.label_queue.specs.Keys.{IsEmpty}
+use Rattle.label_queue.specs.Least.{IsLeast}
+use Rattle.label_core.specs.Labels.{IsExpansion}
+use Rattle.label_core.proofs.SettledCells.{IsSettling}
+use Rattle.label_search.specs.declared.labels.Label.{Label}
+use Rattle.label_search.specs.Problem.{Problem, IsProblem}
+use Rattle.label_search.specs.Labels.{Standing, label_of, HasValue, IsOffered, Same}
+use Rattle.label_search.specs.Labels.IsOffered.{first, lower, tied, kept}
+use Rattle.label_search.specs.Expanding.{WasExpandedTo, IsExpanded}
+use Rattle.label_search.specs.Standing.{is_settled, SettledValue, IsTraced, AreTraced, IsUnderway, IsAtEnd}
+use Rattle.label_search.proofs.Settling.{HasValue-single, taken, least_known, least_not_settled, key_of_left, least_left, key_inside, settling_new, queued_new, search_new, settled_value_back, settled_value_on}
+use Rattle.label_search.proofs.Traced.{traced_still, traced_offered}
+
+-- 1 for a cell that isn't settled
+abbrev left_here : Bool → ℕ
+left_here true = 0
+left_here false = 1
+
+-- how many cells below the limit are not settled
+abbrev pub left_below : (ℕ → Bool) → ℕ → ℕ
+left_below settled zero = 0
+left_below settled (suc n) = left_below settled n + left_here (settled n)
+
+module _ (old new : ℕ → Bool) (kept : (d : ℕ) → old d ≡ true → new d ≡ true) where
+  one_left : (a b : Bool) → (a ≡ true → b ≡ true) → left_here b ≤ left_here a
+  one_left a true h = omega arith
+  one_left true false h = absurd (false≢true (h refl))
+  one_left false false h = omega arith
+
+  not_more_left : (n : ℕ) → left_below new n ≤ left_below old n
+  not_more_left zero = omega arith
+  not_more_left (suc n) = omega (arith, not_more_left n, one_left (old n) (new n) (kept n))
+
+  pub fewer_left : (c n : ℕ) → c < n → old c ≡ false → new c ≡ true → left_below new n < left_below old n
+  fewer_left c zero lt was is = omega arith
+  fewer_left c (suc n) lt was is = elim (cases_eq c n) [
+    | inl same ↦ (
+        let here : left_here (old n) ≡ 1 = ap left_here (ap old (sym same) ∙ was) in
+        let now : left_here (new n) ≡ 0 = ap left_here (ap new (sym same) ∙ is) in
+        omega (arith, not_more_left n, here, now))
+    | inr other ↦ omega (arith, fewer_left c n (omega arith) was is, one_left (old n) (new n) (kept n))
+  ]
+
+-- an offer at a label's value that leaves the label came by no lesser cell
+stays : {offer : Label} {l m : Option Label} {i j : Option ℕ} → IsOffered offer l i m j → (x : Label) → l ≡ Some x → m ≡ Some x → offer.value ≡ x.value → x.via ≤ offer.via
+stays (first key) x was is at = absurd (let e : None ≡ Some x = was in cc)
+stays {offer} (lower old key less) x was is at =
+    let e : Some old ≡ Some x = was in
+    let same : old ≡ x = cc in
+    omega (arith, less, at, ap (λ y. y.value) same)
+stays {offer} (tied old key same less) x was is at =
+    let e : Some offer ≡ Some x = is in
+    let now : offer ≡ x = cc in
+    omega (arith, ap (λ y. y.via) now)
+stays (kept old key by tie) x was is at =
+    let e : Some old ≡ Some x = was in
+    let same : old ≡ x = cc in
+    omega (arith, tie, at, ap (λ y. y.value) same, ap (λ y. y.via) same)
+
+module _ (p : Problem) (sound : IsProblem p) (s : Standing) (under : IsUnderway p s) (c k : ℕ) (least : IsLeast s.keys c k) where
+  pub cell_inside : c < p.count
+  cell_inside = omega (arith, key_inside p sound s under c k least, under.room.keys)
+
+  module _ (new : Standing) (expanded : IsExpanded p.network c k (λ d. ⊤) (taken p sound s under c k least) new) where
+    settling : IsSettling (is_settled s) (is_settled new) c
+    settling = settling_new p sound s under c k least new expanded
+
+    back : (x u : ℕ) → is_settled new x ≡ true → HasValue new.known x u → HasValue s.known x u
+    back = settled_value_back p sound s under c k least new expanded
+
+    on : (x u : ℕ) → is_settled new x ≡ true → HasValue s.known x u → HasValue new.known x u
+    on = settled_value_on p sound s under c k least new expanded
+
+    row_kept : (x u : ℕ) → SettledValue s (is_settled s) x u → SettledValue new (is_settled new) x u
+    row_kept x u row = let is = settling.kept x row.0 in (is, on x u is row.1)
+
+    row_split : (x u : ℕ) → SettledValue new (is_settled new) x u → SettledValue s (is_settled s) x u ⊎ ((x ≡ c) × (u ≡ k))
+    row_split x u row = elim (settling.only x row.0) [
+      | inl was ↦ inl (was, back x u row.0 row.1)
+      | inr same ↦ inr (same, HasValue-single s.known c u k (subst (λ y. HasValue s.known y u) same (back x u row.0 row.1)) (least_known p sound s under c k least))
+    ]
+
+    row_here : SettledValue new (is_settled new) c k
+    row_here = (settling.here, on c k settling.here (least_known p sound s under c k least))
+
+    closed : (d x u w : ℕ) → SettledValue s (is_settled s) x u → IsExpansion p.network x u d w → (o : Label) × (label_of s.known d ≡ Some o) × (o.value ≤ w)
+    closed d x u w row e =
+        let good = under.search.expansions_known x d u w row.0 row.1 e in
+        (good.1.0, good.1.1, omega (arith, good.2, good.1.2))
+
+    traced_new : AreTraced p new (is_settled new)
+    traced_new d label is = go (expanded.each d)
+      where
+        go : Same (taken p sound s under c k least) new d ⊎ WasExpandedTo p.network c k (taken p sound s under c k least) new d → IsTraced p (SettledValue new (is_settled new)) d label
+        go (inl same) =
+            let was : label_of s.known d ≡ Some label = sym same.label ∙ is in
+            traced_still p c k (SettledValue s (is_settled s)) (SettledValue new (is_settled new)) row_here row_kept row_split d label (under.traced d label was)
+            (λ e. stays (expanded.done d label.value tt e) label was is refl)
+        go (inr to) =
+            traced_offered p c k (SettledValue s (is_settled s)) (SettledValue new (is_settled new)) row_here row_kept row_split d to.value to.expands to.offered
+            (closed d) (under.traced d) label is
+
+    -- the search goes on
+    pub underway_new : p.target c ≡ false → IsUnderway p new
+    underway_new no_target = record {
+      room = record { known = expanded.lengths.known ∙ under.room.known; keys = expanded.lengths.keys ∙ length-set s.keys c None ∙ under.room.keys };
+      search = search_new p sound s under c k least new expanded;
+      queued = queued_new p sound s under c k least new expanded;
+      traced = traced_new;
+      passed = λ d is. elim (settling.only d is) [ inl was ↦ under.passed d was | inr same ↦ ap p.target same ∙ no_target ];
+    }
+
+    -- with one cell less to settle
+    pub fewer_new : left_below (is_settled new) p.count < left_below (is_settled s) p.count
+    fewer_new = fewer_left (is_settled s) (is_settled new) settling.kept c p.count cell_inside (least_not_settled p sound s under c k least) settling.here
+
+  -- the cell is a target
+  pub at_goal : p.target c ≡ true → IsAtEnd p (taken p sound s under c k least) (Some (record { cell = c; end = k }))
+  at_goal is_target = record {
+    room = record { known = under.room.known; keys = length-set s.keys c None ∙ under.room.keys };
+    settled = is_settled s;
+    search = under.search;
+    traced = under.traced;
+    passed = under.passed;
+    some = record {
+      is_target = is_target;
+      least = least_left p sound s under c k least;
+      first = λ x before target has. first x before target has (cases_Bool (is_settled s x));
+    };
+    none = tt;
+  }
+    where
+      first : (x : ℕ) → x < c → p.target x ≡ true → HasValue s.known x k → (is_settled s x ≡ true) ⊎ (is_settled s x ≡ false) → ⊥
+      first x before target has (inl is) = false≢true (sym (under.passed x is) ∙ target)
+      first x before target has (inr not) =
+          elim (least.comes_first x k (λ same. omega (arith, same)) (key_of_left p sound s under c k least x k not has)) [ inl less ↦ omega arith | inr tie ↦ omega (arith, tie.1) ]
+
+-- the queue is empty
+pub at_empty : (p : Problem) (s : Standing) → IsUnderway p s → IsEmpty s.keys → IsAtEnd p s None
+at_empty p s under empty = record {
+  room = under.room;
+  settled = is_settled s;
+  search = under.search;
+  traced = under.traced;
+  passed = under.passed;
+  some = tt;
+  none = λ d w not has below. false≢true (sym not ∙ (rw (empty d, has.1) refl));
+}

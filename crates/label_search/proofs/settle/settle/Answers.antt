@@ -1,0 +1,29 @@
+use Rattle.std.proofs.Common.{◌≡◌, sym, ◌∙◌}
+use Rattle.std.specs.Prelude.{⊤}
+use Rattle.label_queue.specs.Keys.{without}
+use Rattle.label_queue.specs.Least.{IsLeast}
+use Rattle.label_search.specs.Labels.{standing}
+use Rattle.label_search.specs.Expanding.{IsExpanded}
+use Rattle.label_search.proofs.Settling.{taken}
+use Rattle.label_search.proofs.Steps.{underway_new, fewer_new}
+use Rattle.label_search.proofs.settle.settle.Goals as goal
+
+pub loop-cell-smaller : goal.loop-cell-smaller
+loop-cell-smaller g c =
+    let p = g.C.ForwardCells.problem c.args.cells.now in
+    let s = standing c.loop-cell.labels in
+    let cell = c.in-Some.cell in
+    let least : IsLeast s.keys cell c.in-Some.at = c.in-Some.ensures.least in
+    let same : c.pop_least.new.self ≡ without s.keys cell = c.in-Some.ensures.taken in
+    let expanded : IsExpanded p.network cell c.in-Some.at (λ d. ⊤) (taken p c.requires.sound s c.loop-cell.invariant cell c.in-Some.at least) (standing c.expand.new.labels) = (rw same at c.expand.ensures) in
+    fewer_new p c.requires.sound s c.loop-cell.invariant cell c.in-Some.at least (standing c.expand.new.labels) expanded
+
+pub loop-cell-preserved : goal.loop-cell-preserved
+loop-cell-preserved g c =
+    let p = g.C.ForwardCells.problem c.args.cells.now in
+    let s = standing c.loop-cell.labels in
+    let cell = c.in-Some.cell in
+    let least : IsLeast s.keys cell c.in-Some.at = c.in-Some.ensures.least in
+    let same : c.pop_least.new.self ≡ without s.keys cell = c.in-Some.ensures.taken in
+    let expanded : IsExpanded p.network cell c.in-Some.at (λ d. ⊤) (taken p c.requires.sound s c.loop-cell.invariant cell c.in-Some.at least) (standing c.expand.new.labels) = (rw same at c.expand.ensures) in
+    underway_new p c.requires.sound s c.loop-cell.invariant cell c.in-Some.at least (standing c.expand.new.labels) expanded (sym c.is_target.ensures ∙ c.if-is_target.false)

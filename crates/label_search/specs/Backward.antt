@@ -1,0 +1,66 @@
+-- What is a search backward asked? A network of numbered cells, how walks may end, and where they shall begin.
+use Rattle.std.specs.Prelude.{◌≡◌, ℕ, ◌^◌, ◌-◌, ◌<◌, ◌≤◌, Bool, IsTrue, Option, Some}
+use Rattle.label_core.specs.Walks.{Network}
+use Rattle.label_core.specs.BackwardWalks.{Finish}
+use Rattle.label_core.specs.BackwardLabels.{IsExpansionBack}
+use Rattle.label_core.specs.Mirror.{mirror_network, mirror_starts}
+use Rattle.label_search.specs.declared.cells.Closing.{Closing}
+use Rattle.label_search.specs.declared.cells.Run.{Run}
+use Rattle.label_search.specs.declared.labels.Label.{Label}
+use Rattle.label_search.specs.declared.pick.CellStep.{CellStep}
+use Rattle.label_search.specs.Problem.{Problem, IsIn}
+
+-- cells are numbered below the count; those that may come before a cell lie in its runs, of which it has so many
+pub record BackwardProblem : Type 0 where
+  pub network : Network ℕ
+  pub finishes : ℕ → Option Finish
+  pub source : ℕ → Bool
+  pub count : ℕ
+  pub runs : ℕ → ℕ
+  pub run : ℕ → ℕ → Run
+
+-- each cell takes a second or longer, times are small enough to be mirrored and added, and turns and finishes are at cells
+-- below the count
+pub record IsBackwardProblem (b : BackwardProblem) : Type 0 where
+  pub takes : (c : ℕ) → 1 ≤ b.network.seconds c
+  pub small_seconds : (c : ℕ) → b.network.seconds c < 2 ^ 31
+  pub small_from : (c : ℕ) → b.network.from c < 2 ^ 31
+  pub small_last : (c : ℕ) → b.network.last c < 2 ^ 31
+  pub small_finishes : (c : ℕ) (f : Finish) → b.finishes c ≡ Some f → f.earliest_out < 2 ^ 31
+  pub small_count : b.count < 2 ^ 32
+  pub turns_in_runs : (c d : ℕ) → IsTrue (b.network.turn c d) → (k : ℕ) × (k < b.runs d) × IsIn (b.run d k) c
+  pub turns_inside : (c d : ℕ) → IsTrue (b.network.turn c d) → (c < b.count) × (d < b.count)
+  pub finishes_inside : (c : ℕ) (f : Finish) → b.finishes c ≡ Some f → c < b.count
+
+abbrev pub finish_of : Closing → Finish
+finish_of o = record { earliest_out = o.earliest_out; latest_out = o.latest_out }
+
+-- the part is of cells that may come before cell d, and has each cell of the whole run that cell d, entered by `ready`,
+-- expands back to
+pub record IsBackwardPartOf (b : BackwardProblem) (d ready : ℕ) (whole part : Run) : Type 0 where
+  pub permitted : (c : ℕ) → IsIn part c → IsTrue (b.network.turn c d)
+  pub expansions_in : (c t : ℕ) → IsIn whole c → IsExpansionBack b.network d ready c t → IsIn part c
+
+-- ---- the mirror
+
+-- the second in which time is mirrored: the last that is small enough
+abbrev pub mirror_second : ℕ
+mirror_second = 2147483647
+
+-- the problem in the mirror
+abbrev pub mirror_problem : BackwardProblem → Problem
+mirror_problem b = record {
+  network = mirror_network mirror_second b.network;
+  starts = mirror_starts mirror_second b.finishes;
+  target = b.source;
+  count = b.count;
+  runs = b.runs;
+  run = b.run;
+}
+
+-- a label, and a step, in the mirror
+abbrev pub mirror_label : Label → Label
+mirror_label label = record { value = mirror_second - label.value; via = label.via }
+
+abbrev pub mirror_cell_step : CellStep → CellStep
+mirror_cell_step s = record { cell = s.cell; enter = mirror_second - s.leave; leave = mirror_second - s.enter }

@@ -1,0 +1,34 @@
+-- What does it do to the labels that a cell is expanded?
+use Rattle.std.specs.Prelude.{◌≡◌, ◌<◌, ℕ, ◌⊎◌, length}
+use Rattle.label_core.specs.Walks.{Network}
+use Rattle.label_core.specs.Labels.{IsExpansion}
+use Rattle.label_search.specs.declared.labels.Label.{Label}
+use Rattle.label_search.specs.declared.expand.Ready.{Ready}
+use Rattle.label_search.specs.Problem.{Problem}
+use Rattle.label_search.specs.Labels.{Standing, SameLengths, Same, WasOffered}
+
+-- what cell c offers at the value
+abbrev pub label_by : ℕ → ℕ → Label
+label_by c value = record { value = value; via = c }
+
+-- a cell was offered its expansion of cell c, which has value v
+pub record WasExpandedTo (network : Network ℕ) (c v : ℕ) (old new : Standing) (d : ℕ) : Type 0 where
+  pub value : ℕ
+  pub expands : IsExpansion network c v d value
+  pub offered : WasOffered old new d (label_by c value)
+
+-- each cell was offered its expansion of cell c or stands as before, and those that are done were offered it
+pub record IsExpanded (network : Network ℕ) (c v : ℕ) (IsDone : ℕ → Type 0) (old new : Standing) : Type 0 where
+  pub lengths : SameLengths old new
+  pub each : (d : ℕ) → Same old new d ⊎ WasExpandedTo network c v old new d
+  pub done : (d t : ℕ) → IsDone d → IsExpansion network c v d t → WasOffered old new d (label_by c t)
+
+-- there are a place and a key for each of so many cells
+pub record HasRoom (count : ℕ) (s : Standing) : Type 0 where
+  pub known : length s.known ≡ count
+  pub keys : length s.keys ≡ count
+
+-- the cell is one of the problem, and its last second is told
+pub record IsReady (p : Problem) (from : Ready) : Type 0 where
+  pub inside : from.cell < p.count
+  pub last : from.last ≡ p.network.last from.cell

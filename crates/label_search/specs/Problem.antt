@@ -1,0 +1,43 @@
+-- What is a search asked? A network of numbered cells, how walks may begin, and where they shall end.
+use Rattle.std.specs.Prelude.{◌≡◌, ℕ, ◌^◌, ◌<◌, ◌≤◌, Bool, IsTrue, Option, Some}
+use Rattle.label_core.specs.Walks.{Network, Start}
+use Rattle.label_core.specs.Labels.{IsExpansion}
+use Rattle.label_search.specs.declared.cells.Cell.{Cell}
+use Rattle.label_search.specs.declared.cells.Opening.{Opening}
+use Rattle.label_search.specs.declared.cells.Run.{Run}
+
+-- cells are numbered below the count; those that may follow a cell lie in its runs, of which it has so many
+pub record Problem : Type 0 where
+  pub network : Network ℕ
+  pub starts : ℕ → Option Start
+  pub target : ℕ → Bool
+  pub count : ℕ
+  pub runs : ℕ → ℕ
+  pub run : ℕ → ℕ → Run
+
+-- the cell is in the run
+pub record IsIn (run : Run) (cell : ℕ) : Type 0 where
+  pub from_first : run.first ≤ cell
+  pub until_end : cell < run.until
+
+-- each cell takes a second or longer, times are small enough to be added, and turns and starts are at cells below the count
+pub record IsProblem (p : Problem) : Type 0 where
+  pub takes : (c : ℕ) → 1 ≤ p.network.seconds c
+  pub small_seconds : (c : ℕ) → p.network.seconds c < 2 ^ 31
+  pub small_last : (c : ℕ) → p.network.last c < 2 ^ 31
+  pub small_count : p.count < 2 ^ 32
+  pub turns_in_runs : (c d : ℕ) → IsTrue (p.network.turn c d) → (k : ℕ) × (k < p.runs c) × IsIn (p.run c k) d
+  pub turns_inside : (c d : ℕ) → IsTrue (p.network.turn c d) → (c < p.count) × (d < p.count)
+  pub starts_inside : (c : ℕ) (s : Start) → p.starts c ≡ Some s → c < p.count
+
+-- the cell as the network has it
+abbrev pub cell_of : Network ℕ → ℕ → Cell
+cell_of network c = record { from = network.from c; last = network.last c; seconds = network.seconds c }
+
+abbrev pub start_of : Opening → Start
+start_of o = record { earliest = o.earliest; latest = o.latest; exit_from = o.exit_from }
+
+-- the part is of permitted next cells, and has each cell of the whole run to which cell c, left at `ready`, expands
+pub record IsPartOf (p : Problem) (c ready : ℕ) (whole part : Run) : Type 0 where
+  pub permitted : (d : ℕ) → IsIn part d → IsTrue (p.network.turn c d)
+  pub expansions_in : (d t : ℕ) → IsIn whole d → IsExpansion p.network c ready d t → IsIn part d

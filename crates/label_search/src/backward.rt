@@ -1,0 +1,159 @@
+//! The search backward in time: latest entries, and the route with the latest begin. It is the search forward in a mirror
+//! of time, with the same order of cells.
+ghost use Rattle.std.specs.Prelude.{◌≡◌, ℕ, ◌<◌, ◌-◌, ◌↔◌, option_map, map, reverse, vec_len, IfSome, IfNone, IfOk};
+ghost use Rattle.label_core.specs.BackwardWalks.{IsLatestEntry};
+ghost use Rattle.label_core.specs.BackwardBest.{IsBestBegin, HasNoWalkFrom, IsPickedRouteOn};
+ghost use Rattle.label_core.specs.BackwardTables.{IsAbove};
+ghost use Rattle.label_core.specs.Mirror.{mirror_start, IsUpTo};
+ghost use Rattle.label_search.specs.Problem.{start_of};
+ghost use Rattle.label_search.specs.Backward.{IsBackwardProblem, mirror_problem, mirror_second, mirror_label, mirror_cell_step, finish_of};
+ghost use Rattle.label_search.specs.Labels.{HasValue};
+ghost use Rattle.label_search.specs.Answer.{step_of, best_of, ComesBefore};
+
+use crate::cells::{BackwardCells, Cell, Closing, ForwardCells, Opening, Run};
+use crate::forward::{Found, Route, earliest_exits};
+use crate::labels::Label;
+use crate::pick::CellStep;
+use std::alloc::Global;
+use taxi_base::Memory;
+
+/// The second in which time is mirrored: the last that is small enough.
+const MIRROR: u32 = 2147483647;
+
+/// Cells seen in the mirror: their runs come after, and finishes are starts.
+#[derive(Drop)]
+struct Mirror<'a, C: BackwardCells> {
+    cells: &'a C,
+    ghost fits: { IsUpTo mirror_second (C.backward cells.now).network (C.backward cells.now).finishes },
+}
+
+impl<C: BackwardCells> ForwardCells for Mirror<'_, C> {
+    ghost problem = { λ m. mirror_problem (C.backward m.cells.now) };
+
+    fn count(&self) -> usize {
+        self.cells.count()
+    }
+
+    fn cell(&self, cell: usize) -> Cell {
+        let cell = self.cells.cell(cell);
+        Cell {
+            from: MIRROR.saturating_sub(cell.last),
+            last: MIRROR.saturating_sub(cell.from),
+            seconds: cell.seconds,
+        }
+    }
+
+    fn start(&self, cell: usize) -> Option<Opening> {
+        match self.cells.finish(cell) {
+            None => None,
+            Some(finish) => Some(opening_of(finish)),
+        }
+    }
+
+    fn is_target(&self, cell: usize) -> bool {
+        self.cells.is_source(cell)
+    }
+
+    fn runs(&self, cell: usize) -> usize {
+        self.cells.runs_before(cell)
+    }
+
+    fn run(&self, cell: usize, run: usize, ready: u32) -> Run {
+        self.cells
+            .run_before(cell, run, MIRROR.saturating_sub(ready))
+    }
+}
+
+/// How a walk may begin in the mirror that ends so.
+fn opening_of(finish: Closing) -> Opening
+    ensures { start_of result ≡ mirror_start mirror_second (finish_of finish) }
+{
+    Opening {
+        earliest: MIRROR.saturating_sub(finish.latest_out),
+        latest: MIRROR.saturating_sub(finish.earliest_out),
+        exit_from: 0,
+    }
+}
+
+/// The step in the mirror.
+fn mirror_step(step: CellStep) -> CellStep
+    ensures { result ≡ mirror_cell_step step }
+{
+    CellStep {
+        cell: step.cell,
+        enter: MIRROR.saturating_sub(step.leave),
+        leave: MIRROR.saturating_sub(step.enter),
+    }
+}
+
+/// The label, if there is one, in the mirror.
+fn mirror_known(known: Option<Label>) -> Option<Label>
+    ensures { result ≡ option_map mirror_label known }
+{
+    match known {
+        None => None,
+        Some(label) => Some(Label {
+            value: MIRROR.saturating_sub(label.value),
+            via: label.via,
+        }),
+    }
+}
+
+/// The labels in the mirror.
+fn mirror_labels(labels: Vec<Option<Label>>) -> Vec<Option<Label>>
+    ensures length { vec_len result ≡ vec_len labels }
+    ensures items { result.items ≡ map (option_map mirror_label) labels.items }
+{
+    let mut labels = labels;
+    for cell in 0..labels.len() {
+        labels[cell] = mirror_known(labels[cell]);
+    }
+    labels
+}
+
+/// The steps in the mirror, the last one first.
+fn mirror_steps(steps: Vec<CellStep>) -> Vec<CellStep>
+    ensures { result.items ≡ map mirror_cell_step (reverse steps.items) }
+{
+    let mut steps = steps;
+    steps.reverse();
+    for at in 0..steps.len() {
+        steps[at] = mirror_step(steps[at]);
+    }
+    steps
+}
+
+/// The route in the mirror, if there is one.
+fn mirror_route(route: Option<Route>) -> Option<Route>
+    ensures best { best_of result ≡ option_map (λ n. mirror_second - n) (best_of route) }
+    ensures steps { IfSome result (λ r. IfSome route (λ f. r.steps.items ≡ map mirror_cell_step (reverse f.steps.items))) }
+{
+    match route {
+        None => None,
+        Some(route) => Some(Route {
+            steps: mirror_steps(route.steps),
+            best: MIRROR.saturating_sub(route.best),
+        }),
+    }
+}
+
+/// The picked one of the walks that begin latest, if there is a walk, and all latest entries after its begin. Where there
+/// is no walk the table has all latest entries.
+pub fn latest_entries<C: BackwardCells>(alloc: Global, cells: &C) -> Result<Found, Memory>
+    requires sound { IsBackwardProblem (C.backward cells.now) }
+    ensures length { IfOk result (λ found. vec_len found.labels ≡ (C.backward cells.now).count) }
+    ensures table { IfOk result (λ found. (c v : ℕ) → HasValue found.labels.items c v
+        ↔ (IsLatestEntry (C.backward cells.now).network (C.backward cells.now).finishes c v × IsAbove (best_of found.route) v)) }
+    ensures best { IfOk result (λ found. IfSome (best_of found.route)
+        (IsBestBegin (C.backward cells.now).network (C.backward cells.now).finishes (C.backward cells.now).source)) }
+    ensures picked { IfOk result (λ found. IfSome found.route (λ r. IsPickedRouteOn (C.backward cells.now).network (C.backward cells.now).finishes ComesBefore
+        (C.backward cells.now).source r.best (map step_of r.steps.items))) }
+    ensures none { IfOk result (λ found. IfNone (best_of found.route)
+        (HasNoWalkFrom (C.backward cells.now).network (C.backward cells.now).finishes (C.backward cells.now).source)) }
+{
+    let found = earliest_exits(alloc, &Mirror { cells })?;
+    Ok(Found {
+        labels: mirror_labels(found.labels),
+        route: mirror_route(found.route),
+    })
+}

@@ -1,0 +1,102 @@
+//! What a search is asked: cells by their numbers, and which may follow which.
+ghost use Rattle.std.specs.Prelude.{◌≡◌, ◌<◌, option_map};
+ghost use Rattle.label_search.specs.Problem.{Problem, cell_of, start_of, IsPartOf};
+ghost use Rattle.label_search.specs.Backward.{BackwardProblem, finish_of, IsBackwardPartOf};
+
+/// A cell's window, from its first second to the last at which a step in it may leave, and the seconds that it takes.
+#[derive(Clone, Copy)]
+pub struct Cell {
+    pub from: u32,
+    pub last: u32,
+    pub seconds: u32,
+}
+
+/// How a walk may begin in a cell: when it may enter, and when it may leave at the earliest.
+#[derive(Clone, Copy)]
+pub struct Opening {
+    pub earliest: u32,
+    pub latest: u32,
+    pub exit_from: u32,
+}
+
+/// How a walk may end in a cell: when it may leave.
+#[derive(Clone, Copy)]
+pub struct Closing {
+    pub earliest_out: u32,
+    pub latest_out: u32,
+}
+
+/// Cells with numbers from `first` until before `until`.
+#[derive(Clone, Copy)]
+pub struct Run {
+    pub first: usize,
+    pub until: usize,
+}
+
+/// A network of cells, how walks may begin in it, and where they shall end.
+pub trait ForwardCells {
+    ghost problem: { Self → Problem };
+
+    /// How many cells there are.
+    fn count(&self) -> usize
+        ensures { result ≡ (problem self.now).count };
+
+    fn cell(&self, cell: usize) -> Cell
+        requires { cell < (problem self.now).count }
+        ensures { result ≡ cell_of (problem self.now).network cell };
+
+    /// How a walk may begin in the cell, if one may.
+    fn start(&self, cell: usize) -> Option<Opening>
+        requires { cell < (problem self.now).count }
+        ensures { option_map start_of result ≡ (problem self.now).starts cell };
+
+    /// Whether a walk may end in the cell.
+    fn is_target(&self, cell: usize) -> bool
+        requires { cell < (problem self.now).count }
+        ensures { result ≡ (problem self.now).target cell };
+
+    /// How many runs of cells may follow the cell.
+    fn runs(&self, cell: usize) -> usize
+        requires { cell < (problem self.now).count }
+        ensures { result ≡ (problem self.now).runs cell };
+
+    /// The part of a run that a walk can go on to which may leave the cell from `ready` on.
+    fn run(&self, cell: usize, run: usize, ready: u32) -> Run
+        requires inside { cell < (problem self.now).count }
+        requires is_run { run < (problem self.now).runs cell }
+        ensures { IsPartOf (problem self.now) cell ready ((problem self.now).run cell run) result };
+}
+
+/// A network of cells, how walks may end in it, and where they shall begin.
+pub trait BackwardCells {
+    ghost backward: { Self → BackwardProblem };
+
+    /// How many cells there are.
+    fn count(&self) -> usize
+        ensures { result ≡ (backward self.now).count };
+
+    fn cell(&self, cell: usize) -> Cell
+        requires { cell < (backward self.now).count }
+        ensures { result ≡ cell_of (backward self.now).network cell };
+
+    /// How a walk may end in the cell, if one may.
+    fn finish(&self, cell: usize) -> Option<Closing>
+        requires { cell < (backward self.now).count }
+        ensures { option_map finish_of result ≡ (backward self.now).finishes cell };
+
+    /// Whether a walk may begin in the cell.
+    fn is_source(&self, cell: usize) -> bool
+        requires { cell < (backward self.now).count }
+        ensures { result ≡ (backward self.now).source cell };
+
+    /// How many runs of cells may come before the cell.
+    fn runs_before(&self, cell: usize) -> usize
+        requires { cell < (backward self.now).count }
+        ensures { result ≡ (backward self.now).runs cell };
+
+    /// The part of a run from which a walk can come that may enter the cell until `ready`.
+    fn run_before(&self, cell: usize, run: usize, ready: u32) -> Run
+        requires inside { cell < (backward self.now).count }
+        requires is_run { run < (backward self.now).runs cell }
+        ensures { IsBackwardPartOf (backward self.now) cell ready ((backward self.now).run cell run) result };
+}

@@ -1,0 +1,92 @@
+//! Expanding a cell: what a walk that can leave it adds to the labels of the cells that may follow.
+ghost use Rattle.std.specs.Prelude.{◌≡◌, ℕ, ◌+◌, ◌<◌, ◌≤◌, ◌^◌, ◌↔◌, max, length, IsTrue, IfSome, IfNone, IsSomeAnd, ⊤};
+ghost use Rattle.label_search.specs.Problem.{IsProblem, IsIn};
+ghost use Rattle.label_search.specs.Labels.{standing};
+ghost use Rattle.label_search.specs.Expanding.{IsExpanded, HasRoom, IsReady};
+
+use crate::cells::{Cell, ForwardCells, Run};
+use crate::labels::{Label, Labels};
+
+/// A cell that is expanded: its number, the last second at which a step in it may leave, and the soonest at which a walk
+/// can leave it.
+#[derive(Clone, Copy)]
+pub(crate) struct Ready {
+    pub(crate) cell: usize,
+    pub(crate) last: u32,
+    pub(crate) at: u32,
+}
+
+/// When a walk that goes on from the cell to the next leaves that at the soonest, if it may go on.
+fn leave_after(from: Ready, next: Cell) -> Option<u32>
+    requires small_last { next.last < 2 ^ 31 }
+    requires small_seconds { next.seconds < 2 ^ 31 }
+    ensures value { IfSome result (λ t. t ≡ max from.at next.from + next.seconds) }
+    ensures held { IfSome result (λ t. max from.at next.from ≤ from.last) }
+    ensures in_time { IfSome result (λ t. t ≤ next.last) }
+    ensures none { IfNone result (max from.at next.from ≤ from.last → max from.at next.from + next.seconds ≤ next.last → ⊥) }
+{
+    let enter = from.at.max(next.from);
+    if enter > from.last || enter > next.last {
+        return None;
+    }
+    let leave = enter + next.seconds;
+    if leave > next.last { None } else { Some(leave) }
+}
+
+/// Whether there is a label with a value no later than this.
+fn is_known_by(known: Option<Label>, time: u32) -> bool
+    ensures { IsTrue result ↔ IsSomeAnd known (λ l. l.value ≤ time) }
+{
+    match known {
+        None => false,
+        Some(label) => label.value <= time,
+    }
+}
+
+/// Offers the next cell its expansion. One that can't better its label is skipped early.
+fn expand_to<C: ForwardCells>(cells: &C, from: Ready, next: usize, labels: &mut Labels)
+    requires sound { IsProblem (C.problem cells.now) }
+    requires room { HasRoom (C.problem cells.now).count (standing labels.old) }
+    requires ready { IsReady (C.problem cells.now) from }
+    requires permitted { IsTrue ((C.problem cells.now).network.turn from.cell next) }
+    ensures { IsExpanded (C.problem cells.now).network from.cell from.at (λ d. d ≡ next) (standing labels.old) (standing labels.new) }
+{
+    if is_known_by(labels.known[next], from.at) {
+        return;
+    }
+    if let Some(value) = leave_after(from, cells.cell(next)) {
+        labels.offer(
+            next,
+            Label {
+                value,
+                via: from.cell as u32,
+            },
+        );
+    }
+}
+
+/// Offers each cell of the part of a run its expansion.
+fn expand_run<C: ForwardCells>(cells: &C, from: Ready, run: Run, labels: &mut Labels)
+    requires sound { IsProblem (C.problem cells.now) }
+    requires room { HasRoom (C.problem cells.now).count (standing labels.old) }
+    requires ready { IsReady (C.problem cells.now) from }
+    requires permitted { (d : ℕ) → IsIn run d → IsTrue ((C.problem cells.now).network.turn from.cell d) }
+    ensures { IsExpanded (C.problem cells.now).network from.cell from.at (IsIn run) (standing labels.old) (standing labels.new) }
+{
+    for next in run.first..run.until {
+        expand_to(cells, from, next, labels);
+    }
+}
+
+/// Offers each cell that may follow its expansion.
+pub(crate) fn expand<C: ForwardCells>(cells: &C, from: Ready, labels: &mut Labels)
+    requires sound { IsProblem (C.problem cells.now) }
+    requires room { HasRoom (C.problem cells.now).count (standing labels.old) }
+    requires ready { IsReady (C.problem cells.now) from }
+    ensures { IsExpanded (C.problem cells.now).network from.cell from.at (λ d. ⊤) (standing labels.old) (standing labels.new) }
+{
+    for run in 0..cells.runs(from.cell) {
+        let part = cells.run(from.cell, run, from.at);
+        expand_run(cells, from, part, labels);
+    }
+}

@@ -1,0 +1,124 @@
+//! Cells in a list: the plain way to give a small network.
+ghost use Rattle.std.specs.Prelude.{◌<◌, ◌^◌, ◌↔◌, length, IsTrue, All, IfSome};
+ghost use Rattle.label_search.specs.Problem.{IsProblem};
+ghost use Rattle.label_search.specs.Backward.{IsBackwardProblem};
+ghost use Rattle.label_search.specs.Listed.{listed_problem, listed_backward, IsFit};
+
+use crate::cells::{BackwardCells, Cell, Closing, ForwardCells, Opening, Run};
+
+/// A cell, how a walk may begin or end there, whether the search may end there, and two runs of cells beside it: for a
+/// search forward those that may follow, for one backward those that may come before.
+#[derive(Clone, Copy)]
+pub struct ListedCell {
+    pub cell: Cell,
+    pub opening: Option<Opening>,
+    pub closing: Option<Closing>,
+    pub is_goal: bool,
+    pub near: Run,
+    pub far: Run,
+}
+
+const TIMES: u32 = 2147483648;
+
+/// Whether the cell is fit for a list of so many.
+fn is_fit(cell: &ListedCell, count: usize) -> bool
+    ensures { IsTrue result ↔ IsFit count cell.now }
+{
+    let is_small = cell.cell.from < TIMES && cell.cell.last < TIMES && cell.cell.seconds < TIMES;
+    let closes = match cell.closing {
+        None => true,
+        Some(closing) => closing.earliest_out < TIMES,
+    };
+    let has_runs = cell.near.until <= count && cell.far.until <= count;
+    cell.cell.seconds >= 1 && is_small && closes && has_runs
+}
+
+/// Whether the cells can be searched: each takes a second or longer, times are below 2^31, and runs are of cells of the list.
+pub fn are_fit(cells: &[ListedCell]) -> bool
+    ensures forward { IsTrue result → IsProblem (listed_problem cells.now) }
+    ensures backward { IsTrue result → IsBackwardProblem (listed_backward cells.now) }
+    ensures exact { IsTrue result ↔ (All (IsFit (length cells.now)) cells.now × (length cells.now < 2 ^ 32)) }
+{
+    for cell in cells {
+        if !is_fit(cell, cells.len()) {
+            return false;
+        }
+    }
+    cells.len() < 4294967296
+}
+
+/// Cells whose runs are of those that may follow.
+#[derive(Clone, Copy)]
+pub struct ForwardList<'a> {
+    pub cells: &'a [ListedCell],
+}
+
+impl ForwardCells for ForwardList<'_> {
+    ghost problem = { λ l. listed_problem l.cells.now };
+
+    fn count(&self) -> usize {
+        self.cells.len()
+    }
+
+    fn cell(&self, cell: usize) -> Cell {
+        self.cells[cell].cell
+    }
+
+    fn start(&self, cell: usize) -> Option<Opening> {
+        self.cells[cell].opening
+    }
+
+    fn is_target(&self, cell: usize) -> bool {
+        self.cells[cell].is_goal
+    }
+
+    fn runs(&self, _cell: usize) -> usize {
+        2
+    }
+
+    fn run(&self, cell: usize, run: usize, _ready: u32) -> Run {
+        if run == 0 {
+            self.cells[cell].near
+        } else {
+            self.cells[cell].far
+        }
+    }
+}
+
+/// Cells whose runs are of those that may come before.
+#[derive(Clone, Copy)]
+pub struct BackwardList<'a> {
+    pub cells: &'a [ListedCell],
+}
+
+impl BackwardCells for BackwardList<'_> {
+    ghost backward = { λ l. listed_backward l.cells.now };
+
+    fn count(&self) -> usize {
+        self.cells.len()
+    }
+
+    fn cell(&self, cell: usize) -> Cell {
+        self.cells[cell].cell
+    }
+
+    fn finish(&self, cell: usize) -> Option<Closing> {
+        self.cells[cell].closing
+    }
+
+    fn is_source(&self, cell: usize) -> bool {
+        self.cells[cell].is_goal
+    }
+
+    fn runs_before(&self, _cell: usize) -> usize {
+        2
+    }
+
+    fn run_before(&self, cell: usize, run: usize, _ready: u32) -> Run {
+        if run == 0 {
+            self.cells[cell].near
+        } else {
+            self.cells[cell].far
+        }
+    }
+}
