@@ -1,0 +1,55 @@
+-- The times of a table that is kept as a list of rows of any kind.
+use Rattle.std.proofs.Common.{◌≡◌, ℕ, ◌<◌, ◌≤◌, List, [], length, map, get_or, set, Option, Some, None, sym, ◌∙◌, ap, subst, inl, inr}
+use Rattle.std.specs.Prelude.{All, IfSome}
+use Rattle.std.proofs.lemmas.Bool.{cases_lt}
+use Rattle.std.proofs.lemmas.List.{get_or_past, get_or-map, map-set, length-set, length-map}
+use Rattle.std.proofs.lemmas.List.Elements.{All-nil, All-set}
+use Rattle.taxi_base.specs.declared.numbers.Class.{Class}
+use Rattle.taxi_base.specs.declared.numbers.Segment.{Segment}
+use Rattle.taxi_base.specs.Airport.{seconds_in}
+use Rattle.aircraft_class.specs.Times.{Times, AreTimes, IsTime}
+
+-- the row that is kept at a place
+pub get_or-row : {V : Type 0} (f : V → List (Option ℕ)) (rows : List V) (k : ℕ) (row : V) → k < length rows → row ≡ get_or rows k row → get_or (map f rows) k [] ≡ f row
+get_or-row f rows k row low is = get_or-map f rows k row [] low ∙ ap f (sym is)
+
+pub seconds_in-row : {V : Type 0} (f : V → List (Option ℕ)) (rows : List V) (class : Class) (segment : Segment) (row : V)
+    → class.0 < length rows → row ≡ get_or rows class.0 row → seconds_in (map f rows) class segment ≡ get_or (f row) segment.0 None
+unfolding seconds_in
+seconds_in-row f rows class segment row low is = ap (λ r. get_or r segment.0 None) (get_or-row f rows class.0 row low is)
+
+pub seconds_in-past : {V : Type 0} (f : V → List (Option ℕ)) (rows : List V) (class : Class) (segment : Segment)
+    → length rows ≤ class.0 → seconds_in (map f rows) class segment ≡ None
+unfolding seconds_in
+seconds_in-past f rows class segment past =
+    let beyond : length (map f rows) ≤ class.0 = rw (length-map rows f) past in
+    ap (λ r. get_or r segment.0 None) (get_or_past (map f rows) class.0 [] beyond)
+
+-- what holds of each element and of the default holds at each index
+All-at : {X : Type 0} (P : X → Type 0) (xs : List X) (k : ℕ) (d : X) → P d → All P xs → P (get_or xs k d)
+All-at P xs k d default all =
+    elim (cases_lt k (length xs)) [ inl low ↦ all k d low | inr past ↦ subst P (sym (get_or_past xs k d past)) default ]
+
+abbrev IsPlace : Option ℕ → Type 0
+IsPlace place = IfSome place IsTime
+
+pub seconds_in-range : (table : List (List (Option ℕ))) (class : Class) (segment : Segment) → All (All (λ place. IfSome place IsTime)) table → IfSome (seconds_in table class segment) IsTime
+unfolding seconds_in
+seconds_in-range table class segment range =
+    All-at IsPlace (get_or table class.0 []) segment.0 None tt (All-at (All IsPlace) table class.0 [] (All-nil IsPlace) range)
+
+-- what a write to a place of a row leaves
+pub map-set_place : {V : Type 0} (f : V → List (Option ℕ)) (rows : List V) (k : ℕ) (row new : V) (segment : ℕ) (place : Option ℕ) → k < length rows → row ≡ get_or rows k row
+    → f new ≡ set (f row) segment place → map f (set rows k new) ≡ set (map f rows) k (set (get_or (map f rows) k []) segment place)
+map-set_place f rows k row new segment place low is changed =
+    map-set f rows k new ∙ ap (set (map f rows) k) (changed ∙ ap (λ r. set r segment place) (sym (get_or-row f rows k row low is)))
+
+pub AreTimes-set : (times : Times) (class segment n : ℕ) → AreTimes times → class < length times.table → IsTime n
+    → AreTimes (record { segments = times.segments; table = set times.table class (set (get_or times.table class []) segment (Some n)) })
+AreTimes-set times class segment n are low is_time =
+    let row = get_or times.table class [] in
+    record {
+      few = rw (length-set times.table class (set row segment (Some n))) are.few;
+      rows = All-set (λ r. length r ≡ times.segments) times.table class (set row segment (Some n)) (length-set row segment (Some n) ∙ are.rows class [] low) are.rows;
+      range = All-set (All IsPlace) times.table class (set row segment (Some n)) (All-set IsPlace row segment (Some n) is_time (are.range class [] low)) are.range;
+    }

@@ -1,0 +1,99 @@
+//! How long each class of aircraft takes on each segment at least.
+#![tactic(auto)]
+
+ghost use Rattle.std.specs.Prelude.{◌≡◌, ◌+◌, ◌<◌, ◌≤◌, ◌++◌, ◌∷◌, [], Some, None, length, replicate, slice_set, slice_index_or, IfSome, IfOk, OnOk, OnErr};
+ghost use Rattle.taxi_base.specs.Airport.{seconds_in};
+ghost use Rattle.aircraft_class.specs.Times.{Times, IsTime};
+
+use std::alloc::Global;
+use std::marker::Model;
+use taxi_base::{Class, Memory, Segment};
+
+/// A table of least times, in seconds, by class and segment. A class may not use a segment where it has no time.
+#[derive(Drop)]
+pub struct Classes {
+    segments: usize,
+    rows: Vec<Vec<Option<u32>>>,
+}
+
+impl Model for Classes {
+    ghost use Rattle.std.specs.Prelude.{map};
+    ghost use Rattle.aircraft_class.specs.Times.{Times, AreTimes};
+
+    ghost Value = { Times };
+
+    ghost view = { λ c. record { segments = c.segments; table = map (λ row. row.items) c.rows.items } };
+
+    ghost invariant = { λ c. AreTimes (record { segments = c.segments; table = map (λ row. row.items) c.rows.items }) };
+}
+
+impl Classes {
+    /// No class yet, on so many segments.
+    pub fn new(alloc: Global, segments: usize) -> Result<Classes, Memory>
+        ensures { IfOk result (λ c. c ≡ record { segments = segments; table = [] }) }
+    {
+        let rows = Vec::with_capacity(alloc, MOST_CLASSES)?;
+        Ok(Classes { segments, rows })
+    }
+
+    /// One more class, which may use no segment yet.
+    pub fn class(&mut self) -> Result<Class, Memory>
+        requires { length self.old.table < 32 }
+        ensures number { IfOk result (λ c. c.0 ≡ length self.old.table) }
+        ensures ok { OnOk result (self.new ≡ record self.old { table = self.old.table ++ replicate self.old.segments None ∷ [] }) }
+        ensures err { OnErr result (self.new ≡ self.old) }
+    {
+        let class = Class(self.rows.len() as u32);
+        let row = Vec::from_elem(*self.rows.allocator(), None, self.segments)?;
+        self.rows.push(row)?;
+        Ok(class)
+    }
+
+    /// Sets a class's least time on a segment, in seconds.
+    pub fn set(&mut self, class: Class, segment: Segment, seconds: u32)
+        requires class { class.0 < length self.old.table }
+        requires segment { segment.0 < self.old.segments }
+        requires seconds { IsTime seconds }
+        ensures { self.new ≡ record self.old { table = slice_set self.old.table class.0 (slice_set (slice_index_or self.old.table class.0 []) segment.0 (Some seconds)) } }
+    {
+        let row = &mut self.rows[class.0 as usize];
+        row[segment.0 as usize] = Some(seconds);
+    }
+
+    /// A class's least time on a segment, in seconds; none where it was not set.
+    pub fn seconds(&self, class: Class, segment: Segment) -> Option<u32>
+        ensures set { result ≡ seconds_in self.now.table class segment }
+        ensures range { IfSome result IsTime }
+    {
+        match self.rows.get(class.0 as usize) {
+            Some(row) => time_in(row, segment),
+            None => None,
+        }
+    }
+}
+
+fn time_in(row: &[Option<u32>], segment: Segment) -> Option<u32>
+    ensures { result ≡ slice_index_or row.now segment.0 None }
+{
+    row.get(segment.0 as usize).copied().flatten()
+}
+
+const MOST_CLASSES: usize = 32;
+
+#[cfg(test)]
+mod tests {
+    use super::*;
+    use std::test::Fail;
+
+    #[test]
+    fn times_are_kept_by_class_and_segment(rt: HostRuntime) -> Result<(), Fail> {
+        let mut classes = Classes::new(rt.alloc(), 4)?;
+        let medium = classes.class()?;
+        assert_eq!(rt; classes.seconds(medium, Segment(3)), None);
+        classes.set(medium, Segment(3), 15);
+        assert_eq!(rt; classes.seconds(medium, Segment(3)), Some(15));
+        assert_eq!(rt; classes.seconds(medium, Segment(4)), None);
+        assert_eq!(rt; classes.seconds(Class(1), Segment(3)), None);
+        Ok(())
+    }
+}

@@ -1,0 +1,4 @@
+mod CsvRecords
+mod PlainLines
+mod BuildLaws
+mod ReadLaws

@@ -1,0 +1,43 @@
+-- How the records are judged one after the other.
+use Rattle.std.proofs.Common.{◌≡◌, ℕ, ◌+◌, List, [], ◌∷◌, Ok, Err, Option, Some, None, zero, suc, refl, ap, sym, ◌∙◌, ◌++◌, ◌<◌, take, drop, map, length, get_or, arith, drop-cons}
+use Rattle.std.specs.Borrow.{Bor}
+use Rattle.std.proofs.lemmas.List.{map-append, take_more}
+use Rattle.std.proofs.lemmas.Option.{get_or_from_slice_get, slice_get_within}
+use Rattle.airport_rules.specs.Judged.{texts_of}
+use Rattle.std.specs.Prelude.{Result, slice_get}
+use Rattle.csv.specs.Records.{Row, fields_of, field_at}
+use Rattle.airport_rules.specs.declared.faults.AirportFault.{AirportFault}
+use Rattle.airport_rules.specs.Plan.{Plan}
+use Rattle.airport_rules.specs.Rules.{judge}
+use Rattle.airport_file.specs.Reading.{judged_after}
+
+-- a record that breaks no rule
+pub judged-taken : (last : ℕ) (plan new : Plan) (row : List (List ℕ)) (rows : List (List (List ℕ))) → judge plan row ≡ Ok new → judged_after last plan (row ∷ rows) ≡ judged_after (last + 1) new rows
+judged-taken last plan new row rows e = rw e refl
+
+pub judged-refused : (last : ℕ) (plan : Plan) (row : List (List ℕ)) (rows : List (List (List ℕ))) (why : AirportFault) → judge plan row ≡ Err why
+    → judged_after last plan (row ∷ rows) ≡ Err (record { at = last + 1; why = why })
+judged-refused last plan row rows why e = rw e refl
+
+pub field_at-get : (fields : List (List ℕ)) (i : ℕ) → field_at fields i ≡ slice_get fields i
+unfolding field_at
+field_at-get [] i = refl
+field_at-get (f ∷ fields) zero = refl
+field_at-get (f ∷ fields) (suc i) = field_at-get fields i
+
+-- the fields so far and one more
+pub texts-more : (got : List (Bor (List ℕ))) (f : Bor (List ℕ)) (fields : List (List ℕ)) (i : ℕ) → texts_of got ≡ take i fields → Some f.now ≡ field_at fields i
+    → texts_of (got ++ f ∷ []) ≡ take (i + 1) fields
+texts-more got f fields i e at =
+    let found : slice_get fields i ≡ Some f.now = sym (field_at-get fields i) ∙ sym at in
+    map-append (λ (f : Bor (List ℕ)). f.now) got (f ∷ []) ∙ ap (λ xs. xs ++ f.now ∷ []) e
+    ∙ ap (λ x. take i fields ++ x ∷ []) (sym (get_or_from_slice_get fields i f.now [] found)) ∙ sym (take_more fields i [] (slice_get_within fields i f.now found))
+
+-- the records from a place on, the first of which breaks no rule
+pub judged-more : (records : List Row) (k : ℕ) (item : Row) (plan new : Plan) → item ≡ get_or records k item → k < length records → judge plan (fields_of item) ≡ Ok new
+    → judged_after (k + 1) plan (map fields_of (drop k records)) ≡ judged_after (k + 1 + 1) new (map fields_of (drop (k + 1) records))
+judged-more records k item plan new is low due =
+    let next : suc k ≡ k + 1 = omega arith in
+    ap (λ rs. judged_after (k + 1) plan (map fields_of rs)) (drop-cons records k item low ∙ ap (λ x. x ∷ drop (suc k) records) (sym is))
+    ∙ judged-taken (k + 1) plan new (fields_of item) (map fields_of (drop (suc k) records)) due
+    ∙ ap (λ n. judged_after (k + 1 + 1) new (map fields_of (drop n records))) next

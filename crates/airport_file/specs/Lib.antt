@@ -1,0 +1,4 @@
+pub mod Reading
+pub mod Plain
+pub mod Built
+pub mod Refused

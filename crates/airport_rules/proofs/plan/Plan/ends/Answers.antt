@@ -1,0 +1,29 @@
+-- An arc's number says its segment and its direction.
+use Rattle.std.proofs.Common.{◌≡◌, ◌∙◌, ◌/◌, arith, map, refl, Some, None, ap}
+use Rattle.std.specs.Prelude.{slice_get}
+use Rattle.std.proofs.lemmas.Grind.{common_steps}
+use Rattle.std.proofs.lemmas.Option.{gets}
+use Rattle.airport_rules.specs.Plan.{layout_of_plan}
+use Rattle.airport_rules.specs.Indexed.{link_of_way}
+use Rattle.airport_rules.proofs.ArcLaws.{ends-none, ends-forward, ends-backward}
+use Rattle.airport_rules.proofs.plan.Plan.ends.Goals as goal
+
+pub returns-in_err-way : goal.returns-in_err-way
+returns-in_err-way c =
+    let none : slice_get c.self.inside.ways.items (c.args.arc.0 / 2) ≡ None = grind (arith, common_steps, gets, c.in_err-way.ensures.lookup) in
+    rw (c.from_residual.ensures, ends-none (layout_of_plan c.args.self.now) c.self.inside.ways.items c.args.arc (rw (← c.self.view_is) refl) none) refl
+
+pub returns-then-arc-eq0 : goal.returns-then-arc-eq0
+returns-then-arc-eq0 c =
+    let found : slice_get c.self.inside.ways.items (c.args.arc.0 / 2) ≡ Some c.in_ok-way.way.now = grind (arith, common_steps, gets, c.in_ok-way.ensures.lookup) in
+    rw (ends-forward (layout_of_plan c.args.self.now) c.self.inside.ways.items c.args.arc c.in_ok-way.way.now (rw (← c.self.view_is) refl) found c.if-arc-eq0.true) refl
+
+pub returns-then-way : goal.returns-then-way
+returns-then-way c =
+    let found : slice_get c.self.inside.ways.items (c.args.arc.0 / 2) ≡ Some c.in_ok-way.way.now = grind (arith, common_steps, gets, c.in_ok-way.ensures.lookup) in
+    rw (ends-backward (layout_of_plan c.args.self.now) c.self.inside.ways.items c.args.arc c.in_ok-way.way.now (rw (← c.self.view_is) refl) found c.if-arc-eq0.false, c.if-way.true) refl
+
+pub returns-else-way : goal.returns-else-way
+returns-else-way c =
+    let found : slice_get c.self.inside.ways.items (c.args.arc.0 / 2) ≡ Some c.in_ok-way.way.now = grind (arith, common_steps, gets, c.in_ok-way.ensures.lookup) in
+    rw (ends-backward (layout_of_plan c.args.self.now) c.self.inside.ways.items c.args.arc c.in_ok-way.way.now (rw (← c.self.view_is) refl) found c.if-arc-eq0.false, c.if-way.false) refl

@@ -1,0 +1,17 @@
+//! The rules of the records of an airport file.
+#![tactic(auto)]
+
+mod faults;
+mod judging;
+mod laws;
+mod members;
+mod plan;
+mod record;
+mod rows;
+
+pub use faults::{AirportFault, LimitKind};
+pub use judging::NotTaken;
+pub use laws::{sound_plans, well_formed_airports};
+pub use plan::Plan;
+pub use record::judge;
+pub use rows::{Taxiway, TimeRow};

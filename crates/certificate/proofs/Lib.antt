@@ -1,0 +1,4 @@
+pub mod LineLaws
+pub mod FiledLaws
+pub mod GrammarLaws
+pub mod ReplyLaws

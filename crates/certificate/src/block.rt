@@ -1,0 +1,35 @@
+//! What answers a command.
+use taxi_base::{LabelRow, List, Name, Refusal, Segment, Span, Step, Time};
+
+/// What is answered to one command. Arcs, segments and nodes are those of the airport that the block is for.
+#[derive(Drop)]
+pub enum Block {
+    /// The command changes nothing, and why.
+    Refused(Refusal),
+    /// A route given by hand is in force from `start` to `end`.
+    Filed {
+        flight: Name,
+        start: Time,
+        end: Time,
+    },
+    /// The flight is no longer in force.
+    Cancelled {
+        flight: Name,
+    },
+    /// A route was found. `second` is the end of an arrival, and the pushback of a departure.
+    Route {
+        flight: Name,
+        second: Time,
+        steps: List<Step>,
+        labels: List<LabelRow>,
+    },
+    /// No walk does what was asked for.
+    NoRoute {
+        labels: List<LabelRow>,
+    },
+    /// The free windows of a segment.
+    Windows {
+        segment: Segment,
+        windows: List<Span>,
+    },
+}

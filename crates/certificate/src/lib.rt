@@ -1,0 +1,10 @@
+//! The replies to commands: which reply is due, and how a reply is written.
+#![tactic(auto)]
+
+mod block;
+mod laws;
+mod short;
+
+pub use block::Block;
+pub use laws::replies_keep_flights_sound;
+pub use short::print_short;

@@ -1,0 +1,160 @@
+//! Short blocks, written without taking memory: one line of at most 64 bytes.
+ghost use Rattle.std.specs.Prelude.{◌≡◌, ◌+◌, ◌≤◌, ◌<◌, ◌^◌, ◌∷◌, ◌++◌, [], List, length, decimal, codes, Some, None, is_none, IfSome};
+ghost use Rattle.taxi_base.specs.Airport.{Airport as Plain};
+ghost use Rattle.certificate.specs.declared.block.Block.TheVariants.{Refused, Filed, Cancelled};
+ghost use Rattle.certificate.specs.Texts.{line_text, cause_words, refusal_words, block_text, is_long, and_word, and_words};
+
+use crate::Block;
+use airport_file::Airport;
+use itoa::Buffer;
+use taxi_base::{Name, Refusal, StepCause, StepFault, Time};
+use taxi_text::ShortText;
+
+/// The text of a block that has no rows, whatever the airport. None exactly for a block that may have some. It takes no
+/// memory.
+pub fn print_short(airport: &Airport, block: &Block) -> Option<ShortText>
+    ensures long { is_none result ≡ is_long block.now }
+    ensures text { IfSome result (λ text. text ≡ block_text airport.now block.now) }
+{
+    let _names = airport;
+    short_text(block)
+}
+
+// The same without an airport: a block with no rows names nothing of it.
+fn short_text(block: &Block) -> Option<ShortText>
+    ensures long { is_none result ≡ is_long block.now }
+    ensures text { (airport : Plain) → IfSome result (λ text. text ≡ block_text airport block.now) }
+{
+    match block {
+        Block::Refused(why) => Some(refused_text(why)),
+        Block::Filed { flight, start, end } => Some(filed_text(flight, *start, *end)),
+        Block::Cancelled { flight } => Some(cancelled_text(flight)),
+        Block::Route { .. } | Block::NoRoute { .. } | Block::Windows { .. } => None,
+    }
+}
+
+fn filed_text(flight: &Name, start: Time, end: Time) -> ShortText
+    ensures { result ≡ line_text (codes "filed" ∷ flight.now ∷ decimal start ∷ decimal end ∷ []) }
+{
+    let mut text = begin_line(b"filed");
+    push_word(&mut text, flight.bytes());
+    push_decimal(&mut text, start);
+    push_decimal(&mut text, end);
+    end_line(&mut text);
+    text
+}
+
+fn cancelled_text(flight: &Name) -> ShortText
+    ensures { result ≡ line_text (codes "cancelled" ∷ flight.now ∷ []) }
+{
+    let mut text = begin_line(b"cancelled");
+    push_word(&mut text, flight.bytes());
+    end_line(&mut text);
+    text
+}
+
+fn begin_line(word: &[u8]) -> ShortText
+    requires { length word.now ≤ 64 }
+    ensures { result ≡ word.now }
+{
+    let mut text = ShortText::new();
+    text.push(word);
+    text
+}
+
+fn push_word(text: &mut ShortText, word: &[u8])
+    requires { length text.old + 1 + length word.now ≤ 64 }
+    ensures { text.new ≡ and_word text.old word.now }
+{
+    text.push(b" ");
+    text.push(word);
+}
+
+// A number below 2^32 has at most 10 digits.
+fn push_decimal(text: &mut ShortText, number: u32)
+    requires { length text.old + 11 ≤ 64 }
+    ensures text { text.new ≡ and_word text.old (decimal number) }
+    ensures length { length text.new ≤ length text.old + 11 }
+{
+    let mut digits = Buffer::new();
+    push_word(text, digits.format(number).as_bytes());
+}
+
+fn end_line(text: &mut ShortText)
+    requires { length text.old + 1 ≤ 64 }
+    ensures { text.new ≡ text.old ++ 10 ∷ [] }
+{
+    text.push(b"\n");
+}
+
+fn refused_text(why: &Refusal) -> ShortText
+    ensures { result ≡ line_text (codes "refused" ∷ refusal_words why.now) }
+{
+    match why {
+        Refusal::BadLine => refused_as(b"bad-line"),
+        Refusal::InForce => refused_as(b"in-force"),
+        Refusal::UnknownClass => refused_as(b"unknown-class"),
+        Refusal::UnknownNode => refused_as(b"unknown-node"),
+        Refusal::WrongKind => refused_as(b"wrong-kind"),
+        Refusal::UnknownSegment => refused_as(b"unknown-segment"),
+        Refusal::NotInForce => refused_as(b"not-in-force"),
+        Refusal::NotRouted => refused_as(b"not-routed"),
+        Refusal::NotArrival => refused_as(b"not-arrival"),
+        Refusal::AlreadyDone { end } => refused_at(b"already-done", *end),
+        Refusal::AlreadyMoving { start } => refused_at(b"already-moving", *start),
+        Refusal::Full => refused_as(b"full"),
+        Refusal::Step(fault) => refused_step(fault),
+        Refusal::NotBuilt => refused_as(b"not-built"),
+        Refusal::Memory => refused_as(b"memory"),
+    }
+}
+
+fn refused_as(why: &[u8]) -> ShortText
+    requires { length why.now ≤ 20 }
+    ensures { result ≡ line_text (codes "refused" ∷ why.now ∷ []) }
+{
+    let mut text = begin_line(b"refused");
+    push_word(&mut text, why);
+    end_line(&mut text);
+    text
+}
+
+fn refused_at(why: &[u8], time: Time) -> ShortText
+    requires { length why.now ≤ 20 }
+    ensures { result ≡ line_text (codes "refused" ∷ why.now ∷ decimal time ∷ []) }
+{
+    let mut text = begin_line(b"refused");
+    push_word(&mut text, why);
+    push_decimal(&mut text, time);
+    end_line(&mut text);
+    text
+}
+
+fn refused_step(fault: &StepFault) -> ShortText
+    ensures { result ≡ line_text (codes "refused" ∷ codes "step" ∷ decimal fault.now.number ∷ cause_words fault.now.cause) }
+{
+    let mut text = begin_line(b"refused");
+    push_word(&mut text, b"step");
+    push_decimal(&mut text, fault.number);
+    push_cause(&mut text, &fault.cause);
+    end_line(&mut text);
+    text
+}
+
+fn push_cause(text: &mut ShortText, cause: &StepCause)
+    requires { length text.old ≤ 23 }
+    ensures text { text.new ≡ and_words text.old (cause_words cause.now) }
+    ensures length { length text.new ≤ 63 }
+{
+    match cause {
+        StepCause::ClassBarred => push_word(text, b"class-barred"),
+        StepCause::BadTurn => push_word(text, b"bad-turn"),
+        StepCause::TooFast => push_word(text, b"too-fast"),
+        StepCause::PastHorizon => push_word(text, b"past-horizon"),
+        StepCause::Taken { at, by } => {
+            push_word(text, b"taken");
+            push_decimal(text, *at);
+            push_word(text, by.bytes());
+        }
+    }
+}

@@ -1,0 +1,6 @@
+pub mod Names
+pub mod Stored
+pub mod Edits
+pub mod TakenFirst
+pub mod TakenCause
+pub mod RouteFaults

@@ -1,0 +1,83 @@
+//! Why a route that is given by hand fails.
+ghost use Rattle.std.specs.Prelude.{◌≡◌, ◌↔◌, ◌+◌, ◌<◌, ◌≤◌, ◌^◌, ℕ, None, IsTrue, All, length, nat_lt};
+ghost use Rattle.taxi_base.specs.declared.numbers.Class.{Class};
+ghost use Rattle.taxi_base.specs.Airport.{arc_exists, layout_of};
+ghost use Rattle.taxi_base.specs.Walks.{AreJoined, IsFeasibleWalk};
+ghost use Rattle.taxi_base.specs.Faults.{conditions_in, may_follow, taken_cause, cause_of, route_fault};
+
+use crate::Ledger;
+use airport_file::Airport;
+use segment_graph::segment_of;
+use taxi_base::{Arc, Class, Step, StepCause, StepFault, Time};
+
+impl Ledger {
+    /// The first step of a route that fails among the flights in force, and the first of its causes. It needs no memory.
+    pub fn check_route(&self, airport: &Airport, class: Class, steps: &[Step]) -> Option<StepFault>
+        requires arcs { All (λ s. IsTrue (arc_exists (layout_of airport.now) s.arc)) steps.now }
+        requires few { length steps.now < 2 ^ 32 }
+        ensures fault { result ≡ route_fault airport.now class self.now.flights steps.now }
+        ensures feasible { 0 < length steps.now → AreJoined steps.now → (result ≡ None) ↔ IsFeasibleWalk (conditions_in airport.now class self.now.flights) steps.now }
+    {
+        let mut before = None;
+        for (place, step) in steps.iter().enumerate() {
+            if let Some(cause) = self.cause_of(airport, class, before, step) {
+                let number = place as u32 + 1;
+                return Some(StepFault { number, cause });
+            }
+            before = Some(step.arc);
+        }
+        None
+    }
+
+    // Why a step fails after an arc, of several causes the first.
+    fn cause_of(
+        &self,
+        airport: &Airport,
+        class: Class,
+        before: Option<Arc>,
+        step: &Step,
+    ) -> Option<StepCause>
+        requires { IsTrue (arc_exists (layout_of airport.now) step.now.arc) }
+        ensures { result ≡ cause_of airport.now class self.now.flights before step.now }
+    {
+        let Some(seconds) = airport.classes().seconds(class, segment_of(step.arc)) else {
+            return Some(StepCause::ClassBarred);
+        };
+        if !may_follow(airport, before, step.arc) {
+            Some(StepCause::BadTurn)
+        } else if is_too_fast(step, seconds) {
+            Some(StepCause::TooFast)
+        } else if airport.horizon() < step.leave {
+            Some(StepCause::PastHorizon)
+        } else {
+            self.taken_cause(airport, step)
+        }
+    }
+
+    // The first second at which the step's segment is taken, and by whom.
+    fn taken_cause(&self, airport: &Airport, step: &Step) -> Option<StepCause>
+        requires arc { IsTrue (arc_exists (layout_of airport.now) step.now.arc) }
+        requires in_time { step.now.leave ≤ airport.now.horizon }
+        ensures { (class : Class) → result ≡ taken_cause airport.now class self.now.flights step.now }
+    {
+        let (at, by) = self.first_taken(airport.conflicts(), step)?;
+        Some(StepCause::Taken { at, by })
+    }
+}
+
+// Whether the turn from the arc before, if there is one, is permitted.
+fn may_follow(airport: &Airport, before: Option<Arc>, arc: Arc) -> bool
+    ensures { result ≡ may_follow airport.now before arc }
+{
+    match before {
+        Some(before) => airport.graph().permits(before, arc),
+        None => true,
+    }
+}
+
+// Whether a step takes less than so many seconds.
+fn is_too_fast(step: &Step, seconds: Time) -> bool
+    ensures { result ≡ nat_lt step.now.leave (step.now.enter + seconds) }
+{
+    u64::from(step.leave) < u64::from(step.enter) + u64::from(seconds)
+}

@@ -1,0 +1,12 @@
+-- What is found is in conflict, and what is in conflict is found.
+use Rattle.std.proofs.Common.{◌≡◌, ◌∙◌}
+use Rattle.packed_rows.proofs.Search.{is_ok-search}
+use Rattle.taxi_base.specs.declared.numbers.Segment.{Segment}
+use Rattle.conflict_sets.proofs.Members.{same_segment, has_member-conflicts}
+use Rattle.conflict_sets.proofs.Conflicts.conflict.Goals as goal
+
+pub returns : goal.returns
+returns c =
+    c.is_ok.ensures.value
+    ∙ is_ok-search (λ (m : Segment). m.0) same_segment c.of.result.now c.args.t c.binary_search.result c.of.ensures.all.rising c.binary_search.ensures.bound c.binary_search.ensures.position
+    ∙ has_member-conflicts c.args.self.now.sets c.args.s c.of.result.now c.args.t c.of.ensures.all

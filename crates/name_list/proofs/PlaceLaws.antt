@@ -1,0 +1,75 @@
+-- What an index finds once a name is added.
+use Rattle.std.proofs.Common.{◌≡◌, ◌≢◌, ℕ, ◌<◌, ◌≤◌, ◌+◌, Bool, true, false, cond, eqb, List, [], ◌∷◌, ◌++◌, length, length-append, get_or, Option, Some, None, refl, sym, ap, subst, arith, inl, inr, ◌∙◌}
+use Rattle.std.specs.Prelude.{not, bytes_eq, AllPairs, nat_lt, IsTrue}
+use Rattle.std.specs.List.{position, position_or_len, AllPass}
+use Rattle.std.specs.Ordering.{nat_cmp, is_eq}
+use Rattle.std.specs.Cmp.Lexicographic.{slice_cmp, nat_list_cmp_total}
+use Rattle.std.specs.BTreeMap.{BTreeMap, get, Updates}
+use Rattle.std.specs.declared.cmp.Ordering.{Ordering}
+use Rattle.std.specs.declared.cmp.Ordering.TheVariants.{Less, Equal, Greater}
+use Rattle.std.proofs.lemmas.Bool.{cases_Bool, false_from_ne_true}
+use Rattle.std.proofs.lemmas.Bool.Decides.{nat_tests}
+use Rattle.std.proofs.lemmas.Cmp.{tied_itself}
+use Rattle.std.proofs.lemmas.List.Folds.{position_or_len_push}
+use Rattle.std.proofs.lemmas.List.Elements.{All-push}
+use Rattle.std.proofs.lemmas.List.Quantifiers.{all_pairs_push, position-Some}
+use Rattle.std.proofs.lemmas.List.Sums.{fails_before_first, prefix_len-le-length}
+use Rattle.std.proofs.lemmas.Map.Lookups.{exact_bytes}
+use Rattle.std.proofs.lemmas.Slice.Eq.{bytes_eq-Decides}
+use Rattle.taxi_base.specs.Words.{is_name}
+use Rattle.taxi_base.specs.Airport.{place_of}
+use Rattle.name_list.specs.Places.{ArePlaced}
+
+-- an element that passes a test, after some that do not
+pub position-push_first : {X : Type 0} (p : X → Bool) (xs : List X) (y : X) → position p xs ≡ None → p y ≡ true → position p (xs ++ y ∷ []) ≡ Some (length xs)
+position-push_first p xs y none passes =
+    grind (arith, nat_tests, position_or_len_push p xs y, length-append xs (y ∷ []), prefix_len-le-length (λ x. not (p x)) xs)
+
+-- an element that does not pass it
+pub position-push_other : {X : Type 0} (p : X → Bool) (xs : List X) (y : X) → p y ≡ false → position p (xs ++ y ∷ []) ≡ position p xs
+position-push_other p xs y fails =
+    grind (arith, nat_tests, position_or_len_push p xs y, length-append xs (y ∷ []), prefix_len-le-length (λ x. not (p x)) xs)
+
+-- a name that is not found differs from each
+pub not_found-differs : (names : List (List ℕ)) (name : List ℕ) → place_of name names ≡ None → (k : ℕ) (d : List ℕ) → k < length names → get_or names k d ≢ name
+not_found-differs names name none k d h same =
+    let hit : bytes_eq name (get_or names k d) ≡ true = (bytes_eq-Decides name (get_or names k d)).1 (sym same) in
+    let past : length names ≤ position_or_len (bytes_eq name) names = grind (arith, nat_tests, none) in
+    let miss : bytes_eq name (get_or names k d) ≡ false = fails_before_first (bytes_eq name) names k d (omega arith) in
+    cc
+
+is_equal : (o : Ordering) → is_eq o ≡ true → o ≡ Equal
+is_equal Less e = absurd (cc e)
+is_equal Equal e = refl
+is_equal Greater e = absurd (cc e)
+
+-- names that differ by their bytes are apart in the order
+apart : (name q : List ℕ) → bytes_eq q name ≡ false → is_eq (slice_cmp nat_cmp name q) ≡ false
+apart name q other = false_from_ne_true _ (λ equal.
+    let same : name ≡ q = exact_bytes name q (is_equal (slice_cmp nat_cmp name q) equal) in
+    let hit : bytes_eq q name ≡ true = (bytes_eq-Decides q name).1 (sym same) in
+    cc)
+
+pub found-push : (places added : BTreeMap (List ℕ) ℕ) (names : List (List ℕ)) (name : List ℕ) → ((q : List ℕ) → get (slice_cmp nat_cmp) places q ≡ place_of q names)
+    → place_of name names ≡ None → Updates (slice_cmp nat_cmp) places added name (Some (length names)) → (q : List ℕ) → get (slice_cmp nat_cmp) added q ≡ place_of q (names ++ name ∷ [])
+found-push places added names name old fresh updates q = elim (cases_Bool (bytes_eq q name)) [
+  | inl same ↦
+      let is : q ≡ name = (bytes_eq-Decides q name).0 same in
+      subst (λ z. get (slice_cmp nat_cmp) added z ≡ place_of z (names ++ name ∷ [])) (sym is)
+      (updates.1 ∙ sym (position-push_first (bytes_eq name) names name fresh ((bytes_eq-Decides name name).1 refl)))
+  | inr other ↦
+      updates.2 q (apart name q other) ∙ old q ∙ sym (position-push_other (bytes_eq q) names name other)
+]
+
+pub ArePlaced-push : (places added : BTreeMap (List ℕ) ℕ) (names : List (List ℕ)) (name : List ℕ) → ArePlaced places names → length names < 10000 → place_of name names ≡ None → IsTrue (is_name name)
+    → Updates (slice_cmp nat_cmp) places added name (Some (length names)) → ArePlaced added (names ++ name ∷ [])
+ArePlaced-push places added names name old room fresh valid updates = record {
+  few = rw length-append (omega (arith, room));
+  found = found-push places added names name old.found fresh updates;
+  each = All-push (λ (x : List ℕ). is_name x ≡ true) names name old.each valid;
+  differ = all_pairs_push ◌≢◌ names name old.differ (not_found-differs names name fresh);
+}
+
+-- a place that is found is one of the list's
+pub place-within : (name : List ℕ) (names : List (List ℕ)) (at : ℕ) → place_of name names ≡ Some at → at < length names
+place-within name names at found = (position-Some (bytes_eq name) names at [] found).0

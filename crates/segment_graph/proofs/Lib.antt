@@ -1,0 +1,4 @@
+pub mod Ends
+pub mod Gathered
+pub mod Turns
+pub mod Limits

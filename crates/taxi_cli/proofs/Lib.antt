@@ -1,0 +1,4 @@
+pub mod RunLaws
+pub mod SoFar
+pub mod EndingLaws
+pub mod InputLaws

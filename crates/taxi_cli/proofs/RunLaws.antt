@@ -1,0 +1,53 @@
+-- Runs: they begin, go on, keep the flights sound, and always come to an end.
+use Rattle.std.proofs.Common.{◌≡◌, ◌++◌, ◌∷◌, [], ℕ, List, length, refl, arith}
+use Rattle.std.proofs.lemmas.List.Elements.{All-nil}
+use Rattle.taxi_base.specs.Airport.{Airport}
+use Rattle.taxi_base.specs.State.{State, IsSound}
+use Rattle.certificate.specs.declared.block.Block.{Block}
+use Rattle.certificate.specs.Replies.{due, as_due}
+use Rattle.certificate.proofs.ReplyLaws.{IsAnswered-sound}
+use Rattle.taxi_cli.specs.Runs.{IsRun}
+
+-- an airport without flights is sound
+pub none-sound : (airport : Airport) → IsSound airport []
+none-sound airport = record {
+  feasible = record { few = omega arith; ordered = λ i j d before within. absurd (omega (arith, within)); walks = All-nil _ };
+  requests = All-nil _;
+}
+
+-- a run and one that goes on from it make one run
+pub IsRun-append : (airport : Airport) (before between after : State) (lines more : List (List ℕ)) (blocks others : List Block)
+    → IsRun airport before lines blocks between → IsRun airport between more others after → IsRun airport before (lines ++ more) (blocks ++ others) after
+IsRun-append airport before between after [] more [] others run rest = rw run at rest
+IsRun-append airport before between after [] more (block ∷ blocks) others run rest = absurd run
+IsRun-append airport before between after (line ∷ lines) more [] others run rest = absurd run
+IsRun-append airport before between after (line ∷ lines) more (block ∷ blocks) others run rest =
+    (run.0, run.1, IsRun-append airport run.0 between after lines more blocks others run.2 rest)
+
+-- a run keeps the flights sound
+pub IsRun-sound : (airport : Airport) (before after : State) (lines : List (List ℕ)) (blocks : List Block)
+    → IsRun airport before lines blocks after → IsSound airport before → IsSound airport after
+IsRun-sound airport before after [] [] run sound = rw run sound
+IsRun-sound airport before after [] (block ∷ blocks) run sound = absurd run
+IsRun-sound airport before after (line ∷ lines) [] run sound = absurd run
+IsRun-sound airport before after (line ∷ lines) (block ∷ blocks) run sound =
+    IsRun-sound airport run.0 after lines blocks run.2 (IsAnswered-sound airport before line block run.0 sound run.1.reply).1
+
+-- from sound flights there is a run over any lines
+pub run-over : (airport : Airport) (before : State) (lines : List (List ℕ)) → IsSound airport before
+    → (blocks : List Block) × (after : State) × IsRun airport before lines blocks after
+run-over airport before [] sound = ([], before, refl)
+run-over airport before (line ∷ lines) sound =
+    let reply = due airport before line in
+    let answered = IsAnswered-sound airport before line reply.block reply.after sound as_due in
+    let rest = run-over airport reply.after lines answered.1 in
+    (reply.block ∷ rest.0, rest.1, (reply.after, answered.0, rest.2))
+
+-- a run has a block for each line
+pub IsRun-length : (airport : Airport) (before after : State) (lines : List (List ℕ)) (blocks : List Block)
+    → IsRun airport before lines blocks after → length blocks ≡ length lines
+IsRun-length airport before after [] [] run = refl
+IsRun-length airport before after [] (block ∷ blocks) run = absurd run
+IsRun-length airport before after (line ∷ lines) [] run = absurd run
+IsRun-length airport before after (line ∷ lines) (block ∷ blocks) run =
+    let rest = IsRun-length airport run.0 after lines blocks run.2 in omega (arith, rest)

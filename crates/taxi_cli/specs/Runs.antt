@@ -1,0 +1,28 @@
+-- What is a run over command lines, and what is written of it?
+use Rattle.std.specs.Prelude.{◌≡◌, ℕ, List, [], ◌∷◌, ◌++◌, length, flat_map, codes, decimal}
+use Rattle.taxi_base.specs.Airport.{Airport}
+use Rattle.taxi_base.specs.State.{State}
+use Rattle.certificate.specs.declared.block.Block.{Block}
+use Rattle.certificate.specs.Texts.{block_text}
+use Rattle.certificate.specs.Replies.{IsAnswered}
+
+-- Each line in turn is answered by a block, among the flights that the lines before it left in force.
+-- The run begins with the first flights and leaves the last.
+abbrev pub IsRun : Airport → State → List (List ℕ) → List Block → State → Type 0
+IsRun airport before [] [] after = after ≡ before
+IsRun airport before [] (block ∷ blocks) after = ⊥
+IsRun airport before (line ∷ lines) [] after = ⊥
+IsRun airport before (line ∷ lines) (block ∷ blocks) after =
+    (between : State) × IsAnswered airport before line block between × IsRun airport between lines blocks after
+
+-- the texts of blocks, in order
+abbrev pub blocks_text : Airport → List Block → List ℕ
+blocks_text airport blocks = flat_map (block_text airport) blocks
+
+-- the line that ends a transcript, with the number of commands
+abbrev pub done_line : ℕ → List ℕ
+done_line count = codes "done " ++ decimal count ++ 10 ∷ []
+
+-- the texts of all blocks, and the last line
+abbrev pub transcript : Airport → List Block → List ℕ
+transcript airport blocks = blocks_text airport blocks ++ done_line (length blocks)

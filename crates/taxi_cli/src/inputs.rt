@@ -1,0 +1,74 @@
+//! The airport and the commands of a run, read before the first command is answered.
+ghost use Rattle.std.specs.Prelude.{◌≡◌, ◌≤◌, length, Ok, Err, IfOk, IfErr};
+ghost use Rattle.taxi_io.specs.Files.{SameNames};
+ghost use Rattle.taxi_cli.specs.Outcomes.{IsJudged, AreAccepted};
+ghost use Rattle.taxi_cli.specs.Stops.{IsCause, IsCauseOfAirport};
+
+use airport_file::{Airport, AirportFault, AirportRefused, read_airport};
+use std::alloc::Global;
+use taxi_io::{ReadRefused, Shelf, read_all};
+
+/// The most bytes of an airport file.
+const AIRPORT_LIMIT: usize = 4_194_304;
+
+/// The most bytes of a command file.
+const COMMANDS_LIMIT: usize = 16_777_216;
+
+/// Why a call ends before the first command is answered.
+#[derive(Drop)]
+pub(crate) enum Stop {
+    Refused { at: u32, why: AirportFault },
+    ReadFault,
+    TooLarge,
+    Memory,
+}
+
+impl From<ReadRefused> for Stop {
+    ghost use Rattle.std.specs.Prelude.{◌≡◌};
+    ghost use Rattle.taxi_cli.specs.Stops.{stop_for};
+
+    ghost from_gives = { λ refused stop. stop ≡ stop_for refused };
+
+    fn from(refused: ReadRefused) -> Stop {
+        match refused {
+            ReadRefused::Fault => Stop::ReadFault,
+            ReadRefused::TooLarge => Stop::TooLarge,
+            ReadRefused::Memory => Stop::Memory,
+        }
+    }
+}
+
+/// An airport file that is read, and its airport judged, before another file is begun.
+fn read_airport_file<S: Shelf>(alloc: Global, shelf: &mut S, name: &str) -> Result<Airport, Stop>
+    requires { S.knows shelf.old name.now }
+    ensures ok { IfOk result (λ airport. IsJudged (S.files shelf.old) name.now (Ok airport)) }
+    ensures stop { IfErr result (IsCauseOfAirport (S.files shelf.old) name.now (S.faults shelf.old, S.faults shelf.new)) }
+    ensures later { S.faults shelf.old ≤ S.faults shelf.new }
+    ensures files { S.files shelf.new ≡ S.files shelf.old }
+    ensures names { SameNames (S.knows shelf.old) (S.knows shelf.new) }
+{
+    let bytes = read_all(alloc, shelf, name, AIRPORT_LIMIT)?;
+    match read_airport(alloc, bytes.as_slice()) {
+        Ok(airport) => Ok(airport),
+        Err(AirportRefused::Bad { at, why }) => Err(Stop::Refused { at, why }),
+        Err(AirportRefused::Memory) => Err(Stop::Memory),
+    }
+}
+
+/// The airport of a run, and the bytes of its command file, which is begun once the airport is accepted.
+pub(crate) fn read_inputs<S: Shelf>(
+    alloc: Global,
+    shelf: &mut S,
+    airport: &str,
+    commands: &str,
+) -> Result<(Airport, Vec<u8>), Stop>
+    requires airport { S.knows shelf.old airport.now }
+    requires commands { S.knows shelf.old commands.now }
+    ensures ok { IfOk result (λ read. AreAccepted (S.files shelf.old) (record { airport = airport.now; commands = commands.now }) read.0 read.1.items) }
+    ensures stop { IfErr result (IsCause (S.files shelf.old) (record { airport = airport.now; commands = commands.now }) (S.faults shelf.old, S.faults shelf.new)) }
+    ensures later { S.faults shelf.old ≤ S.faults shelf.new }
+{
+    let airport = read_airport_file(alloc, shelf, airport)?;
+    let bytes = read_all(alloc, shelf, commands, COMMANDS_LIMIT)?;
+    Ok((airport, bytes))
+}

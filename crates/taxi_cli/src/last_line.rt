@@ -1,0 +1,61 @@
+//! The line that ends what a call writes.
+ghost use Rattle.std.specs.Prelude.{◌≡◌, ◌+◌, ◌≤◌, length, decimal};
+ghost use Rattle.airport_rules.specs.Faults.{fault_word};
+ghost use Rattle.taxi_cli.specs.Runs.{done_line};
+ghost use Rattle.taxi_cli.specs.Lines.{usage_line, refusal_line, read_fault_line, too_large_line};
+
+use airport_file::AirportFault;
+use itoa::Buffer;
+use taxi_text::ShortText;
+
+pub(crate) fn usage_line() -> &'static [u8]
+    ensures { result.now ≡ usage_line }
+{
+    b"usage: taxi route AIRPORT COMMANDS; taxi check AIRPORT COMMANDS TRANSCRIPT; taxi generate NUMBER SIDE FLIGHTS\n"
+}
+
+pub(crate) fn read_fault_line() -> &'static [u8]
+    ensures { result.now ≡ read_fault_line }
+{
+    b"read fault\n"
+}
+
+pub(crate) fn too_large_line() -> &'static [u8]
+    ensures { result.now ≡ too_large_line }
+{
+    b"too large\n"
+}
+
+/// The record that breaks a rule, counted from 1, and the rule.
+#[tactic(auto, unfolding(crate::specs::Lines::refusal_line))]
+pub(crate) fn refusal_line(at: u32, why: AirportFault) -> ShortText
+    ensures { result ≡ refusal_line (record { at = at; why = why }) }
+{
+    let mut digits = Buffer::new();
+    let mut text = ShortText::new();
+    text.push(b"airport refused at record ");
+    text.push(digits.format(at).as_bytes());
+    text.push(b": ");
+    text.push(short_word(why));
+    text.push(b"\n");
+    text
+}
+
+fn short_word(why: AirportFault) -> &'static [u8]
+    ensures same { result.now ≡ fault_word why }
+    ensures short { length result.now ≤ 14 }
+{
+    why.word()
+}
+
+/// The last line of a transcript, with the number of commands.
+pub(crate) fn done_line(count: u64) -> ShortText
+    ensures { result ≡ done_line count }
+{
+    let mut digits = Buffer::new();
+    let mut text = ShortText::new();
+    text.push(b"done ");
+    text.push(digits.format(count).as_bytes());
+    text.push(b"\n");
+    text
+}

@@ -1,0 +1,109 @@
+//! The call that the program makes.
+ghost use Rattle.std.specs.Prelude.{◌≡◌, ◌⊎◌, ◌≤◌, IfSome, map, string_bytes, Some, None};
+ghost use Rattle.taxi_io.specs.Counts.{Rose};
+ghost use Rattle.taxi_io.specs.Files.{Files};
+ghost use Rattle.taxi_cli.specs.declared.status.Status.{Status as StatusOf};
+ghost use Rattle.taxi_cli.specs.Outcomes.{files_named, due_status};
+ghost use Rattle.taxi_cli.specs.Endings.{Ends};
+ghost use Rattle.taxi_cli.specs.LastLine.{EndsWith, status_after};
+
+use crate::inputs::{Stop, read_inputs};
+use crate::last_line::{read_fault_line, refusal_line, too_large_line, usage_line};
+use crate::run::write_run;
+use crate::status::Status;
+use crate::words::files_named;
+use std::alloc::Global;
+use taxi_engine::Engine;
+use taxi_io::{Shelf, Sink, Trouble, write_all};
+
+/// Does what the words after the program's name ask for, and writes what comes of it.
+/// The airport is accepted or refused before the command file is begun.
+pub fn taxi<S: Shelf, K: Sink>(
+    alloc: Global,
+    words: &[String],
+    shelf: &mut S,
+    out: &mut K,
+) -> Status
+    requires known { IfSome (files_named (map string_bytes words.now)) (λ names. S.knows shelf.old names.airport × S.knows shelf.old names.commands) }
+
+    ensures ends { Ends (record {
+      files = S.files shelf.old;
+      reads = (S.faults shelf.old, S.faults shelf.new);
+      writes = (K.faults out.old, K.faults out.new);
+      taken = (K.written out.old, K.written out.new);
+    }) (files_named (map string_bytes words.now)) result }
+
+    // `Usage` comes exactly where the words are of no form, but for a line that can't be written.
+    ensures usage { files_named (map string_bytes words.now) ≡ None →
+        (result ≡ Status.Usage) ⊎ ((result ≡ Status.WriteFault) ⊎ (result ≡ Status.Memory)) }
+
+    // Where the files are told and nothing fails, the status is the one that is due, but for want of memory.
+    ensures complete { (files : Files) → (due : StatusOf) →
+        S.files shelf.old ≡ Some files → due_status files (map string_bytes words.now) ≡ Some due →
+        ¬ Rose (S.faults shelf.old) (S.faults shelf.new) → ¬ Rose (K.faults out.old) (K.faults out.new) →
+        (result ≡ due) ⊎ (result ≡ Status.Memory) }
+
+    ensures reads_later { S.faults shelf.old ≤ S.faults shelf.new }
+    ensures writes_later { K.faults out.old ≤ K.faults out.new }
+{
+    match files_named(words) {
+        Some((airport, commands)) => route(alloc, airport, commands, shelf, out),
+        None => write_last(out, usage_line(), Status::Usage),
+    }
+}
+
+// Answers the commands of one file at the airport of another.
+fn route<S: Shelf, K: Sink>(
+    alloc: Global,
+    airport: &str,
+    commands: &str,
+    shelf: &mut S,
+    out: &mut K,
+) -> Status
+    requires airport { S.knows shelf.old airport.now }
+    requires commands { S.knows shelf.old commands.now }
+    ensures ends { Ends (record {
+      files = S.files shelf.old;
+      reads = (S.faults shelf.old, S.faults shelf.new);
+      writes = (K.faults out.old, K.faults out.new);
+      taken = (K.written out.old, K.written out.new);
+    }) (Some (record { airport = airport.now; commands = commands.now })) result }
+    ensures reads_later { S.faults shelf.old ≤ S.faults shelf.new }
+    ensures writes_later { K.faults out.old ≤ K.faults out.new }
+{
+    match read_inputs(alloc, shelf, airport, commands) {
+        Ok((airport, commands)) => {
+            let Ok(mut engine) = Engine::new(alloc, airport) else {
+                return Status::Memory;
+            };
+            let written = write_run(&mut engine, commands.as_slice(), out);
+            status_after(written, Status::Done)
+        }
+        Err(Stop::Refused { at, why }) => {
+            let line = refusal_line(at, why);
+            write_last(out, line.bytes(), Status::AirportRefused)
+        }
+        Err(Stop::ReadFault) => write_last(out, read_fault_line(), Status::ReadFault),
+        Err(Stop::TooLarge) => write_last(out, too_large_line(), Status::TooLarge),
+        Err(Stop::Memory) => Status::Memory,
+    }
+}
+
+// Writes the last line of a call. Where that fails, the failure is the status.
+fn write_last<K: Sink>(out: &mut K, line: &[u8], status: Status) -> Status
+    ensures ends { EndsWith line.now status (K.faults out.old, K.faults out.new) (K.written out.old, K.written out.new) result }
+    ensures later { K.faults out.old ≤ K.faults out.new }
+{
+    status_after(write_all(out, line), status)
+}
+
+// The status of a call whose whole text was to be written.
+fn status_after(written: Result<(), Trouble>, whole: Status) -> Status
+    ensures { result ≡ status_after written whole }
+{
+    match written {
+        Ok(()) => whole,
+        Err(Trouble::Failed) => Status::WriteFault,
+        Err(Trouble::Memory) => Status::Memory,
+    }
+}

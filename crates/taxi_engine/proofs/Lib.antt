@@ -1,0 +1,3 @@
+pub mod StepsMade
+pub mod FiledDue
+pub mod AnswerLaws

@@ -1,0 +1,71 @@
+//! Replies to the worked lines.
+use crate::Engine;
+use airport_file::read_airport;
+use std::alloc::Global;
+use std::test::Fail;
+
+const SMALL: &[u8] = b"taxi-airport,1
+horizon,3600
+node,R,runway
+node,J,junction
+node,K,junction
+node,S1,stand
+node,S2,stand
+class,M
+segment,A,R,J,both
+segment,B,J,S1,both
+segment,C,J,K,both
+segment,D,K,S2,both
+seconds,A,M,30
+seconds,B,M,20
+seconds,C,M,25
+seconds,D,M,15
+conflict,A,C
+class,H
+forbid,A+,B+
+";
+
+// Lines with their replies, in turn.
+const REPLIES: [(&[u8], &[u8]); 24] = [
+    (b"file F1 M 100 A+ 130 C+ 155 D+ 170", b"filed F1 100 170\n"),
+    (b"file X2 M 0 A+ 29", b"refused step 1 too-fast\n"),
+    (b"file X2 M 90 A+ 125", b"refused step 1 taken 100 F1\n"),
+    (b"file X2 M 90 C+ 120", b"refused step 1 taken 100 F1\n"),
+    (b"file X2 M 3575 A+ 3605", b"refused step 1 past-horizon\n"),
+    (b"file X2 M 155 C+ 180 D+ 195", b"filed X2 155 195\n"),
+    (b"file X1 M 0 A+ 30 B+ 50", b"refused step 2 bad-turn\n"),
+    (b"file X1 M 0 A+ 30 A- 60", b"refused step 2 bad-turn\n"),
+    (b"file X9 H 0 A+ 30", b"refused step 1 class-barred\n"),
+    (b"arrive F9", b"refused bad-line\n"),
+    (b"file X9 M 0 A* 30", b"refused bad-line\n"),
+    (b"file F1 Q 0 Z+ 30", b"refused in-force\n"),
+    (b"file X9 Q 0 Z+ 30", b"refused unknown-class\n"),
+    (b"file X9 M 0 Z+ 30", b"refused unknown-segment\n"),
+    (b"arrival F9 M R S1 100 0", b"refused not-built\n"),
+    (b"departure F9 M S2 R 100 0", b"refused not-built\n"),
+    (b"cancel F1", b"refused not-built\n"),
+    (b"reroute F1 1", b"refused not-built\n"),
+    (b"divert F1 1 S2", b"refused not-built\n"),
+    (b"windows A", b"refused not-built\n"),
+    (b"occupancy A", b"refused not-built\n"),
+    (b"timetable", b"refused not-built\n"),
+    (b"cancel  F1", b"refused bad-line\n"),
+    (b"file X9 M 0 \xff+ 30", b"refused bad-line\n"),
+];
+
+fn small_engine(alloc: Global) -> Option<Engine> {
+    let airport = read_airport(alloc, SMALL).ok()?;
+    Engine::new(alloc, airport).ok()
+}
+
+#[test]
+fn lines_get_the_replies_worked_by_hand(rt: HostRuntime) -> Result<(), Fail> {
+    let mut engine = small_engine(rt.alloc()).ok_or("the airport is read")?;
+    for (line, reply) in REPLIES {
+        engine.answer(line);
+        assert_eq!(rt; engine.reply(), reply);
+    }
+    assert_eq!(rt; engine.ledger().count(), 2);
+    assert_eq!(rt; engine.airport().horizon(), 3600);
+    Ok(())
+}
