@@ -36,6 +36,13 @@ impl Classes {
         Ok(Classes { segments, rows })
     }
 
+    /// How many classes there are.
+    pub fn count(&self) -> usize
+        ensures { result ≡ length self.now.table }
+    {
+        self.rows.len()
+    }
+
     /// One more class, which may use no segment yet.
     pub fn class(&mut self) -> Result<Class, Memory>
         requires { length self.old.table < 32 }

@@ -1,4 +1,5 @@
 pub mod Reading
+pub mod Words
 pub mod Plain
 pub mod Built
 pub mod Refused

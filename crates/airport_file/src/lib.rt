@@ -17,9 +17,14 @@ mod tests {
     use std::alloc::Global;
     use std::test::Fail;
     use taxi_base::{Arc, Name, Node};
+    use taxi_text::{push_bytes, push_number};
 
     const SMALL: &[u8] =
         b"taxi-airport,1\nhorizon,3600\nnode,R,runway\nnode,J,junction\nnode,K,junction\nnode,S1,stand\nnode,S2,stand\nclass,M\nsegment,A,R,J,both\nsegment,B,J,S1,both\nsegment,C,J,K,both\nsegment,D,K,S2,both\nseconds,A,M,30\nseconds,B,M,20\nseconds,C,M,25\nseconds,D,M,15\nconflict,A,C\n";
+
+    // What follows the first record and the horizon.
+    const ROWS: &[u8] =
+        b"node,R,runway\nnode,J,junction\nnode,K,junction\nnode,S1,stand\nnode,S2,stand\nclass,M\nsegment,A,R,J,both\nsegment,B,J,S1,both\nsegment,C,J,K,both\nsegment,D,K,S2,both\nseconds,A,M,30\nseconds,B,M,20\nseconds,C,M,25\nseconds,D,M,15\nconflict,A,C\n";
 
     fn is_refused(
         alloc: Global,
@@ -61,7 +66,21 @@ mod tests {
         for (added, word) in cases {
             assert!(rt; is_refused(rt.alloc(), SMALL, added, 18, word)?);
         }
+        let crowd = segments_from_j(rt.alloc())?;
+        assert!(rt; is_refused(rt.alloc(), SMALL, &crowd, 47, b"limit ends")?);
+        assert!(rt; is_refused(rt.alloc(), b"taxi-airport,1\n", ROWS, 16, b"no-horizon")?);
         Ok(())
+    }
+
+    // Thirty more segments from the node J, which has three already: the last is one too many.
+    fn segments_from_j(alloc: Global) -> Result<Vec<u8>, Fail> {
+        let mut rows = Vec::new(alloc);
+        for number in 1..=30 {
+            push_bytes(&mut rows, b"segment,X")?;
+            push_number(&mut rows, number)?;
+            push_bytes(&mut rows, b",J,R,both\n")?;
+        }
+        Ok(rows)
     }
 
     #[test]

@@ -1,2 +1,3 @@
 pub mod Texts
+pub mod Printed
 pub mod Replies

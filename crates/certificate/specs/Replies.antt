@@ -2,21 +2,24 @@
 use Rattle.std.specs.Prelude.{ℕ, ◌≡◌, Bool, nat_le, if◌then◌else◌, List, [], ◌∷◌, length, Option, Some, is_some, option_map, option_and_then, IsTrue, ⊤}
 use Rattle.std.specs.Option.{option_map_or}
 use Rattle.taxi_base.specs.declared.numbers.Class.{Class}
+use Rattle.taxi_base.specs.declared.numbers.Segment.{Segment}
 use Rattle.taxi_base.specs.declared.rows.Step.{Step}
+use Rattle.taxi_base.specs.declared.rows.Span.{Span}
 use Rattle.taxi_base.specs.declared.answers.Request.TheVariants as request
 use Rattle.taxi_base.specs.declared.answers.Flight.{Flight}
 use Rattle.taxi_base.specs.declared.answers.Refusal.{Refusal}
 use Rattle.taxi_base.specs.declared.answers.Refusal.TheVariants as refusal
-use Rattle.taxi_base.specs.Airport.{Airport, class_named, arc_named}
+use Rattle.taxi_base.specs.Airport.{Airport, class_named, segment_named, arc_named}
+use Rattle.taxi_base.specs.Windows.{is_free, AreWindows, windows_before}
 use Rattle.taxi_base.specs.Walks.{IsFeasibleWalk, begin_of, end_of}
-use Rattle.taxi_base.specs.State.{State, flight_named, with_flight, IsClashFree}
+use Rattle.taxi_base.specs.State.{State, flight_named, with_flight, without, holds_in, IsClashFree}
 use Rattle.taxi_base.specs.Faults.{conditions_in, route_fault}
 use Rattle.taxi_text.specs.declared.command.FiledStep.{FiledStep}
 use Rattle.taxi_text.specs.declared.command.Command.{Command}
 use Rattle.taxi_text.specs.declared.command.Command.TheVariants as command
 use Rattle.taxi_text.specs.Commands.{command_of, is_step_count}
 use Rattle.certificate.specs.declared.block.Block.{Block}
-use Rattle.certificate.specs.declared.block.Block.TheVariants.{Refused, Filed}
+use Rattle.certificate.specs.declared.block.Block.TheVariants.{Refused, Filed, Cancelled, Windows}
 
 -- what is answered, and the flights in force afterwards
 pub record Reply : Type 0 where
@@ -65,6 +68,24 @@ due_to_file airport state name class start filed =
     (class_named airport class)
     (refused state refusal.UnknownClass)
 
+-- ---- cancelling and reporting
+
+abbrev pub due_to_cancel : State → List ℕ → Reply
+due_to_cancel state name =
+    if is_in_force name state then record { block = Cancelled name; after = without name state } else refused state refusal.NotInForce
+
+-- the free windows of a segment among the flights in force
+abbrev pub windows_among : Airport → State → Segment → List Span
+windows_among airport state segment =
+    windows_before (is_free airport.conflicts airport.horizon (holds_in airport state) segment) airport.horizon
+
+abbrev pub due_to_windows : Airport → State → List ℕ → Reply
+due_to_windows airport state name =
+    option_map_or
+    (λ segment. record { block = Windows segment (windows_among airport state segment); after = state })
+    (segment_named airport name)
+    (refused state refusal.UnknownSegment)
+
 -- ---- every command
 
 -- a command to file a route gives it 1 to 256 steps
@@ -76,10 +97,10 @@ abbrev pub due_to_command : Airport → State → Command → Reply
 due_to_command airport state (command.File flight class start steps) = due_to_file airport state flight class start steps
 due_to_command airport state (command.Arrival flight class from to time hold) = refused state refusal.NotBuilt
 due_to_command airport state (command.Departure flight class from to time queue) = refused state refusal.NotBuilt
-due_to_command airport state (command.Cancel flight) = refused state refusal.NotBuilt
+due_to_command airport state (command.Cancel flight) = due_to_cancel state flight
 due_to_command airport state (command.Reroute flight time) = refused state refusal.NotBuilt
 due_to_command airport state (command.Divert flight time node) = refused state refusal.NotBuilt
-due_to_command airport state (command.Windows segment) = refused state refusal.NotBuilt
+due_to_command airport state (command.Windows segment) = due_to_windows airport state segment
 due_to_command airport state (command.Occupancy segment) = refused state refusal.NotBuilt
 due_to_command airport state command.Timetable = refused state refusal.NotBuilt
 
@@ -100,18 +121,21 @@ pub data IsReply (airport : Airport) (state : State) (line : List ℕ) : Block �
 
 -- ---- what a reply promises
 
--- where a route is filed, the flight goes in by it, and it is a feasible walk among the flights before
-abbrev pub IsFeasibleWhereFiled : Airport → State → Block → State → Type 0
-IsFeasibleWhereFiled airport state (Filed name start end) after =
+-- What a block says is so, and nothing else changes: a filed route is a feasible walk among the flights before, and its
+-- flight goes in; a cancelled flight was in force, and goes out; the windows of a segment are those that the flights leave.
+abbrev pub DoesAsItSays : Airport → State → Block → State → Type 0
+DoesAsItSays airport state (Filed name start end) after =
     (flight : Flight) × (flight.name ≡ name) × (after ≡ with_flight flight state)
     × IsFeasibleWalk (conditions_in airport flight.class state) flight.steps
     × (begin_of flight.steps ≡ start) × (end_of flight.steps ≡ end)
-IsFeasibleWhereFiled airport state (Refused why) after = after ≡ state
-IsFeasibleWhereFiled airport state _ after = ⊤
+DoesAsItSays airport state (Cancelled name) after = IsTrue (is_in_force name state) × (after ≡ without name state)
+DoesAsItSays airport state (Windows segment windows) after =
+    AreWindows (is_free airport.conflicts airport.horizon (holds_in airport state) segment) windows × (after ≡ state)
+DoesAsItSays airport state (Refused why) after = after ≡ state
+DoesAsItSays airport state _ after = ⊤
 
--- A line is answered by a block: the block is a reply to it, a filed route is a feasible walk among the flights before,
--- and no two flights in force afterwards hold conflicting segments at one second.
+-- A line is answered by a block: the block is a reply to it, what it says is so, and no two flights in force afterwards hold conflicting segments at one second.
 pub record IsAnswered (airport : Airport) (state : State) (line : List ℕ) (block : Block) (after : State) : Type 0 where
   pub reply : IsReply airport state line block after
-  pub feasible : IsFeasibleWhereFiled airport state block after
+  pub as_it_says : DoesAsItSays airport state block after
   pub clash_free : IsClashFree airport after

@@ -1,7 +1,6 @@
 -- How a block is written.
-use Rattle.std.specs.Prelude.{ℕ, ◌==◌, ◌%◌, Bool, true, false, if◌then◌else◌, List, [], ◌∷◌, ◌++◌, length, map, flat_map, unwrap_or, codes, decimal}
+use Rattle.std.specs.Prelude.{ℕ, Bool, true, false, List, [], ◌∷◌, ◌++◌, length, map, flat_map, codes, decimal}
 use Rattle.taxi_base.specs.declared.numbers.Segment.{Segment}
-use Rattle.taxi_base.specs.declared.numbers.Arc.{Arc}
 use Rattle.taxi_base.specs.declared.rows.Step.{Step}
 use Rattle.taxi_base.specs.declared.rows.Span.{Span}
 use Rattle.taxi_base.specs.declared.rows.LabelRow.{LabelRow}
@@ -9,7 +8,8 @@ use Rattle.taxi_base.specs.declared.answers.StepCause.{StepCause}
 use Rattle.taxi_base.specs.declared.answers.StepCause.TheVariants.{ClassBarred, BadTurn, TooFast, PastHorizon, Taken}
 use Rattle.taxi_base.specs.declared.answers.Refusal.{Refusal}
 use Rattle.taxi_base.specs.declared.answers.Refusal.TheVariants as refusal
-use Rattle.taxi_base.specs.Airport.{Airport, segment_of, segment_name}
+use Rattle.taxi_base.specs.Airport.{Airport}
+use Rattle.airport_file.specs.Words.{segment_word, word_of_arc}
 use Rattle.certificate.specs.declared.block.Block.{Block}
 use Rattle.certificate.specs.declared.block.Block.TheVariants.{Refused, Filed, Cancelled, Route, NoRoute, Windows}
 
@@ -51,22 +51,20 @@ refusal_words refusal.Memory = codes "memory" ∷ []
 
 -- ---- rows
 
-abbrev pub segment_word : Airport → Segment → List ℕ
-segment_word airport segment = unwrap_or (segment_name airport segment) []
-
--- the segment's name, and + for its forward arc or - for its backward one
-abbrev pub arc_word : Airport → Arc → List ℕ
-arc_word airport arc = segment_word airport (segment_of arc) ++ (if arc.0 % 2 == 0 then codes "+" else codes "-")
-
 abbrev pub step_words : Airport → Step → List (List ℕ)
-step_words airport step = codes "step" ∷ arc_word airport step.arc ∷ decimal step.enter ∷ decimal step.leave ∷ []
+step_words airport step = codes "step" ∷ word_of_arc airport step.arc ∷ decimal step.enter ∷ decimal step.leave ∷ []
 
 abbrev pub label_words : Airport → LabelRow → List (List ℕ)
 label_words airport label =
-    codes "label" ∷ arc_word airport label.arc ∷ decimal label.from ∷ decimal label.until ∷ decimal label.value ∷ []
+    codes "label" ∷ word_of_arc airport label.arc ∷ decimal label.from ∷ decimal label.until ∷ decimal label.value ∷ []
 
 abbrev pub window_words : Span → List (List ℕ)
 window_words window = codes "window" ∷ decimal window.from ∷ decimal window.until ∷ []
+
+-- the lines of the windows of a segment
+abbrev pub segment_lines : Airport → Segment → List Span → List (List (List ℕ))
+segment_lines airport segment windows =
+    (codes "windows" ∷ segment_word airport segment ∷ decimal (length windows) ∷ []) ∷ map window_words windows
 
 -- ---- blocks
 
@@ -79,8 +77,7 @@ block_lines airport (Route flight second steps labels) =
     (codes "route" ∷ flight ∷ decimal second ∷ decimal (length steps) ∷ decimal (length labels) ∷ [])
     ∷ (map (step_words airport) steps ++ map (label_words airport) labels)
 block_lines airport (NoRoute labels) = (codes "no-route" ∷ decimal (length labels) ∷ []) ∷ map (label_words airport) labels
-block_lines airport (Windows segment windows) =
-    (codes "windows" ∷ segment_word airport segment ∷ decimal (length windows) ∷ []) ∷ map window_words windows
+block_lines airport (Windows segment windows) = segment_lines airport segment windows
 
 -- the text of a block
 unfoldable pub block_text : Airport → Block → List ℕ

@@ -3,8 +3,11 @@
 
 mod block;
 mod laws;
+mod line;
+mod print;
 mod short;
 
 pub use block::Block;
 pub use laws::replies_keep_flights_sound;
+pub use print::print_block;
 pub use short::print_short;

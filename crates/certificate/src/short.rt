@@ -1,12 +1,12 @@
 //! Short blocks, written without taking memory: one line of at most 64 bytes.
-ghost use Rattle.std.specs.Prelude.{◌≡◌, ◌+◌, ◌≤◌, ◌<◌, ◌^◌, ◌∷◌, ◌++◌, [], List, length, decimal, codes, Some, None, is_none, IfSome};
+ghost use Rattle.std.specs.Prelude.{◌≡◌, ◌≤◌, ◌∷◌, [], length, decimal, codes, Some, None, is_none, IfSome};
 ghost use Rattle.taxi_base.specs.Airport.{Airport as Plain};
 ghost use Rattle.certificate.specs.declared.block.Block.TheVariants.{Refused, Filed, Cancelled};
-ghost use Rattle.certificate.specs.Texts.{line_text, cause_words, refusal_words, block_text, is_long, and_word, and_words};
+ghost use Rattle.certificate.specs.Texts.{line_text, cause_words, refusal_words, block_text, is_long, and_words};
 
 use crate::Block;
+use crate::line::{begin_line, end_line, push_decimal, push_word};
 use airport_file::Airport;
-use itoa::Buffer;
 use taxi_base::{Name, Refusal, StepCause, StepFault, Time};
 use taxi_text::ShortText;
 
@@ -20,8 +20,8 @@ pub fn print_short(airport: &Airport, block: &Block) -> Option<ShortText>
     short_text(block)
 }
 
-// The same without an airport: a block with no rows names nothing of it.
-fn short_text(block: &Block) -> Option<ShortText>
+/// The same without an airport: a block with no rows names nothing of it.
+pub(crate) fn short_text(block: &Block) -> Option<ShortText>
     ensures long { is_none result ≡ is_long block.now }
     ensures text { (airport : Plain) → IfSome result (λ text. text ≡ block_text airport block.now) }
 {
@@ -51,40 +51,6 @@ fn cancelled_text(flight: &Name) -> ShortText
     push_word(&mut text, flight.bytes());
     end_line(&mut text);
     text
-}
-
-fn begin_line(word: &[u8]) -> ShortText
-    requires { length word.now ≤ 64 }
-    ensures { result ≡ word.now }
-{
-    let mut text = ShortText::new();
-    text.push(word);
-    text
-}
-
-fn push_word(text: &mut ShortText, word: &[u8])
-    requires { length text.old + 1 + length word.now ≤ 64 }
-    ensures { text.new ≡ and_word text.old word.now }
-{
-    text.push(b" ");
-    text.push(word);
-}
-
-// A number below 2^32 has at most 10 digits.
-fn push_decimal(text: &mut ShortText, number: u32)
-    requires { length text.old + 11 ≤ 64 }
-    ensures text { text.new ≡ and_word text.old (decimal number) }
-    ensures length { length text.new ≤ length text.old + 11 }
-{
-    let mut digits = Buffer::new();
-    push_word(text, digits.format(number).as_bytes());
-}
-
-fn end_line(text: &mut ShortText)
-    requires { length text.old + 1 ≤ 64 }
-    ensures { text.new ≡ text.old ++ 10 ∷ [] }
-{
-    text.push(b"\n");
 }
 
 fn refused_text(why: &Refusal) -> ShortText

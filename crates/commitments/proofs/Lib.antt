@@ -4,3 +4,6 @@ pub mod Edits
 pub mod TakenFirst
 pub mod TakenCause
 pub mod RouteFaults
+pub mod SameHolds
+pub mod Numbers
+pub mod Fitting

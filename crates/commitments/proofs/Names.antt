@@ -1,13 +1,13 @@
 -- Flights in the order of their names: what a place among them finds, and what an edit there does.
-use Rattle.std.proofs.Common.{◌≡◌, ◌≢◌, ℕ, zero, suc, ◌+◌, ◌<◌, ◌≤◌, List, [], ◌∷◌, length, get_or, insert, IsTrue, IsFalse, Some, None, refl, sym, ap, ◌∙◌, subst, inl, inr, arith}
-use Rattle.std.specs.Prelude.{bytes_eq, AllPairs, All}
+use Rattle.std.proofs.Common.{◌≡◌, ◌≢◌, ℕ, zero, suc, ◌+◌, ◌<◌, ◌≤◌, Bool, List, [], ◌∷◌, length, get_or, insert, IsTrue, IsFalse, Some, None, refl, sym, ap, ◌∙◌, subst, inl, inr, arith}
+use Rattle.std.specs.Prelude.{bytes_eq, find, AllPairs, All}
 use Rattle.std.specs.List.{AllWithin, remove}
 use Rattle.std.specs.Ordering.{nat_cmp, is_lt, is_eq}
 use Rattle.std.specs.declared.cmp.Ordering.{Ordering}
 use Rattle.std.specs.declared.cmp.Ordering.TheVariants.{Less, Equal, Greater}
 use Rattle.std.specs.Cmp.Lexicographic.{slice_cmp, bytes_decides}
 use Rattle.std.proofs.lemmas.Bool.{false_from_ne_true, cond_both, cases_lt}
-use Rattle.std.proofs.lemmas.List.Elements.{All-nil, All-cons}
+use Rattle.std.proofs.lemmas.List.Elements.{All-nil, All-cons, All-head, All-tail}
 use Rattle.std.proofs.lemmas.Cmp.{nat_list_cmp_total, tied_itself}
 use Rattle.taxi_base.specs.declared.answers.Flight.{Flight}
 use Rattle.taxi_base.specs.State.{State, name_precedes, flight_named, without, with_flight}
@@ -66,6 +66,13 @@ find-absent name [] none = All-nil (λ f. IsFalse (bytes_eq f.name name))
 find-absent name (f ∷ fs) none =
     cond_both (bytes_eq f.name name) (Some f) (flight_named name fs) (λ o. o ≡ None → All (λ f. IsFalse (bytes_eq f.name name)) (f ∷ fs)) (λ _ h. absurd (cc h))
     (λ other h. All-cons (λ f. IsFalse (bytes_eq f.name name)) f fs other (find-absent name fs h)) none
+
+-- what holds of each of some flights holds of one that is found among them
+pub find-holds : (test : Flight → Bool) (P : Flight → Type 0) (fs : State) (x : Flight) → All P fs → find test fs ≡ Some x → P x
+find-holds test P [] x all found = absurd (cc found)
+find-holds test P (f ∷ fs) x all found =
+    cond_both (test f) (Some f) (find test fs) (λ o. o ≡ Some x → P x) (λ _ here. let same : f ≡ x = cc here in subst P same (All-head P f fs all))
+    (λ _ there. find-holds test P fs x (All-tail P f fs all) there) found
 
 -- ---- the name at a place
 

@@ -10,11 +10,19 @@ use Rattle.taxi_base.specs.declared.rows.Step.{Step}
 use Rattle.taxi_base.specs.declared.answers.Flight.{Flight}
 use Rattle.taxi_base.specs.declared.answers.StepCause.TheVariants.{Taken}
 use Rattle.taxi_base.specs.Airport.{Airport, segment_of}
-use Rattle.taxi_base.specs.Windows.{Hold, blocks, hold_of}
+use Rattle.taxi_base.specs.declared.numbers.Segment.{Segment}
+use Rattle.taxi_base.specs.Windows.{Hold, blocks, hold_of, is_free}
 use Rattle.taxi_base.specs.State.{State, flight_holds, holds_in}
 use Rattle.taxi_base.specs.Faults.{first_taken, holder_at, conditions_in, taken_cause}
 use Rattle.taxi_base.proofs.HoldLaws.{is_free-true, is_free-from}
 use Rattle.taxi_base.proofs.FaultLaws.{first_taken-None}
+use Rattle.taxi_base.proofs.ListLaws.{Contains-map}
+use Rattle.taxi_base.proofs.WindowLaws.{AreWindows-member}
+use Rattle.interval_list.specs.declared.window.Window.{Window}
+use Rattle.interval_list.specs.Intervals.{span_of}
+use Rattle.window_store.specs.Store.{Store, windows_at, spans_at}
+use Rattle.window_store.specs.Stands.{StandsFor}
+use Rattle.window_store.specs.Kept.{IsWindowAt}
 use Rattle.commitments.specs.Taken.{IsFirstTaken}
 
 -- the first of the seconds in a row that passes a test
@@ -66,3 +74,15 @@ module _ (airport : Airport) (class : Class) (state : State) (step : Step) (on_s
       find-first (λ t. not (free t)) step.enter (step.leave - step.enter) t taken.0 (omega (arith, taken.1)) (held t name taken.2)
       (λ u low high. rw (unheld u (omega (arith, taken.1)) (taken.3 u low high)) refl) in
       ap (option_and_then (λ t. option_map (λ f. Taken t f.name) (holder_at airport state (segment_of step.arc) t))) first ∙ (named-cause t name (holder_at airport state (segment_of step.arc) t) taken.2)
+
+  -- nothing is taken where the step lies in one of its segment's free windows
+  pub taken_cause-in_window : (store : Store) (o : Option Window) → StandsFor airport.conflicts airport.horizon (holds_in airport state) store → (segment_of step.arc).0 < length store.lists
+      → IsWindowAt (windows_at store (segment_of step.arc)) (hold_of step).span o → IsTrue (is_some o) → taken_cause airport class state step ≡ None
+  taken_cause-in_window store None stands on_list none some = absurd (cc some)
+  taken_cause-in_window store (Some w) stands on_list inside some =
+      let segment : Segment = segment_of step.arc in
+      let window = AreWindows-member (is_free airport.conflicts airport.horizon (holds_in airport state) segment) (spans_at store segment) (span_of w) (stands segment on_list).windows
+      (Contains-map span_of (windows_at store segment) w inside.0) in
+      let unfound : first_taken free (hold_of step).span ≡ None = (first_taken-None free (hold_of step).span).1
+      (λ t low high. and_from _ _ (lt-ltb _ _ on_segment) (window.all t (omega (arith, inside.1.0)) (omega (arith, inside.1.1)))) in
+      ap (option_and_then (λ t. option_map (λ f. Taken t f.name) (holder_at airport state segment t))) unfound

@@ -1,47 +1,48 @@
-//! Flights in a slab, and their names in rising order with the keys.
-ghost use Rattle.std.specs.Prelude.{◌≡◌, ◌+◌, ◌<◌, ◌≤◌, [], Some, None, length, slice_get, IfOk, IfNone, IsOk, OnOk, option_copied};
-ghost use Rattle.commitments.specs.Book.{IsBook};
-ghost use Rattle.commitments.specs.Places.{AreInOrder, IsPlace};
-ghost use Rattle.taxi_base.specs.Airport.{Airport};
-ghost use Rattle.taxi_base.specs.Walks.{conditions_among, IsFeasibleWalk};
-ghost use Rattle.taxi_base.specs.State.{flight_named, with_flight, without, holds_in, IsFeasibleState};
+//! The flights in force, and the free windows that they leave.
+ghost use Rattle.std.specs.Prelude.{◌≡◌, ◌+◌, ◌<◌, ◌≤◌, ◌^◌, [], Some, None, length, slice_get, All, IsTrue, IfOk, IfNone, IfSome, OnOk, option_copied};
+ghost use Rattle.taxi_base.specs.Airport.{IsWellFormed, arc_exists, layout_of};
+ghost use Rattle.taxi_base.specs.Windows.{holds_of};
+ghost use Rattle.taxi_base.specs.Walks.{IsFeasibleWalk};
+ghost use Rattle.taxi_base.specs.State.{flight_named, with_flight, without, holds_in};
+ghost use Rattle.taxi_base.specs.Faults.{conditions_in};
+ghost use Rattle.window_store.specs.Kept.{IsApartFrom, IsClearOf, KeepsWindows, KeepsNodes, GainsRoom};
+ghost use Rattle.commitments.specs.Book.{Book, Fits, IsPrepared, IsBook};
 
-use slab::Slab;
+use crate::flight_list::FlightList;
+use airport_file::Airport;
+use conflict_sets::Conflicts;
 use std::alloc::Global;
 use std::marker::Model;
-use taxi_base::{Flight, Memory, Name};
+use taxi_base::{Flight, Memory, Name, Step};
+use window_store::WindowStore;
 
-/// The flights in force, by rising names, each with at least one step.
+/// The flights in force, by rising names, each with at least one step, and the free windows of each segment.
 #[derive(Drop)]
 pub struct Ledger {
-    flights: Slab<Flight>,
-    names: Vec<(Name, usize)>,
+    pub(crate) flights: FlightList,
+    pub(crate) store: WindowStore,
 }
 
 impl Model for Ledger {
-    ghost use Rattle.std.specs.Prelude.{◌-◌, min, vec_len, vec_capacity};
-    ghost use Rattle.slab.specs.Slab.{slab_len};
-    ghost use Rattle.commitments.specs.Book.{Book, IsBook, flights_of, AreNamed};
+    ghost use Rattle.commitments.specs.Book.{Book};
 
     ghost Value = { Book };
 
-    ghost view = { λ l. record {
-      flights = flights_of l.flights l.names.items;
-      room = min (l.flights.capacity - slab_len l.flights) (vec_capacity l.names - vec_len l.names);
-    } };
-
-    ghost invariant = { λ l. AreNamed l.flights l.names.items × IsBook (flights_of l.flights l.names.items) };
+    ghost view = { λ l. record { flights = l.flights.flights; room = l.flights.room; store = l.store } };
 }
 
 impl Ledger {
-    /// No flight.
-    pub fn new(alloc: Global) -> Ledger
-        ensures { result ≡ record { flights = []; room = 0 } }
+    /// No flight over an airport: all seconds are free.
+    pub fn new(alloc: Global, airport: &Airport) -> Result<Ledger, Memory>
+        ensures flights { IfOk result (λ l. l.flights ≡ []) }
+        ensures fits { IfOk result (Fits airport.now) }
     {
-        Ledger {
-            flights: Slab::new(alloc),
-            names: Vec::new(alloc),
-        }
+        let segments = airport.graph().segments();
+        let store = WindowStore::new(alloc, segments, airport.horizon())?;
+        Ok(Ledger {
+            flights: FlightList::new(alloc),
+            store,
+        })
     }
 
     /// How many flights are in force.
@@ -49,7 +50,7 @@ impl Ledger {
         ensures count { result ≡ length self.now.flights }
         ensures book { IsBook self.now.flights }
     {
-        self.names.len()
+        self.flights.count()
     }
 
     /// The flight at a place, by rising names.
@@ -57,111 +58,86 @@ impl Ledger {
         requires { place < length self.now.flights }
         ensures { slice_get self.now.flights place ≡ Some result.now }
     {
-        let (_, key) = self.names[place];
-        &self.flights[key]
+        self.flights.at(place)
     }
 
     /// The flight of a name.
     pub fn flight(&self, name: &Name) -> Option<&Flight>
         ensures { option_copied result ≡ flight_named name.now self.now.flights }
     {
-        let Ok(place) = place_of(&self.names, name) else {
-            return None;
-        };
-        Some(self.at(place))
+        self.flights.flight(name)
     }
 
-    /// Makes room for one more flight. The flights stay, also where memory runs out.
-    pub fn prepare(&mut self) -> Result<(), Memory>
-        ensures room { OnOk result (1 ≤ self.new.room) }
+    /// The free windows of each segment.
+    pub fn store(&self) -> &WindowStore
+        ensures { result.now ≡ self.now.store }
+    {
+        &self.store
+    }
+
+    /// Makes room for one more flight with these steps. The flights and all windows stay, also where memory runs out.
+    pub fn prepare(&mut self, airport: &Airport, steps: &[Step]) -> Result<(), Memory>
+        requires fits { Fits airport.now self.old }
+        requires arcs { All (λ s. IsTrue (arc_exists (layout_of airport.now) s.arc)) steps.now }
+        requires few { length steps.now < 2 ^ 32 }
+        ensures room { OnOk result (IsPrepared airport.now steps.now self.new) }
         ensures flights { self.new.flights ≡ self.old.flights }
         ensures kept { self.old.room ≤ self.new.room }
-        ensures prepared { 1 ≤ self.old.room → IsOk result }
+        ensures windows { GainsRoom self.old.store self.new.store }
+        ensures fits { Fits airport.now self.new }
     {
-        self.flights.reserve(1)?;
-        self.names.reserve(1)?;
+        self.flights.prepare()?;
+        self.store.reserve(ruled_conflicts(airport), steps)?;
         Ok(())
     }
 
-    /// Puts a flight in force. It needs no memory.
-    pub fn commit(&mut self, flight: Flight)
-        requires room { 1 ≤ self.old.room }
+    /// Puts a flight in force. It needs no memory. A window that has no second of its route stays as it is.
+    pub fn commit(&mut self, airport: &Airport, flight: Flight)
+        requires fits { Fits airport.now self.old }
+        requires prepared { IsPrepared airport.now flight.steps self.old }
         requires absent { flight_named flight.name self.old.flights ≡ None }
-        requires routed { 1 ≤ length flight.steps }
+        requires few { length self.old.flights < 4096 }
+        requires feasible { IsFeasibleWalk (conditions_in airport.now flight.class self.old.flights) flight.steps }
         ensures flights { self.new.flights ≡ with_flight flight self.old.flights }
         ensures room { self.new.room + 1 ≡ self.old.room }
-        ensures feasible { (airport : Airport) → IsFeasibleState airport self.old.flights → length self.old.flights < 4096 → IsFeasibleWalk (conditions_among airport flight.class (holds_in airport self.old.flights)) flight.steps → IsFeasibleState airport self.new.flights }
+        ensures kept { KeepsWindows IsApartFrom airport.now.conflicts (holds_of flight.steps) self.old.store self.new.store }
+        ensures nodes { KeepsNodes self.old.store self.new.store }
+        ensures fits { Fits airport.now self.new }
     {
-        let name = flight.name;
-        let place = place_of(&self.names, &name).unwrap_err();
-        let key = self.flights.insert_reserved(flight);
-        self.names.insert(place, (name, key)).unwrap();
+        self.store
+            .occupy(ruled_conflicts(airport), flight.steps.as_slice());
+        self.flights.insert(flight);
     }
 
-    /// Takes the flight of a name out of force. It needs no memory, and the room does not fall.
-    pub fn cancel(&mut self, name: &Name) -> Option<Flight>
+    /// Takes the flight of a name out of force. It needs no memory, and there is room for it afterwards. A window that
+    /// neither meets nor touches its route stays as it is.
+    pub fn cancel(&mut self, airport: &Airport, name: &Name) -> Option<Flight>
+        requires fits { Fits airport.now self.old }
         ensures flight { result ≡ flight_named name.now self.old.flights }
         ensures flights { self.new.flights ≡ without name.now self.old.flights }
         ensures unchanged { IfNone result (self.new ≡ self.old) }
+        ensures prepared { IfSome result (λ flight. IsPrepared airport.now flight.steps self.new) }
         ensures room { self.old.room ≤ self.new.room }
+        ensures kept { IfSome result (λ flight. KeepsWindows IsClearOf airport.now.conflicts (holds_of flight.steps) self.old.store self.new.store) }
+        ensures nodes { KeepsNodes self.old.store self.new.store }
+        ensures fits { Fits airport.now self.new }
     {
-        let Ok(place) = place_of(&self.names, name) else {
-            return None;
-        };
-        let (_, key) = self.names.remove(place);
-        Some(self.flights.remove(key))
+        let flight = self.flights.remove(name)?;
+        // The flight is out of the list by now, so that what it held is not held by the others.
+        self.store.release(
+            ruled_conflicts(airport),
+            &self.flights,
+            flight.steps.as_slice(),
+        );
+        Some(flight)
     }
 }
 
-// Where a name is, or where it would go.
-fn place_of(names: &[(Name, usize)], name: &Name) -> Result<usize, usize>
-    requires { AreInOrder names.now }
-    ensures { IsPlace names.now name.now result }
+// The conflicts of an airport, with the rules that it keeps: so its horizon is near, and each step takes time.
+fn ruled_conflicts(airport: &Airport) -> &Conflicts
+    ensures conflicts { result.now ≡ record { segments = length airport.now.segments; sets = airport.now.conflicts } }
+    ensures rules { IsWellFormed airport.now }
 {
-    names.binary_search_by_key(name, |n| n.0)
-}
-
-#[cfg(test)]
-mod tests {
-    use super::*;
-    use std::test::Fail;
-    use taxi_base::{Arc, Class, List, Request, Step};
-
-    fn flight(alloc: Global, name: Name, arc: u32) -> Result<Flight, Memory>
-        ensures { IfOk result (λ f. (f.name ≡ name) × (length f.steps ≡ 1)) }
-    {
-        let mut steps = List::new(alloc);
-        steps.push(Step {
-            arc: Arc(arc),
-            enter: 100,
-            leave: 130,
-        })?;
-        Ok(Flight {
-            name,
-            class: Class(0),
-            request: Request::Filed,
-            steps,
-        })
-    }
-
-    #[test]
-    fn flights_stand_by_name_and_leave_again(rt: HostRuntime) -> Result<(), Fail> {
-        let early = Name::read(b"F1").ok_or("F1 is a name")?;
-        let late = Name::read(b"F2").ok_or("so is F2")?;
-        let mut ledger = Ledger::new(rt.alloc());
-        ledger.prepare()?;
-        assert!(rt; ledger.flight(&late).is_none());
-        ledger.commit(flight(rt.alloc(), late, 2)?);
-        ledger.prepare()?;
-        assert!(rt; ledger.flight(&early).is_none());
-        ledger.commit(flight(rt.alloc(), early, 4)?);
-        assert_eq!(rt; ledger.count(), 2);
-        assert_eq!(rt; ledger.at(0).name, early);
-        assert_eq!(rt; ledger.at(1).name, late);
-        let gone = ledger.cancel(&early).ok_or("F1 was in force")?;
-        assert_eq!(rt; gone.steps.as_slice().len(), 1);
-        assert!(rt; ledger.cancel(&early).is_none());
-        assert_eq!(rt; ledger.count(), 1);
-        Ok(())
-    }
+    let _horizon = airport.horizon();
+    airport.conflicts()
 }

@@ -3,6 +3,7 @@ ghost use Rattle.std.specs.Prelude.{◌≡◌, ◌↔◌, ◌+◌, ◌<◌, ◌�
 ghost use Rattle.taxi_base.specs.declared.numbers.Class.{Class};
 ghost use Rattle.taxi_base.specs.Airport.{arc_exists, layout_of};
 ghost use Rattle.taxi_base.specs.Walks.{AreJoined, IsFeasibleWalk};
+ghost use Rattle.commitments.specs.Book.{Fits};
 ghost use Rattle.taxi_base.specs.Faults.{conditions_in, may_follow, taken_cause, cause_of, route_fault};
 
 use crate::Ledger;
@@ -13,6 +14,7 @@ use taxi_base::{Arc, Class, Step, StepCause, StepFault, Time};
 impl Ledger {
     /// The first step of a route that fails among the flights in force, and the first of its causes. It needs no memory.
     pub fn check_route(&self, airport: &Airport, class: Class, steps: &[Step]) -> Option<StepFault>
+        requires fits { Fits airport.now self.now }
         requires arcs { All (λ s. IsTrue (arc_exists (layout_of airport.now) s.arc)) steps.now }
         requires few { length steps.now < 2 ^ 32 }
         ensures fault { result ≡ route_fault airport.now class self.now.flights steps.now }
@@ -37,7 +39,8 @@ impl Ledger {
         before: Option<Arc>,
         step: &Step,
     ) -> Option<StepCause>
-        requires { IsTrue (arc_exists (layout_of airport.now) step.now.arc) }
+        requires fits { Fits airport.now self.now }
+        requires arc { IsTrue (arc_exists (layout_of airport.now) step.now.arc) }
         ensures { result ≡ cause_of airport.now class self.now.flights before step.now }
     {
         let Some(seconds) = airport.classes().seconds(class, segment_of(step.arc)) else {
@@ -56,11 +59,22 @@ impl Ledger {
 
     // The first second at which the step's segment is taken, and by whom.
     fn taken_cause(&self, airport: &Airport, step: &Step) -> Option<StepCause>
+        requires fits { Fits airport.now self.now }
         requires arc { IsTrue (arc_exists (layout_of airport.now) step.now.arc) }
+        requires some { step.now.enter < step.now.leave }
         requires in_time { step.now.leave ≤ airport.now.horizon }
         ensures { (class : Class) → result ≡ taken_cause airport.now class self.now.flights step.now }
     {
-        let (at, by) = self.first_taken(airport.conflicts(), step)?;
+        // Where the step lies in a free window, no flight needs to be looked at.
+        let segment = segment_of(step.arc);
+        if self
+            .store
+            .window_at(segment, step.enter, step.leave)
+            .is_some()
+        {
+            return None;
+        }
+        let (at, by) = self.flights.first_taken(airport.conflicts(), step)?;
         Some(StepCause::Taken { at, by })
     }
 }

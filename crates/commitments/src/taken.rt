@@ -4,12 +4,12 @@ ghost use Rattle.taxi_base.specs.Airport.{segment_of};
 ghost use Rattle.taxi_base.specs.Windows.{blocks, hold_of};
 ghost use Rattle.commitments.specs.Taken.{IsFirst, earlier, sooner, takes, IsFirstTaken};
 
-use crate::Ledger;
+use crate::flight_list::FlightList;
 use conflict_sets::Conflicts;
 use segment_graph::segment_of;
 use taxi_base::{Name, Step, Time};
 
-impl Ledger {
+impl FlightList {
     // The first second of a step at which a flight holds a segment in conflict with its own, and the first such flight.
     pub(crate) fn first_taken(&self, conflicts: &Conflicts, step: &Step) -> Option<(Time, Name)>
         requires { step.now.arc.0 / 2 < conflicts.now.segments }

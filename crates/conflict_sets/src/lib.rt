@@ -48,6 +48,13 @@ impl Conflicts {
         Ok(Conflicts { sets, rows })
     }
 
+    /// The sets, in the order in which they were given.
+    pub fn sets(&self) -> &[List<Segment>]
+        ensures { result.now ≡ self.now.sets }
+    {
+        self.sets.as_slice()
+    }
+
     /// The segments in conflict with this one, itself among them, in order of number.
     pub fn of(&self, segment: Segment) -> &[Segment]
         requires { segment.0 < self.now.segments }

@@ -76,6 +76,13 @@ impl Graph {
         self.links.len()
     }
 
+    /// The forbidden turns, in the order in which they were given.
+    pub fn forbidden(&self) -> &[(Arc, Arc)]
+        ensures { result.now ≡ self.now.forbidden }
+    {
+        self.forbidden.as_slice()
+    }
+
     /// Whether there is an arc with this number.
     pub fn exists(&self, arc: Arc) -> bool
         ensures { result ≡ arc_exists self.now arc }

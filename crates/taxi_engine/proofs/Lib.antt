@@ -1,3 +1,4 @@
 pub mod StepsMade
 pub mod FiledDue
 pub mod AnswerLaws
+pub mod Told

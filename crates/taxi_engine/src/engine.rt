@@ -1,50 +1,53 @@
 //! The engine.
-ghost use Rattle.std.specs.Prelude.{◌≡◌, ◌≤◌, [], length, IfOk, false};
+ghost use Rattle.std.specs.Prelude.{◌≡◌, ◌⊎◌, [], Some, IfOk};
 ghost use Rattle.taxi_base.specs.State.{IsSound};
-ghost use Rattle.taxi_base.specs.Walks.{begin_of, end_of};
-ghost use Rattle.certificate.specs.declared.block.Block.TheVariants.{Refused, Filed};
-ghost use Rattle.certificate.specs.Texts.{is_long, block_text};
+ghost use Rattle.certificate.specs.Replies.{refused, due_to_command, HasStepCount, IsCancel};
+ghost use Rattle.commitments.specs.Book.{Fits};
 ghost use Rattle.taxi_engine.specs.Engine.{Answers};
+ghost use Rattle.taxi_engine.specs.Accepted.{IsDone, IsDoneOrMemory};
 
-use crate::command::{begin_of, check_line, end_of};
+use crate::reply::ReplyText;
+use crate::texts::refused_text;
 use airport_file::Airport;
-use certificate::{Block, print_short};
 use commitments::Ledger;
 use std::alloc::Global;
 use std::marker::Model;
-use taxi_base::{Flight, Memory, Refusal};
-use taxi_text::ShortText;
+use taxi_base::{Memory, Refusal};
+use taxi_text::{Command, CommandRefused, read_command};
 
 /// Answers commands over an airport and the flights in force, which are always sound.
 #[derive(Drop)]
 pub struct Engine {
-    alloc: Global,
-    airport: Airport,
-    ledger: Ledger,
-    reply: ShortText,
+    pub(crate) alloc: Global,
+    pub(crate) airport: Airport,
+    pub(crate) ledger: Ledger,
+    pub(crate) reply: ReplyText,
 }
 
 impl Model for Engine {
     ghost use Rattle.taxi_base.specs.State.{IsSound};
+    ghost use Rattle.commitments.specs.Book.{Fits};
     ghost use Rattle.taxi_engine.specs.Engine.{EngineState};
 
     ghost Value = { EngineState };
 
     ghost view = { λ e. record { airport = e.airport; flights = e.ledger.flights; reply = e.reply } };
 
-    ghost invariant = { λ e. IsSound e.airport e.ledger.flights };
+    ghost invariant = { λ e. IsSound e.airport e.ledger.flights × Fits e.airport e.ledger };
 }
 
 impl Engine {
-    /// An engine over an airport, with no flight in force.
+    /// An engine over an airport, with no flight in force. After an error the airport is gone.
     pub fn new(alloc: Global, airport: Airport) -> Result<Engine, Memory>
         ensures { IfOk result (λ e. e ≡ record { airport = airport; flights = []; reply = [] }) }
     {
+        let ledger = Ledger::new(alloc, &airport)?;
+        let reply = ReplyText::new(alloc);
         Ok(Engine {
             alloc,
             airport,
-            ledger: Ledger::new(alloc),
-            reply: ShortText::new(),
+            ledger,
+            reply,
         })
     }
 
@@ -56,7 +59,8 @@ impl Engine {
     }
 
     pub fn ledger(&self) -> &Ledger
-        ensures { result.now.flights ≡ self.now.flights }
+        ensures flights { result.now.flights ≡ self.now.flights }
+        ensures fits { Fits self.now.airport result.now }
     {
         &self.ledger
     }
@@ -72,43 +76,41 @@ impl Engine {
     pub fn answer(&mut self, line: &[u8])
         ensures { Answers self.old line.now self.new }
     {
-        match check_line(self.alloc, &self.airport, &mut self.ledger, line) {
-            Ok(flight) => {
-                self.reply = filed_text(&self.airport, &flight);
-                self.ledger.commit(flight);
-            }
-            Err(why) => self.reply = refused_text(&self.airport, &why),
+        match read_command(self.alloc, line) {
+            Ok(command) => self.carry_out(&command),
+            Err(CommandRefused::BadLine) => self.refuse(&Refusal::BadLine),
+            Err(CommandRefused::Memory) => self.refuse(&Refusal::Memory),
         }
     }
-}
 
-// The reply where a route is filed.
-fn filed_text(airport: &Airport, flight: &Flight) -> ShortText
-    requires { 1 ≤ length flight.now.steps }
-    ensures { result ≡ block_text airport.now (Filed flight.now.name (begin_of flight.now.steps) (end_of flight.now.steps)) }
-{
-    let steps = flight.steps.as_slice();
-    text_of(
-        airport,
-        &Block::Filed {
-            flight: flight.name,
-            start: begin_of(steps),
-            end: end_of(steps),
-        },
-    )
-}
+    // Does what a command asks for, or refuses it.
+    fn carry_out(&mut self, command: &Command)
+        requires { HasStepCount command.now }
+        ensures done { IsDoneOrMemory (due_to_command self.old.airport self.old.flights command.now) self.old self.new }
+        ensures cancel { IsCancel (Some command.now) → IsDone (due_to_command self.old.airport self.old.flights command.now) self.old self.new }
+    {
+        match command {
+            Command::File {
+                flight,
+                class,
+                start,
+                steps,
+            } => self.file(flight, class, *start, steps.as_slice()),
+            Command::Cancel { flight } => self.cancel(flight),
+            Command::Windows { segment } => self.tell_windows(segment),
+            Command::Arrival { .. }
+            | Command::Departure { .. }
+            | Command::Reroute { .. }
+            | Command::Divert { .. }
+            | Command::Occupancy { .. }
+            | Command::Timetable => self.refuse(&Refusal::NotBuilt),
+        }
+    }
 
-// The reply where a command is refused.
-fn refused_text(airport: &Airport, why: &Refusal) -> ShortText
-    ensures { result ≡ block_text airport.now (Refused why.now) }
-{
-    text_of(airport, &Block::Refused(*why))
-}
-
-// The text of a short block.
-fn text_of(airport: &Airport, block: &Block) -> ShortText
-    requires { is_long block.now ≡ false }
-    ensures { result ≡ block_text airport.now block.now }
-{
-    print_short(airport, block).unwrap()
+    /// Writes a refusal, which changes nothing else.
+    pub(crate) fn refuse(&mut self, why: &Refusal)
+        ensures { IsDone (refused self.old.flights why.now) self.old self.new }
+    {
+        self.reply.set_short(refused_text(&self.airport, why));
+    }
 }

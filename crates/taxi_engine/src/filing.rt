@@ -3,8 +3,11 @@ ghost use Rattle.std.specs.Prelude.{◌≡◌, ◌⊎◌, ◌≤◌, ◌<◌, �
 ghost use Rattle.taxi_base.specs.Airport.{Airport};
 ghost use Rattle.taxi_base.specs.Walks.{begin_of, end_of};
 ghost use Rattle.certificate.specs.Replies.{filed_steps, due_to_file};
-ghost use Rattle.taxi_engine.specs.Engine.{IsAccepted, IsRefused};
+ghost use Rattle.commitments.specs.Book.{Fits, IsPrepared};
+ghost use Rattle.taxi_engine.specs.Accepted.{IsAccepted, IsRefused, IsDoneOrMemory};
 
+use crate::Engine;
+use crate::texts::filed_text;
 use airport_file::Airport;
 use commitments::Ledger;
 use std::alloc::Global;
@@ -14,8 +17,34 @@ use taxi_text::FiledStep;
 /// How many flights may be in force.
 const MOST_FLIGHTS: usize = 4096;
 
-/// The flight that takes a route given by hand, with room for it in the ledger, or why it is refused.
-pub(crate) fn check_filed(
+impl Engine {
+    /// Files a route given by hand, or refuses it.
+    pub(crate) fn file(&mut self, flight: &Name, class: &Name, start: Time, filed: &[FiledStep])
+        requires few { length filed.now ≤ 256 }
+        requires some { 1 ≤ length filed.now }
+        ensures { IsDoneOrMemory (due_to_file self.old.airport self.old.flights flight.now class.now start filed.now) self.old self.new }
+    {
+        let checked = check_filed(
+            self.alloc,
+            &self.airport,
+            &mut self.ledger,
+            flight,
+            class,
+            start,
+            filed,
+        );
+        match checked {
+            Ok(flight) => {
+                self.reply.set_short(filed_text(&self.airport, &flight));
+                self.ledger.commit(&self.airport, flight);
+            }
+            Err(why) => self.refuse(&why),
+        }
+    }
+}
+
+// The flight that takes a route given by hand, with room for it in the ledger, or why it is refused.
+fn check_filed(
     alloc: Global,
     airport: &Airport,
     ledger: &mut Ledger,
@@ -24,12 +53,14 @@ pub(crate) fn check_filed(
     start: Time,
     filed: &[FiledStep],
 ) -> Result<Flight, Refusal>
+    requires fits { Fits airport.now ledger.old }
     requires few { length filed.now ≤ 256 }
     requires some { 1 ≤ length filed.now }
-    ensures ok { IfOk result (IsAccepted (due_to_file airport.now ledger.old.flights flight.now class.now start filed.now) ledger.old.flights) }
+    ensures ok { IfOk result (IsAccepted (due_to_file airport.now ledger.old.flights flight.now class.now start filed.now) airport.now ledger.old.flights) }
+    ensures prepared { IfOk result (λ f. IsPrepared airport.now f.steps ledger.new) }
     ensures err { IfErr result (IsRefused (due_to_file airport.now ledger.old.flights flight.now class.now start filed.now) ledger.old.flights) }
-    ensures room { IfOk result (λ f. 1 ≤ ledger.new.room) }
     ensures flights { ledger.new.flights ≡ ledger.old.flights }
+    ensures fits { Fits airport.now ledger.new }
 {
     if ledger.flight(flight).is_some() {
         return Err(Refusal::InForce);
@@ -44,7 +75,7 @@ pub(crate) fn check_filed(
     if let Some(fault) = ledger.check_route(airport, class, steps.as_slice()) {
         return Err(Refusal::Step(fault));
     }
-    if ledger.prepare().is_err() {
+    if ledger.prepare(airport, steps.as_slice()).is_err() {
         return Err(Refusal::Memory);
     }
     Ok(Flight {

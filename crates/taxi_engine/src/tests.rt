@@ -26,7 +26,7 @@ forbid,A+,B+
 ";
 
 // Lines with their replies, in turn.
-const REPLIES: [(&[u8], &[u8]); 24] = [
+const REPLIES: [(&[u8], &[u8]); 27] = [
     (b"file F1 M 100 A+ 130 C+ 155 D+ 170", b"filed F1 100 170\n"),
     (b"file X2 M 0 A+ 29", b"refused step 1 too-fast\n"),
     (b"file X2 M 90 A+ 125", b"refused step 1 taken 100 F1\n"),
@@ -43,14 +43,23 @@ const REPLIES: [(&[u8], &[u8]); 24] = [
     (b"file X9 M 0 Z+ 30", b"refused unknown-segment\n"),
     (b"arrival F9 M R S1 100 0", b"refused not-built\n"),
     (b"departure F9 M S2 R 100 0", b"refused not-built\n"),
-    (b"cancel F1", b"refused not-built\n"),
     (b"reroute F1 1", b"refused not-built\n"),
     (b"divert F1 1 S2", b"refused not-built\n"),
-    (b"windows A", b"refused not-built\n"),
     (b"occupancy A", b"refused not-built\n"),
     (b"timetable", b"refused not-built\n"),
     (b"cancel  F1", b"refused bad-line\n"),
     (b"file X9 M 0 \xff+ 30", b"refused bad-line\n"),
+    (
+        b"windows A",
+        b"windows A 2\nwindow 0 100\nwindow 180 3600\n",
+    ),
+    (b"windows Z", b"refused unknown-segment\n"),
+    (b"cancel F1", b"cancelled F1\n"),
+    (b"cancel F1", b"refused not-in-force\n"),
+    (
+        b"windows A",
+        b"windows A 2\nwindow 0 155\nwindow 180 3600\n",
+    ),
 ];
 
 fn small_engine(alloc: Global) -> Option<Engine> {
@@ -65,7 +74,7 @@ fn lines_get_the_replies_worked_by_hand(rt: HostRuntime) -> Result<(), Fail> {
         engine.answer(line);
         assert_eq!(rt; engine.reply(), reply);
     }
-    assert_eq!(rt; engine.ledger().count(), 2);
+    assert_eq!(rt; engine.ledger().count(), 1);
     assert_eq!(rt; engine.airport().horizon(), 3600);
     Ok(())
 }

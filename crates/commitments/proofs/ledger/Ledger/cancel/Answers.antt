@@ -1,44 +1,37 @@
-use Rattle.std.proofs.Common.{ℕ, List, ◌∙◌, sym, ap}
-use Rattle.slab.specs.Slab.{get}
-use Rattle.taxi_base.specs.State.{without, flight_named}
-use Rattle.commitments.specs.Book.{Book}
-use Rattle.commitments.proofs.Edits.{in_order, gap-named, gap-without, flight-named, flight-at, cancelled}
+use Rattle.std.proofs.Common.{sym, subst, ◌∙◌}
+use Rattle.commitments.specs.Book.{Fits}
+use Rattle.commitments.proofs.Fitting.{named-on_segments, named-takes_time, named-in_time, named-apart, fits-without}
 use Rattle.commitments.proofs.ledger.Ledger.cancel.Goals as goal
 
-pub place_of-requires : goal.place_of-requires
-place_of-requires c = rw c.deref.ensures.value (in_order c.self.inside.flights c.self.inside.names.items c.self.invariant)
+pub release-requires-clause-steps : goal.release-requires-clause-steps
+release-requires-clause-steps c =
+    let fits = subst (Fits c.args.airport.now) (sym c.self.view_is) c.requires.fits in
+    rw (c.as_slice.ensures, c.ruled_conflicts.ensures.conflicts)
+    (named-on_segments c.args.airport.now c.ruled_conflicts.ensures.rules _ fits c.args.name.now c.in_ok-flight.flight (sym c.remove.ensures.flight ∙ c.in_ok-flight.was))
 
-pub returns-in_default-clause-flight : goal.returns-in_default-clause-flight
-returns-in_default-clause-flight c =
-    sym (gap-named c.self.inside.flights c.self.inside.names.items c.self.invariant c.args.name.now c.in_default.field-0 (rw c.deref.ensures.value at c.in_default.ensures))
-    ∙ ap (λ (b : Book). flight_named c.args.name.now b.flights) c.self.view_is
+pub release-requires-clause-time : goal.release-requires-clause-time
+release-requires-clause-time c =
+    let fits = subst (Fits c.args.airport.now) (sym c.self.view_is) c.requires.fits in
+    rw c.as_slice.ensures
+    (named-takes_time c.args.airport.now c.ruled_conflicts.ensures.rules _ fits c.args.name.now c.in_ok-flight.flight (sym c.remove.ensures.flight ∙ c.in_ok-flight.was))
 
-pub returns-in_default-clause-flights : goal.returns-in_default-clause-flights
-returns-in_default-clause-flights c =
-    ap (λ (b : Book). b.flights) (sym c.self.view_is)
-    ∙ sym (gap-without c.self.inside.flights c.self.inside.names.items c.self.invariant c.args.name.now c.in_default.field-0 (rw c.deref.ensures.value at c.in_default.ensures))
-    ∙ ap (λ (b : Book). without c.args.name.now b.flights) c.self.view_is
+pub release-requires-clause-stands : goal.release-requires-clause-stands
+release-requires-clause-stands c =
+    let fits = subst (Fits c.args.airport.now) (sym c.self.view_is) c.requires.fits in
+    let found = sym c.remove.ensures.flight ∙ c.in_ok-flight.was in (
+      c.args.airport.now.horizon,
+      rw c.as_slice.ensures (named-in_time c.args.airport.now c.ruled_conflicts.ensures.rules _ fits c.args.name.now c.in_ok-flight.flight found),
+      rw (c.as_slice.ensures, c.ruled_conflicts.ensures.conflicts, c.remove.ensures.flights)
+          (named-apart c.args.airport.now c.ruled_conflicts.ensures.rules _ fits c.args.name.now c.in_ok-flight.flight found),
+    )
 
-pub invariant_of-self : goal.invariant_of-self
-invariant_of-self c =
-    let place = rw c.deref.ensures.value at c.in-Ok.ensures in
-    let key = ap (λ (n : List ℕ × ℕ). n.1) (sym c.remove-key.ensures.value) in
-    rw c.remove-key.ensures.items (cancelled c.self.inside.flights c.self.inside.names.items c.self.invariant c.remove.new.self _ c.args.name.now c.in-Ok.place _
-    c.remove.ensures.updates key place).kept
-
-pub returns-clause-flight : goal.returns-clause-flight
-returns-clause-flight c =
-    let place = rw c.deref.ensures.value at c.in-Ok.ensures in
-    sym c.remove.ensures.value
-    ∙ ap (λ (n : List ℕ × ℕ). get c.self.inside.flights n.1) c.remove-key.ensures.value
-    ∙ flight-at c.self.inside.flights c.self.inside.names.items c.self.invariant c.in-Ok.place _ place.here
-    ∙ sym (flight-named c.self.inside.flights c.self.inside.names.items c.self.invariant c.args.name.now c.in-Ok.place place)
-    ∙ ap (λ (b : Book). flight_named c.args.name.now b.flights) c.self.view_is
-
-pub returns-clause-flights : goal.returns-clause-flights
-returns-clause-flights c =
-    let place = rw c.deref.ensures.value at c.in-Ok.ensures in
-    let key = ap (λ (n : List ℕ × ℕ). n.1) (sym c.remove-key.ensures.value) in
-    rw c.remove-key.ensures.items (cancelled c.self.inside.flights c.self.inside.names.items c.self.invariant c.remove.new.self _ c.args.name.now c.in-Ok.place _
-    c.remove.ensures.updates key place).flights
-    ∙ ap (λ (b : Book). without c.args.name.now b.flights) c.self.view_is
+pub returns-clause-fits : goal.returns-clause-fits
+returns-clause-fits c =
+    let fits = subst (Fits c.args.airport.now) (sym c.self.view_is) c.requires.fits in
+    let found = sym c.remove.ensures.flight ∙ c.in_ok-flight.was in
+    let stands = rw (c.as_slice.ensures, c.ruled_conflicts.ensures.conflicts, c.remove.ensures.flights) at c.release.ensures.stands in
+    rw c.remove.ensures.flights
+    (fits-without c.args.airport.now _ fits c.release.new.self c.release.ensures.nodes c.args.name.now c.remove.new.self.room
+    (stands c.args.airport.now.horizon
+    (named-in_time c.args.airport.now c.ruled_conflicts.ensures.rules _ fits c.args.name.now c.in_ok-flight.flight found)
+    (named-apart c.args.airport.now c.ruled_conflicts.ensures.rules _ fits c.args.name.now c.in_ok-flight.flight found)))

@@ -1,41 +1,31 @@
-use Rattle.std.proofs.Common.{◌≡◌, ◌∙◌, ap, true, rules}
-use Rattle.std.specs.Result.{is_ok}
-use Rattle.taxi_base.specs.State.{with_flight, flight_named}
-use Rattle.taxi_base.proofs.StateLaws.{IsFeasibleState-with_flight}
-use Rattle.commitments.specs.Book.{Book}
-use Rattle.commitments.proofs.Names.{find-absent}
-use Rattle.commitments.proofs.Edits.{in_order, is-gap, committed}
+use Rattle.std.proofs.Common.{sym, subst, ap}
+use Rattle.taxi_base.specs.State.{holds_in}
+use Rattle.commitments.specs.Book.{Book, Fits}
+use Rattle.commitments.proofs.Numbers.{walk-on_segments, walk-takes_time}
+use Rattle.commitments.proofs.Fitting.{fits-with_flight}
 use Rattle.commitments.proofs.ledger.Ledger.commit.Goals as goal
 
-pub place_of-requires : goal.place_of-requires
-place_of-requires c = rw c.deref.ensures.value (in_order c.self.inside.flights c.self.inside.names.items c.self.invariant)
+pub occupy-requires-clause-steps : goal.occupy-requires-clause-steps
+occupy-requires-clause-steps c =
+    rw (c.as_slice.ensures, c.ruled_conflicts.ensures.conflicts)
+    (walk-on_segments c.args.airport.now c.ruled_conflicts.ensures.rules c.args.flight.class (holds_in c.args.airport.now c.args.self.now.flights) c.args.flight.steps c.requires.feasible)
 
-pub unwrap_err-place-requires : goal.unwrap_err-place-requires
-unwrap_err-place-requires c =
-    is-gap c.self.inside.flights c.self.inside.names.items c.self.invariant c.args.flight.name c.place_of.result (rw c.deref.ensures.value at c.place_of.ensures)
-    (ap (λ (b : Book). flight_named c.args.flight.name b.flights) c.self.view_is ∙ c.requires.absent)
+pub occupy-requires-clause-time : goal.occupy-requires-clause-time
+occupy-requires-clause-time c =
+    rw c.as_slice.ensures
+    (walk-takes_time c.args.airport.now c.ruled_conflicts.ensures.rules c.args.flight.class (holds_in c.args.airport.now c.args.self.now.flights) c.args.flight.steps c.requires.feasible)
 
-pub invariant_of-self : goal.invariant_of-self
-invariant_of-self c =
-    let good : is_ok c.insert.result ≡ true = search rules in
-    let items = rw good at c.insert.ensures.items in
-    let k = c.insert_reserved-key.ensures in
-    let gap = rw (c.deref.ensures.value, c.unwrap_err-place.ensures) at c.place_of.ensures in
-    rw items (committed c.self.inside.flights c.self.inside.names.items c.self.invariant c.insert_reserved-key.new.self c.insert_reserved-key.result c.args.flight
-    c.unwrap_err-place.result k.updates k.was_vacant c.requires.routed gap).kept
+pub occupy-requires-clause-stands : goal.occupy-requires-clause-stands
+occupy-requires-clause-stands c =
+    let fits = subst (Fits c.args.airport.now) (sym c.self.view_is) c.requires.fits in
+    rw c.ruled_conflicts.ensures.conflicts (c.args.airport.now.horizon, holds_in c.args.airport.now c.self.inside.flights.flights, fits.stands)
 
-pub returns-clause-flights : goal.returns-clause-flights
-returns-clause-flights c =
-    let good : is_ok c.insert.result ≡ true = search rules in
-    let items = rw good at c.insert.ensures.items in
-    let k = c.insert_reserved-key.ensures in
-    let gap = rw (c.deref.ensures.value, c.unwrap_err-place.ensures) at c.place_of.ensures in
-    rw items (committed c.self.inside.flights c.self.inside.names.items c.self.invariant c.insert_reserved-key.new.self c.insert_reserved-key.result c.args.flight
-    c.unwrap_err-place.result k.updates k.was_vacant c.requires.routed gap).flights
-    ∙ ap (λ (b : Book). with_flight c.args.flight b.flights) c.self.view_is
-
-pub returns-clause-feasible : goal.returns-clause-feasible
-returns-clause-feasible c airport feasible few walk =
-    rw (returns-clause-flights c)
-    (IsFeasibleState-with_flight airport c.args.flight c.args.self.now.flights feasible few
-    (find-absent c.args.flight.name c.args.self.now.flights c.requires.absent) walk)
+pub returns-clause-fits : goal.returns-clause-fits
+returns-clause-fits c =
+    let fits = subst (Fits c.args.airport.now) (sym c.self.view_is) c.requires.fits in
+    let flights = ap (λ (b : Book). b.flights) c.self.view_is in
+    let stands = rw (c.as_slice.ensures, c.ruled_conflicts.ensures.conflicts) at c.occupy.ensures.stands in
+    rw c.insert.ensures.flights
+    (fits-with_flight c.args.airport.now _ fits c.occupy.new.self c.occupy.ensures.nodes c.args.flight c.insert.new.self.room
+    (rw flights c.requires.absent) (rw flights c.requires.few) (rw flights c.requires.feasible)
+    (stands c.args.airport.now.horizon (holds_in c.args.airport.now c.self.inside.flights.flights) fits.stands))

@@ -1,34 +1,29 @@
-use Rattle.std.proofs.Common.{Err, ap, subst, refl}
-use Rattle.taxi_base.specs.Walks.{begin_of, end_of}
-use Rattle.certificate.specs.declared.block.Block.TheVariants.{Refused, Filed}
-use Rattle.taxi_engine.specs.Engine.{EngineState, Answers}
-use Rattle.taxi_engine.proofs.AnswerLaws.{accepted-answered, refused-answered}
+use Rattle.std.proofs.Common.{◌∙◌, Err, ap, subst}
+use Rattle.std.specs.Prelude.{IfSome}
+use Rattle.taxi_base.specs.declared.answers.Refusal.TheVariants as refusal
+use Rattle.taxi_base.specs.State.{IsSound}
+use Rattle.taxi_engine.specs.Engine.{EngineState}
+use Rattle.certificate.specs.Replies.{refused, HasStepCount}
+use Rattle.certificate.proofs.GrammarLaws.{command_of-count}
+use Rattle.certificate.proofs.ReplyLaws.{due-bad_line}
+use Rattle.taxi_engine.proofs.AnswerLaws.{due-answers, memory-answers, command-answers, file-cancels-none}
 use Rattle.taxi_engine.proofs.engine.Engine.answer.Goals as goal
 
-pub invariant_of-self : goal.invariant_of-self
-invariant_of-self c =
-    rw (c.commit.ensures.flights, c.in-Ok.ensures.flights)
-    (accepted-answered c.self.inside.airport c.self.inside.ledger.flights c.args.line.now c.self.invariant c.in-Ok.flight c.in-Ok.ensures.ok).1
+pub carry_out-requires : goal.carry_out-requires
+carry_out-requires c = subst (λ o. IfSome o HasStepCount) c.in-Ok.ensures.ok (command_of-count c.args.line.now)
 
 pub returns-in-Ok : goal.returns-in-Ok
 returns-in-Ok c =
-    let f = c.in-Ok.flight in
-    let after : EngineState = record { airport = c.self.inside.airport; flights = c.commit.new.self.flights; reply = c.filed_text-self-inside.result } in
-    subst (λ s. Answers s c.args.line.now after) c.self.view_is (record {
-      block = Filed f.name (begin_of f.steps) (end_of f.steps);
-      answered = rw (c.commit.ensures.flights, c.in-Ok.ensures.flights)
-          (accepted-answered c.self.inside.airport c.self.inside.ledger.flights c.args.line.now c.self.invariant f c.in-Ok.ensures.ok).0;
-      reply = c.filed_text-self-inside.ensures;
-      airport = refl;
-    })
+    command-answers c.args.self.now c.carry_out.new.self c.args.line.now c.in-Ok.command (subst (λ (s : EngineState). IsSound s.airport s.flights) c.self.view_is c.self.invariant.0) c.in-Ok.ensures.ok c.carry_out.ensures.done c.carry_out.ensures.cancel
 
-pub returns-in-Err : goal.returns-in-Err
-returns-in-Err c =
-    let after : EngineState = record { airport = c.self.inside.airport; flights = c.check_line.new.ledger.flights; reply = c.refused_text-self-inside.result } in
-    subst (λ s. Answers s c.args.line.now after) c.self.view_is (record {
-      block = Refused c.in-Err.why;
-      answered = rw c.in-Err.ensures.flights
-          (refused-answered c.self.inside.airport c.self.inside.ledger.flights c.args.line.now c.self.invariant c.in-Err.why c.in-Err.ensures.err (λ e. c.in-Err.ensures.memory (ap Err e)));
-      reply = c.refused_text-self-inside.ensures;
-      airport = refl;
-    })
+pub returns-in-Err-BadLine : goal.returns-in-Err-BadLine
+returns-in-Err-BadLine c =
+    due-answers c.args.self.now c.refuse.new.self c.args.line.now (subst (λ (s : EngineState). IsSound s.airport s.flights) c.self.view_is c.self.invariant.0) (refused c.args.self.now.flights refusal.BadLine)
+    (due-bad_line c.args.self.now.airport c.args.self.now.flights c.args.line.now (c.read_command.ensures.bad_line.0 (c.in-Err-BadLine.is ∙ ap Err c.in-Err-BadLine.field-0-is)))
+    c.refuse.ensures
+
+pub returns-in-Err-Memory : goal.returns-in-Err-Memory
+returns-in-Err-Memory c =
+    memory-answers c.args.self.now c.refuse-in-Err-Memory.new.self c.args.line.now (subst (λ (s : EngineState). IsSound s.airport s.flights) c.self.view_is c.self.invariant.0)
+    (file-cancels-none c.args.line.now (c.read_command.ensures.memory (c.in-Err-Memory.is ∙ ap Err c.in-Err-Memory.field-0-is)))
+    c.refuse-in-Err-Memory.ensures

@@ -1,0 +1,13 @@
+pub mod Texts
+pub mod Names
+pub mod Judging
+pub mod Named
+pub mod Ways
+pub mod Times
+pub mod Tables
+pub mod Turns
+pub mod Sets
+pub mod Plans
+pub mod Again
+pub mod RecordLaws
+pub mod SegmentLaws

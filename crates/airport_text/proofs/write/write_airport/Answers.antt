@@ -1,0 +1,16 @@
+use Rattle.std.proofs.Common.{◌≡◌, IfOk, subst}
+use Rattle.airport_text.proofs.RecordLaws.{records-then, whole-text}
+use Rattle.airport_text.proofs.write.write_airport.Goals as goal
+
+-- Each kind's records follow those of the kinds before.
+pub returns : goal.returns
+returns c =
+    let from_turns = records-then _ _ _ _ _ c.in_ok-write_turns.ensures c.in_ok-write_conflicts.ensures in
+    let from_times = records-then _ _ _ _ _ c.in_ok-write_times.ensures from_turns in
+    let from_segments = records-then _ _ _ _ _ c.in_ok-write_segments.ensures from_times in
+    let from_classes = records-then _ _ _ _ _ c.in_ok-write_classes.ensures from_segments in
+    let from_nodes = records-then _ _ _ _ _ c.in_ok-write_nodes.ensures from_classes in
+    let from_horizon = records-then _ _ _ _ _ c.in_ok-write_horizon.ensures.text from_nodes in
+    let all = records-then _ _ _ _ _ c.in_ok-write_first.ensures from_horizon in
+    let whole = whole-text c.args.airport.now _ _ c.new-records.ensures all in
+    subst (λ t. IfOk c.finish.result (λ text. text.items ≡ t)) whole c.finish.ensures

@@ -1,0 +1,7 @@
+use Rattle.std.proofs.Common.{◌≡◌, map, take}
+use Rattle.airport_text.specs.Canonical.{class_record}
+use Rattle.airport_text.specs.Written.{and_records}
+use Rattle.airport_text.proofs.write.write_classes.Given as goal
+
+abbrev pub invariant-loop-number : goal.invariant-loop-number
+invariant-loop-number l = l.records ≡ and_records l.initial.records (map class_record (take l.number l.airport.classes))

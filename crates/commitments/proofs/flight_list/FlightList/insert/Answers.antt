@@ -1,0 +1,33 @@
+use Rattle.std.proofs.Common.{◌≡◌, ◌∙◌, ap, true, rules}
+use Rattle.std.specs.Result.{is_ok}
+use Rattle.taxi_base.specs.State.{with_flight, flight_named}
+use Rattle.commitments.specs.Book.{Listing}
+use Rattle.commitments.proofs.Edits.{in_order, is-gap, committed}
+use Rattle.commitments.proofs.flight_list.FlightList.insert.Goals as goal
+
+pub place_of-requires : goal.place_of-requires
+place_of-requires c = rw c.deref.ensures.value (in_order c.self.inside.flights c.self.inside.names.items c.self.invariant)
+
+pub unwrap_err-place-requires : goal.unwrap_err-place-requires
+unwrap_err-place-requires c =
+    is-gap c.self.inside.flights c.self.inside.names.items c.self.invariant c.args.flight.name c.place_of.result (rw c.deref.ensures.value at c.place_of.ensures)
+    (ap (λ (b : Listing). flight_named c.args.flight.name b.flights) c.self.view_is ∙ c.requires.absent)
+
+pub invariant_of-self : goal.invariant_of-self
+invariant_of-self c =
+    let good : is_ok c.insert.result ≡ true = search rules in
+    let items = rw good at c.insert.ensures.items in
+    let k = c.insert_reserved-key.ensures in
+    let gap = rw (c.deref.ensures.value, c.unwrap_err-place.ensures) at c.place_of.ensures in
+    rw items (committed c.self.inside.flights c.self.inside.names.items c.self.invariant c.insert_reserved-key.new.self c.insert_reserved-key.result c.args.flight
+    c.unwrap_err-place.result k.updates k.was_vacant c.requires.routed gap).kept
+
+pub returns-clause-flights : goal.returns-clause-flights
+returns-clause-flights c =
+    let good : is_ok c.insert.result ≡ true = search rules in
+    let items = rw good at c.insert.ensures.items in
+    let k = c.insert_reserved-key.ensures in
+    let gap = rw (c.deref.ensures.value, c.unwrap_err-place.ensures) at c.place_of.ensures in
+    rw items (committed c.self.inside.flights c.self.inside.names.items c.self.invariant c.insert_reserved-key.new.self c.insert_reserved-key.result c.args.flight
+    c.unwrap_err-place.result k.updates k.was_vacant c.requires.routed gap).flights
+    ∙ ap (λ (b : Listing). with_flight c.args.flight b.flights) c.self.view_is

@@ -1,0 +1,2 @@
+mod Releasing
+pub mod Standing

@@ -1,0 +1,30 @@
+use Rattle.std.proofs.Common.{[], ◌∷◌, List, subst, arith}
+use Rattle.taxi_base.specs.declared.rows.Span.{Span}
+use Rattle.segment_windows.specs.Standing.{StandsForSpans}
+use Rattle.segment_windows.proofs.tests.hold_three.Goals as goal
+
+pub hold-requires-2-clause-stands : goal.hold-requires-2-clause-stands
+hold-requires-2-clause-stands c = (3600, _, c.hold.ensures.stands 3600 [] c.requires.stands)
+
+pub hold-requires-2-clause-room : goal.hold-requires-2-clause-room
+hold-requires-2-clause-room c =
+    let one = c.hold.ensures.stands 3600 [] c.requires.stands in
+    omega (arith, one.number, c.hold.ensures.nodes, c.requires.room)
+
+pub hold-requires-3-clause-stands : goal.hold-requires-3-clause-stands
+hold-requires-3-clause-stands c =
+    let one = c.hold.ensures.stands 3600 [] c.requires.stands in
+    (3600, _, c.hold-2.ensures.stands 3600 _ one)
+
+pub hold-requires-3-clause-room : goal.hold-requires-3-clause-room
+hold-requires-3-clause-room c =
+    let one = c.hold.ensures.stands 3600 [] c.requires.stands in
+    let two = c.hold-2.ensures.stands 3600 _ one in
+    omega (arith, two.number, c.hold-2.ensures.nodes, c.hold.ensures.nodes, c.requires.room)
+
+pub returns : goal.returns
+returns c =
+    let one = c.hold.ensures.stands 3600 [] c.requires.stands in
+    let two = c.hold-2.ensures.stands 3600 _ one in
+    let three = c.hold-3.ensures.stands 3600 _ two in
+    record { stands = subst (λ (spans : List Span). StandsForSpans 3600 spans c.hold-3.new.self) (λ i. c.span-3.ensures i ∷ c.span-2.ensures i ∷ c.span.ensures i ∷ []) three }

@@ -1,0 +1,12 @@
+use Rattle.std.proofs.Common.{◌≡◌, ◌∙◌, ap, subst}
+use Rattle.taxi_base.specs.Walks.{begin_of, end_of}
+use Rattle.certificate.specs.declared.block.Block.TheVariants.{Filed}
+use Rattle.certificate.specs.Texts.{block_text}
+use Rattle.taxi_engine.proofs.texts.filed_text.Goals as goal
+
+pub returns : goal.returns
+returns c =
+    let airport = c.args.airport.now in
+    let flight = c.args.flight.now in
+    subst (λ end. c.text_of.result ≡ block_text airport (Filed flight.name (begin_of flight.steps) end)) (c.end_of.ensures ∙ ap end_of c.as_slice-steps.ensures)
+    (subst (λ start. c.text_of.result ≡ block_text airport (Filed flight.name start c.end_of.result)) (c.begin_of.ensures ∙ ap begin_of c.as_slice-steps.ensures) c.text_of.ensures)

@@ -1,0 +1,21 @@
+//! A flight taken out of force.
+ghost use Rattle.certificate.specs.Replies.{due_to_cancel};
+ghost use Rattle.taxi_engine.specs.Accepted.{IsDone};
+
+use crate::Engine;
+use crate::texts::cancelled_text;
+use taxi_base::{Name, Refusal};
+
+impl Engine {
+    /// Takes the flight of a name out of force, or tells that it isn't. It needs no memory.
+    pub(crate) fn cancel(&mut self, flight: &Name)
+        ensures { IsDone (due_to_cancel self.old.flights flight.now) self.old self.new }
+    {
+        if self.ledger.flight(flight).is_none() {
+            self.refuse(&Refusal::NotInForce);
+            return;
+        }
+        self.reply.set_short(cancelled_text(&self.airport, flight));
+        self.ledger.cancel(&self.airport, flight);
+    }
+}

@@ -1,0 +1,68 @@
+//! The text of a reply.
+ghost use Rattle.std.specs.Prelude.{◌≡◌, [], OnOk};
+ghost use Rattle.certificate.specs.Texts.{block_text};
+ghost use Rattle.certificate.specs.Printed.{IsPrintable};
+
+use airport_file::Airport;
+use certificate::{Block, print_block};
+use std::alloc::Global;
+use std::marker::Model;
+use taxi_base::Memory;
+use taxi_text::ShortText;
+
+/// The text of a reply: a short one needs no memory, a long one lies in a buffer that is kept for the next.
+#[derive(Drop)]
+pub struct ReplyText {
+    is_long: bool,
+    short: ShortText,
+    long: Vec<u8>,
+}
+
+impl Model for ReplyText {
+    ghost use Rattle.std.specs.Prelude.{ℕ, List, if◌then◌else◌};
+
+    ghost Value = { List ℕ };
+
+    ghost view = { λ r. if r.is_long then r.long.items else r.short };
+}
+
+impl ReplyText {
+    /// No bytes.
+    pub fn new(alloc: Global) -> ReplyText
+        ensures { result ≡ [] }
+    {
+        ReplyText {
+            is_long: false,
+            short: ShortText::new(),
+            long: Vec::new(alloc),
+        }
+    }
+
+    pub fn bytes(&self) -> &[u8]
+        ensures { result.now ≡ self.now }
+    {
+        if self.is_long {
+            self.long.as_slice()
+        } else {
+            self.short.bytes()
+        }
+    }
+
+    /// A short text in place of what was there.
+    pub fn set_short(&mut self, text: ShortText)
+        ensures { self.new ≡ text }
+    {
+        self.is_long = false;
+        self.short = text;
+    }
+
+    /// The text of a block in place of what was there. Where memory runs out nothing is said of what stands there.
+    pub fn print(&mut self, airport: &Airport, block: &Block) -> Result<(), Memory>
+        requires { IsPrintable airport.now block.now }
+        ensures { OnOk result (self.new ≡ block_text airport.now block.now) }
+    {
+        self.is_long = true;
+        self.long.clear();
+        print_block(airport, block, &mut self.long)
+    }
+}

@@ -1,0 +1,64 @@
+//! The texts of short replies.
+ghost use Rattle.std.specs.Prelude.{◌≡◌, ◌≤◌, ◌<◌, length, false};
+ghost use Rattle.taxi_base.specs.Walks.{begin_of, end_of};
+ghost use Rattle.certificate.specs.declared.block.Block.TheVariants.{Refused, Filed, Cancelled};
+ghost use Rattle.certificate.specs.Texts.{is_long, block_text};
+
+use airport_file::Airport;
+use certificate::{Block, print_short};
+use taxi_base::{Flight, Name, Refusal, Step, Time};
+use taxi_text::ShortText;
+
+/// The reply where a route is filed.
+pub(crate) fn filed_text(airport: &Airport, flight: &Flight) -> ShortText
+    requires { 1 ≤ length flight.now.steps }
+    ensures { result ≡ block_text airport.now (Filed flight.now.name (begin_of flight.now.steps) (end_of flight.now.steps)) }
+{
+    let steps = flight.steps.as_slice();
+    text_of(
+        airport,
+        &Block::Filed {
+            flight: flight.name,
+            start: begin_of(steps),
+            end: end_of(steps),
+        },
+    )
+}
+
+/// The reply where a flight is cancelled.
+pub(crate) fn cancelled_text(airport: &Airport, flight: &Name) -> ShortText
+    ensures { result ≡ block_text airport.now (Cancelled flight.now) }
+{
+    text_of(airport, &Block::Cancelled { flight: *flight })
+}
+
+/// The reply where a command is refused.
+pub(crate) fn refused_text(airport: &Airport, why: &Refusal) -> ShortText
+    ensures { result ≡ block_text airport.now (Refused why.now) }
+{
+    text_of(airport, &Block::Refused(*why))
+}
+
+// The text of a short block.
+fn text_of(airport: &Airport, block: &Block) -> ShortText
+    requires { is_long block.now ≡ false }
+    ensures { result ≡ block_text airport.now block.now }
+{
+    print_short(airport, block).unwrap()
+}
+
+// When a route begins.
+fn begin_of(steps: &[Step]) -> Time
+    requires { 0 < length steps.now }
+    ensures { result ≡ begin_of steps.now }
+{
+    steps[0].enter
+}
+
+// When a route ends.
+fn end_of(steps: &[Step]) -> Time
+    requires { 0 < length steps.now }
+    ensures { result ≡ end_of steps.now }
+{
+    steps[steps.len() - 1].leave
+}

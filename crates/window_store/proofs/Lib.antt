@@ -1,0 +1,9 @@
+pub mod Standing
+pub mod Seconds
+pub mod Changes
+pub mod Pieces
+pub mod Runs
+pub mod Rooms
+pub mod Fresh
+pub mod Finding
+pub mod Wholes

@@ -1,0 +1,176 @@
+-- Nodes are drawn for one list after another: ids stay apart, and nothing is lost.
+use Rattle.std.proofs.Common.{◌≡◌, ◌≢◌, ℕ, zero, suc, ◌+◌, ◌-◌, ◌^◌, ◌<◌, ◌≤◌, max, List, [], ◌∷◌, ◌++◌, length, get_or, set, take, inl, inr, refl, sym, ◌∙◌, ap, subst, arith, length-set}
+use Rattle.std.specs.Prelude.{All}
+use Rattle.std.proofs.lemmas.Bool.{cases_lt, cases_eq}
+use Rattle.std.proofs.lemmas.List.{get_or-set_same, get_or-set_other, get_or_default, take_more, take_all, length-append}
+use Rattle.std.proofs.lemmas.List.Sums.{sum_by-set, sum_by-le}
+use Rattle.std.proofs.lemmas.List.Elements.{All-set, All-get_or, All-from_get_or, All-push, All-take, All-contains}
+use Rattle.taxi_base.specs.declared.numbers.Segment.{Segment}
+use Rattle.taxi_base.specs.declared.rows.Step.{Step}
+use Rattle.taxi_base.specs.Airport.{segment_of}
+use Rattle.conflict_sets.specs.Conflicts.{AreConflicts}
+use Rattle.interval_list.specs.declared.window.Window.{Window}
+use Rattle.interval_list.specs.Intervals.{ids_of, owned, times, drawn}
+use Rattle.interval_list.proofs.Owning.{times-append, times-other, times-here, times-below}
+use Rattle.window_store.proofs.Pieces.{All-ids_set}
+use Rattle.segment_windows.specs.Standing.{Listed, nodes}
+use Rattle.window_store.specs.Store.{Store, IsStore, no_list, list_at, ids_owned}
+use Rattle.window_store.specs.Kept.{GainsRoom}
+use Rattle.window_store.specs.Edits.{list_in, HasRoom, GainsNodes, EachInConflict}
+
+-- how often an id is owned, once one list is another
+pub times-set : (id : ℕ) (lists : List Listed) (k : ℕ) (l : Listed) → k < length lists
+    → times id (ids_owned (set lists k l)) + times id (owned (get_or lists k no_list).intervals) ≡ times id (ids_owned lists) + times id (owned l.intervals)
+times-set id [] k l low = absurd (omega arith)
+times-set id (m ∷ lists) zero l low = omega (arith, times-append id (owned l.intervals) (ids_owned lists), times-append id (owned m.intervals) (ids_owned lists))
+times-set id (m ∷ lists) (suc k) l low =
+    omega (arith, times-set id lists k l (omega arith), times-append id (owned m.intervals) (ids_owned (set lists k l)), times-append id (owned m.intervals) (ids_owned lists))
+
+-- the drawn ids are those from one on, each once
+times-drawn_below : (id from count : ℕ) → id < from → times id (drawn from count) ≡ 0
+times-drawn_below id from zero low = refl
+times-drawn_below id from (suc count) low = times-other id (from + count) (drawn from count) (λ e. absurd (omega arith)) ∙ times-drawn_below id from count low
+
+times-drawn_past : (id from count : ℕ) → from + count ≤ id → times id (drawn from count) ≡ 0
+times-drawn_past id from zero past = refl
+times-drawn_past id from (suc count) past = times-other id (from + count) (drawn from count) (λ e. absurd (omega arith)) ∙ times-drawn_past id from count (omega arith)
+
+times-drawn_once : (id from count : ℕ) → times id (drawn from count) ≤ 1
+times-drawn_once id from zero = omega arith
+times-drawn_once id from (suc count) =
+    elim (cases_eq (from + count) id) [
+      | inl same ↦ subst (λ n. times n (drawn from (suc count)) ≤ 1) same (omega (arith, times-here (from + count) (drawn from count), times-drawn_past (from + count) from count (omega arith)))
+      | inr other ↦ omega (arith, times-other id (from + count) (drawn from count) other, times-drawn_once id from count)
+    ]
+
+-- what is below a number is none above it
+none-above : (next id : ℕ) (xs : List ℕ) → All (λ x. x < next) xs → next ≤ id → times id xs ≡ 0
+none-above next id xs all high = times-below id xs (λ k d low. omega (arith, all k d low))
+
+-- what making room does to a list
+pub record IsRoomier (wanted next more : ℕ) (old new : Listed) : Type 0 where
+  pub windows : new.intervals.windows ≡ old.intervals.windows
+  pub held : new.held ≡ old.held
+  pub spare : new.intervals.spare ≡ drawn next (more - next) ++ old.intervals.spare
+  pub count : more + nodes old ≡ next + nodes new
+  pub below : All (λ id. id < more) (owned new.intervals)
+  pub most : nodes new ≤ max wanted (nodes old)
+
+length-drawn : (from count : ℕ) → length (drawn from count) ≡ count
+length-drawn from zero = refl
+length-drawn from (suc count) = ap suc (length-drawn from count)
+
+times-roomier : (wanted next more id : ℕ) (old new : Listed) → IsRoomier wanted next more old new → times id (owned new.intervals) ≡ times id (owned old.intervals) + times id (drawn next (more - next))
+times-roomier wanted next more id old new is =
+    let whole : owned new.intervals ≡ ids_of old.intervals.windows ++ (drawn next (more - next) ++ old.intervals.spare) =
+    ap (λ (ws : List Window). ids_of ws ++ new.intervals.spare) is.windows ∙ ap (λ (ss : List ℕ). ids_of old.intervals.windows ++ ss) is.spare in
+    omega (
+      arith,
+      ap (times id) whole,
+      times-append id (ids_of old.intervals.windows) (drawn next (more - next) ++ old.intervals.spare),
+      times-append id (drawn next (more - next)) old.intervals.spare,
+      times-append id (ids_of old.intervals.windows) old.intervals.spare,
+    )
+
+-- the next number does not fall
+roomier-next : (wanted next more : ℕ) (old new : Listed) → IsRoomier wanted next more old new → next ≤ more
+roomier-next wanted next more old new is =
+    omega (arith, is.count, ap length is.windows, ap length is.spare, length-drawn next (more - next), length-append (drawn next (more - next)) old.intervals.spare)
+
+module _ (lists : List Listed) (k : ℕ) (l : Listed) (wanted next more : ℕ) where
+  abbrev before : Store
+  before = record { lists = lists; next = next }
+
+  abbrev after : Store
+  after = record { lists = set lists k l; next = more }
+
+  IsStore-roomier : k < length lists → wanted ≤ 2 ^ 33 → IsStore before → IsRoomier wanted next more (get_or lists k no_list) l → IsStore after
+  IsStore-roomier low small store is =
+      let up : next ≤ more = roomier-next wanted next more (get_or lists k no_list) l is in
+      let changed : (id : ℕ) → times id (ids_owned (set lists k l)) ≡ times id (ids_owned lists) + times id (drawn next (more - next)) = λ id.
+      omega (arith, times-set id lists k l low, times-roomier wanted next more id (get_or lists k no_list) l is) in
+      let each : nodes (get_or lists k no_list) ≤ 2 ^ 33 = All-get_or (λ (m : Listed). nodes m ≤ 2 ^ 33) lists k no_list low store.each in
+      record {
+        few = omega (arith, store.few, length-set lists k l);
+        once = λ id. elim (cases_lt id next) [
+          | inl old ↦ omega (arith, changed id, times-drawn_below id next (more - next) old, store.once id)
+          | inr new ↦ omega (arith, changed id, times-drawn_once id next (more - next), none-above next id (ids_owned lists) store.below new)
+        ];
+        below = All-ids_set (λ id. id < more) lists k l (λ j d within. omega (arith, store.below j d within)) is.below;
+        drawn = omega (arith, store.drawn, is.count, sum_by-set nodes lists k l no_list low);
+        each = All-set (λ (m : Listed). nodes m ≤ 2 ^ 33) lists k l (omega (arith, is.most)) store.each;
+      }
+
+  -- a list that is changed at one place
+  here-or-else : (P : Listed → Listed → Type 0) (s : Segment) → k < length lists → P (get_or lists k no_list) l → (s.0 ≢ k → P (list_in lists s) (list_in lists s)) → P (list_in lists s) (list_in (set lists k l) s)
+  here-or-else P s low here else = elim (cases_eq s.0 k) [
+    | inl same ↦ subst (λ n. P (get_or lists n no_list) (get_or (set lists k l) n no_list)) (sym same) (subst (P (get_or lists k no_list)) (sym (get_or-set_same lists k l no_list low)) here)
+    | inr other ↦ subst (P (list_in lists s)) (sym (get_or-set_other lists k s.0 l no_list other)) (else other)
+  ]
+
+  pub GainsNodes-one : (d : Listed) → k < length lists → wanted ≤ 2 ^ 33 → IsStore before → IsRoomier wanted next more (get_or lists k d) l → GainsNodes before after
+  GainsNodes-one d low small store was =
+      let is : IsRoomier wanted next more (get_or lists k no_list) l = subst (λ (m : Listed). IsRoomier wanted next more m l) (get_or_default lists k d no_list low) was in
+      let up : next ≤ more = roomier-next wanted next more (get_or lists k no_list) l is in
+      record {
+        store = IsStore-roomier low small store is;
+        gained = record {
+          lists = length-set lists k l;
+          windows = λ s exists. here-or-else (λ a b. b.intervals.windows ≡ a.intervals.windows) s low is.windows (λ _. refl);
+          held = λ s exists. here-or-else (λ a b. b.held ≡ a.held) s low is.held (λ _. refl);
+          nodes = λ s exists. here-or-else (λ a b. nodes a ≤ nodes b) s low (omega (arith, is.count)) (λ _. omega arith);
+        };
+      }
+
+GainsRoom-none : (store : Store) → GainsRoom store store
+GainsRoom-none store = record { lists = refl; windows = λ s low. refl; held = λ s low. refl; nodes = λ s low. omega arith }
+
+pub GainsNodes-none : (store : Store) → IsStore store → GainsNodes store store
+GainsNodes-none store is = record { store = is; gained = GainsRoom-none store }
+
+pub GainsRoom-both : (a b c : Store) → GainsRoom a b → GainsRoom b c → GainsRoom a c
+GainsRoom-both a b c first second = record {
+  lists = second.lists ∙ first.lists;
+  windows = λ s low. second.windows s (omega (arith, low, first.lists)) ∙ first.windows s low;
+  held = λ s low. second.held s (omega (arith, low, first.lists)) ∙ first.held s low;
+  nodes = λ s low. omega (arith, second.nodes s (omega (arith, low, first.lists)), first.nodes s low);
+}
+
+pub GainsNodes-both : (a b c : Store) → GainsNodes a b → GainsNodes b c → GainsNodes a c
+GainsNodes-both a b c first second = record { store = second.store; gained = GainsRoom-both a b c first.gained second.gained }
+
+-- the numbers stay as small, and room that there is stays
+pub few-still : (a b : Store) → GainsNodes a b → All (λ l. l.held < 2 ^ 33) a.lists → All (λ l. l.held < 2 ^ 33) b.lists
+few-still a b gained few = All-from_get_or (λ (l : Listed). l.held < 2 ^ 33) b.lists no_list (λ i low.
+    let s : Segment = record { 0 = i } in
+    let in_a : i < length a.lists = omega (arith, low, gained.gained.lists) in
+    omega (arith, gained.gained.held s in_a, All-get_or (λ (l : Listed). l.held < 2 ^ 33) a.lists i no_list in_a few))
+
+pub room-still : (a b : Store) (s : Segment) → GainsNodes a b → s.0 < length a.lists → HasRoom s (list_at a s) → HasRoom s (list_at b s)
+room-still a b s gained low room = omega (arith, gained.gained.held s low, gained.gained.nodes s low)
+
+-- one list more has room
+pub rooms-more : (a b : Store) (segments : List Segment) (i : ℕ) (d : Segment) → GainsNodes a b → All (λ t. t.0 < length a.lists) segments → i < length segments
+    → All (λ s. HasRoom s (list_at a s)) (take i segments) → HasRoom (get_or segments i d) (list_at b (get_or segments i d)) → All (λ s. HasRoom s (list_at b s)) (take (i + 1) segments)
+rooms-more a b segments i d gained exist low before here =
+    rw (take_more segments i d low) (All-push (λ (s : Segment). HasRoom s (list_at b s)) (take i segments) (get_or segments i d)
+    (λ k e within. room-still a b (get_or (take i segments) k e) gained (All-take (λ (t : Segment). t.0 < length a.lists) i segments exist k e within) (before k e within)) here)
+
+pub rooms-all : (sets : List (List Segment)) (segment : Segment) (segments : List Segment) (i : ℕ) (lists : List Listed) → AreConflicts sets segment segments → length segments ≤ i
+    → All (λ s. HasRoom s (list_in lists s)) (take i segments) → EachInConflict sets segment HasRoom lists
+rooms-all sets segment segments i lists all past rooms s low met =
+    All-contains (λ (t : Segment). HasRoom t (list_in lists t)) segments s (subst (All (λ (t : Segment). HasRoom t (list_in lists t))) (take_all i segments past) rooms) ((all.each s).1 met)
+
+-- one step's lists more have room
+pub steps-more : (sets : List (List Segment)) (a b : Store) (steps : List Step) (i : ℕ) (d : Step) → GainsNodes a b → i < length steps
+    → All (λ step. EachInConflict sets (segment_of step.arc) HasRoom a.lists) (take i steps) → EachInConflict sets (segment_of (get_or steps i d).arc) HasRoom b.lists
+    → All (λ step. EachInConflict sets (segment_of step.arc) HasRoom b.lists) (take (i + 1) steps)
+steps-more sets a b steps i d gained low before here =
+    rw (take_more steps i d low) (All-push (λ (step : Step). EachInConflict sets (segment_of step.arc) HasRoom b.lists) (take i steps) (get_or steps i d)
+    (λ k e within s exists met.
+    let in_a : s.0 < length a.lists = omega (arith, exists, gained.gained.lists) in
+    room-still a b s gained in_a (before k e within s in_a met)) here)
+
+-- the next id is far below what a word holds
+pub next-below : (store : Store) → IsStore store → store.next < 2 ^ 50
+next-below store is = omega (arith, is.drawn, is.few, sum_by-le nodes (2 ^ 33) store.lists is.each)

@@ -1,0 +1,262 @@
+-- What a run of steps makes of all lists, as one step more is gone through.
+use Rattle.std.proofs.Common.{◌≡◌, ℕ, ◌+◌, ◌^◌, ◌<◌, ◌≤◌, List, [], ◌∷◌, ◌++◌, length, get_or, take, drop, inl, inr, IsTrue, IsFalse, refl, sym, ◌∙◌, ap, subst, arith}
+use Rattle.std.specs.Prelude.{Contains, All}
+use Rattle.std.proofs.lemmas.Bool.{cases_Bool, both_ways, false_from_ne_true}
+use Rattle.std.proofs.lemmas.List.{append-nil, append_assoc, map-append, map_more, drop_more, length-take}
+use Rattle.std.proofs.lemmas.List.Elements.{All-get_or, All-contains, Contains-push}
+use Rattle.taxi_base.specs.declared.numbers.Segment.{Segment}
+use Rattle.taxi_base.specs.declared.rows.Span.{Span}
+use Rattle.taxi_base.specs.declared.rows.Step.{Step}
+use Rattle.taxi_base.specs.Airport.{conflict, segment_of}
+use Rattle.taxi_base.specs.Windows.{Hold, hold_of, holds_of}
+use Rattle.interval_list.specs.declared.window.Window.{Window}
+use Rattle.segment_windows.specs.Standing.{Listed, StandsForSpans}
+use Rattle.window_store.specs.Store.{no_list}
+use Rattle.window_store.specs.Stands.{conflicting, ListStandsFor, StandsFor, HasRoomFor}
+use Rattle.window_store.specs.Kept.{IsApartFrom, IsClearOf, KeepsWindows}
+use Rattle.window_store.specs.Conflicting.{spans_in_conflict}
+use Rattle.window_store.specs.Edits.{of_lists, list_in, ChangesConflicting, EachInConflict, KeepsOwned, CanHold, IsHeld, CanRelease, IsReleased, IsRaised, AllKeepOwned, AreHeld, AreReleased, AreRaised}
+use Rattle.window_store.proofs.Standing.{in_conflict, list-spans, spans-list, list-moved, list-moved_back, list-without, list-with, conflicting-append, conflicting-yes, conflicting-no, conflicting-part, conflicting-le}
+use Rattle.window_store.proofs.Pieces.{All-front}
+use Rattle.window_store.proofs.Changes.{conflict-turned}
+
+-- ---- ids and nodes
+
+KeepsOwned-both : (a b c : Listed) → KeepsOwned a b → KeepsOwned b c → KeepsOwned a c
+KeepsOwned-both a b c first second = record { ids = λ id. second.ids id ∙ first.ids id; nodes = second.nodes ∙ first.nodes }
+
+pub AllKeepOwned-none : (lists : List Listed) → AllKeepOwned lists lists
+AllKeepOwned-none lists = record { as_many = refl; each = λ s low. record { ids = λ id. refl; nodes = refl } }
+
+AllKeepOwned-more : (old mid new : List Listed) → AllKeepOwned old mid → length new ≡ length mid → ((s : Segment) → s.0 < length mid → KeepsOwned (list_in mid s) (list_in new s)) → AllKeepOwned old new
+AllKeepOwned-more old mid new owned as_many each = record {
+  as_many = as_many ∙ owned.as_many;
+  each = λ s low. KeepsOwned-both (list_in old s) (list_in mid s) (list_in new s) (owned.each s low) (each s (omega (arith, owned.as_many)));
+}
+
+KeepsOwned-same : (old new : Listed) → new ≡ old → KeepsOwned old new
+KeepsOwned-same old new same = subst (λ (l : Listed). KeepsOwned old l) (sym same) (record { ids = λ id. refl; nodes = refl })
+
+-- The windows that an edit of the lists in conflict keeps: those so placed against the step and against the steps before.
+module _ (sets : List (List Segment)) (Placed : Window → Span → Type 0) (Changed : Segment → Listed → Listed → Type 0) where
+  KeepsWindows-more : (holds : List Hold) (h : Hold) (old mid new : List Listed)
+      → ((s : Segment) (a b : Listed) (w : Window) → Changed s a b → Contains a.intervals.windows w → Placed w h.span → Contains b.intervals.windows w)
+      → length mid ≡ length old → KeepsWindows Placed sets holds (of_lists old) (of_lists mid) → ChangesConflicting sets h.segment Changed mid new
+      → KeepsWindows Placed sets (holds ++ h ∷ []) (of_lists old) (of_lists new)
+  KeepsWindows-more holds h old mid new keeps as_many before changes s w low there against =
+      let Against : Hold → Type 0 = λ g. IsTrue (conflict sets s g.segment) → Placed w g.span in
+      let first = before s w low there (All-front Against holds (h ∷ []) against) in
+      elim (cases_Bool (conflict sets h.segment s)) [
+        | inl met ↦ keeps s (list_in mid s) (list_in new s) w (changes.changed s (omega (arith, low, as_many)) met) first
+            (All-contains Against (holds ++ h ∷ []) h against (Contains-push holds h) (conflict-turned sets h.segment s met))
+        | inr apart ↦ subst (λ (l : Listed). Contains l.intervals.windows w) (sym (changes.others s (λ met. both_ways _ apart met))) first
+      ]
+
+-- ---- holding
+
+pub AreHeld-none : (sets : List (List Segment)) (lists : List Listed) → AreHeld sets [] lists lists
+AreHeld-none sets lists = record {
+  stands = λ horizon holds st. rw (append-nil holds) st;
+  kept = λ s w low there against. there;
+  owned = AllKeepOwned-none lists;
+}
+
+-- a step behind the others
+holds-more : (holds : List Hold) (before : List Step) (step : Step) → holds ++ holds_of (before ++ step ∷ []) ≡ (holds ++ holds_of before) ++ hold_of step ∷ []
+holds-more holds before step =
+    ap (λ (more : List Hold). holds ++ more) (map-append hold_of before (step ∷ [])) ∙ sym (append_assoc holds (holds_of before) (hold_of step ∷ []))
+
+module _ (sets : List (List Segment)) (before : List Step) (step : Step) (old mid new : List Listed) where
+  held-stands : AreHeld sets before old mid → ChangesConflicting sets (segment_of step.arc) (IsHeld (hold_of step).span) mid new
+      → (horizon : ℕ) (holds : List Hold) → StandsFor sets horizon holds (of_lists old) → StandsFor sets horizon (holds ++ holds_of (before ++ step ∷ [])) (of_lists new)
+  held-stands held changes horizon holds st s low =
+      let h : Hold = hold_of step in
+      let all : List Hold = holds ++ holds_of before in
+      let exists : s.0 < length mid = omega (arith, low, changes.as_many) in
+      let first : ListStandsFor sets horizon all s (list_in mid s) = held.stands horizon holds st s exists in
+      rw (holds-more holds before step) (elim (cases_Bool (conflict sets (segment_of step.arc) s)) [
+        | inl met ↦
+            let spans : StandsForSpans horizon (h.span ∷ spans_in_conflict sets s all) (list_in new s) =
+            (changes.changed s exists met).stands horizon (spans_in_conflict sets s all) (list-spans sets horizon all s (list_in mid s) first) in
+            let front : ListStandsFor sets horizon (h ∷ all) s (list_in new s) =
+            spans-list sets horizon (h ∷ all) s (list_in new s) (rw (in_conflict sets s h all (conflict-turned sets (segment_of step.arc) s met)) spans) in
+            list-moved_back sets s all h [] horizon (list_in new s) (rw (append-nil all) front)
+        | inr apart ↦
+            let other : IsFalse (conflict sets s h.segment) = false_from_ne_true _ (λ met. both_ways _ apart (conflict-turned sets s (segment_of step.arc) met)) in
+            let same : list_in new s ≡ list_in mid s = changes.others s (λ met. both_ways _ apart met) in
+            subst (λ (l : Listed). ListStandsFor sets horizon (all ++ h ∷ []) s l) (sym same)
+            (list-with sets s all h [] horizon (list_in mid s) other (rw (append-nil all) first))
+      ])
+
+  pub AreHeld-more : AreHeld sets before old mid → ChangesConflicting sets (segment_of step.arc) (IsHeld (hold_of step).span) mid new → AreHeld sets (before ++ step ∷ []) old new
+  AreHeld-more held changes = record {
+    stands = held-stands held changes;
+    kept = rw (map-append hold_of before (step ∷ [])) (KeepsWindows-more sets IsApartFrom (IsHeld (hold_of step).span) (holds_of before) (hold_of step) old mid new
+        (λ s a b w is there apart. is.kept w there apart) held.owned.as_many held.kept changes);
+    owned = AllKeepOwned-more old mid new held.owned changes.as_many (λ s low. elim (cases_Bool (conflict sets (segment_of step.arc) s)) [
+      | inl met ↦ (changes.changed s low met).owned
+      | inr apart ↦ KeepsOwned-same (list_in mid s) (list_in new s) (changes.others s (λ met. both_ways _ apart met))
+    ]);
+  }
+
+-- a list in conflict with the next step can hold it
+pub can_hold : (sets : List (List Segment)) (steps : List Step) (k : ℕ) (d : Step) (old mid : List Listed) → (horizon : ℕ) × (holds : List Hold) × StandsFor sets horizon holds (of_lists old)
+    → HasRoomFor sets steps (of_lists old) → AreHeld sets (take k steps) old mid → k < length steps → EachInConflict sets (segment_of (get_or steps k d).arc) CanHold mid
+can_hold sets steps k d old mid some room held low s exists met =
+    let horizon = some.0 in
+    let holds = some.1 in
+    let in_old : s.0 < length old = omega (arith, exists, held.owned.as_many) in
+    let was : ListStandsFor sets horizon holds s (list_in old s) = some.2 s in_old in
+    let first : ListStandsFor sets horizon (holds ++ holds_of (take k steps)) s (list_in mid s) = held.stands horizon holds some.2 s exists in
+    record {
+      stands = (horizon, spans_in_conflict sets s (holds ++ holds_of (take k steps)), list-spans sets horizon (holds ++ holds_of (take k steps)) s (list_in mid s) first);
+      room = omega (
+        arith,
+        was.number,
+        first.number,
+        conflicting-append sets s holds (holds_of (take k steps)),
+        room s in_old,
+        (held.owned.each s in_old).nodes,
+        conflicting-part sets s steps k d low (conflict-turned sets (segment_of (get_or steps k d).arc) s met),
+      );
+    }
+
+-- ---- releasing
+
+pub AreReleased-none : (sets : List (List Segment)) (rest : List Hold) (steps : List Step) (lists : List Listed) → AreReleased sets rest steps 0 lists lists
+AreReleased-none sets rest steps lists = record {
+  stands = λ horizon by st. st;
+  kept = λ s w low there against. there;
+  owned = AllKeepOwned-none lists;
+}
+
+module _ (sets : List (List Segment)) (rest : List Hold) (steps : List Step) (k : ℕ) (d : Step) (old mid new : List Listed) where
+  abbrev this : Step
+  this = get_or steps k d
+
+  abbrev later : List Hold
+  later = holds_of (drop (k + 1) steps)
+
+  abbrev others : Segment → List Span
+  others s = spans_in_conflict sets s (rest ++ later)
+
+  -- the step and the others are what is held yet
+  holds-left : k < length steps → rest ++ holds_of (drop k steps) ≡ rest ++ hold_of this ∷ later
+  holds-left low = ap (λ (left : List Step). rest ++ holds_of left) (drop_more steps k d low)
+
+  -- a list in conflict stands for the step and the others
+  in_turn : (horizon : ℕ) (s : Segment) (l : Listed) → k < length steps → IsTrue (conflict sets (segment_of this.arc) s) → ListStandsFor sets horizon (rest ++ holds_of (drop k steps)) s l
+      → StandsForSpans horizon ((hold_of this).span ∷ others s) l
+  in_turn horizon s l low met st =
+      let front : ListStandsFor sets horizon (hold_of this ∷ (rest ++ later)) s l =
+      list-moved sets s rest (hold_of this) later horizon l (subst (λ (holds : List Hold). ListStandsFor sets horizon holds s l) (holds-left low) st) in
+      subst (λ (spans : List Span). StandsForSpans horizon spans l) (in_conflict sets s (hold_of this) (rest ++ later) (conflict-turned sets (segment_of this.arc) s met))
+      (list-spans sets horizon (hold_of this ∷ (rest ++ later)) s l front)
+
+  released-stands : k < length steps → AreReleased sets rest steps k old mid → ChangesConflicting sets (segment_of this.arc) (IsReleased (hold_of this).span others) mid new
+      → (horizon : ℕ) → All (λ s. s.leave ≤ horizon) steps → StandsFor sets horizon (rest ++ holds_of steps) (of_lists old) → StandsFor sets horizon (rest ++ later) (of_lists new)
+  released-stands low released changes horizon by st s exists =
+      let in_mid : s.0 < length mid = omega (arith, exists, changes.as_many) in
+      let first : ListStandsFor sets horizon (rest ++ holds_of (drop k steps)) s (list_in mid s) = released.stands horizon by st s in_mid in
+      elim (cases_Bool (conflict sets (segment_of this.arc) s)) [
+        | inl met ↦
+            spans-list sets horizon (rest ++ later) s (list_in new s)
+            ((changes.changed s in_mid met).stands horizon (All-get_or (λ (t : Step). t.leave ≤ horizon) steps k d low by) (in_turn horizon s (list_in mid s) low met first))
+        | inr apart ↦
+            let other : IsFalse (conflict sets s (segment_of this.arc)) = false_from_ne_true _ (λ met. both_ways _ apart (conflict-turned sets s (segment_of this.arc) met)) in
+            subst (λ (l : Listed). ListStandsFor sets horizon (rest ++ later) s l) (sym (changes.others s (λ met. both_ways _ apart met)))
+            (list-without sets s rest (hold_of this) later horizon (list_in mid s) other (subst (λ (holds : List Hold). ListStandsFor sets horizon holds s (list_in mid s)) (holds-left low) first))
+      ]
+
+  pub AreReleased-more : k < length steps → AreReleased sets rest steps k old mid → ChangesConflicting sets (segment_of this.arc) (IsReleased (hold_of this).span others) mid new
+      → AreReleased sets rest steps (k + 1) old new
+  AreReleased-more low released changes = record {
+    stands = released-stands low released changes;
+    kept = rw (map_more hold_of steps k d low) (KeepsWindows-more sets IsClearOf (IsReleased (hold_of this).span others) (holds_of (take k steps)) (hold_of this) old mid new
+        (λ s a b w is there apart. is.kept w there apart) released.owned.as_many released.kept changes);
+    owned = AllKeepOwned-more old mid new released.owned changes.as_many (λ s exists. elim (cases_Bool (conflict sets (segment_of this.arc) s)) [
+      | inl met ↦ (changes.changed s exists met).owned
+      | inr apart ↦ KeepsOwned-same (list_in mid s) (list_in new s) (changes.others s (λ met. both_ways _ apart met))
+    ]);
+  }
+
+  pub can_release : (horizon : ℕ) × All (λ s. s.leave ≤ horizon) steps × StandsFor sets horizon (rest ++ holds_of steps) (of_lists old) → k < length steps → AreReleased sets rest steps k old mid
+      → EachInConflict sets (segment_of this.arc) (CanRelease (hold_of this).span others) mid
+  can_release some low released s exists met = record {
+    stands = (some.0, All-get_or (λ (t : Step). t.leave ≤ some.0) steps k d low some.1, in_turn some.0 s (list_in mid s) low met (released.stands some.0 some.1 some.2 s exists));
+  }
+
+-- ---- raising and lowering
+
+pub AreRaised-none : (sets : List (List Segment)) (lists : List Listed) → AreRaised sets [] lists lists
+AreRaised-none sets lists = record { as_many = refl; each = λ s low. raised_by_none (list_in lists s) } where
+  raised_by_none : (l : Listed) → l ≡ record l { held = l.held + 0 }
+  raised_by_none l = let same : l.held ≡ l.held + 0 = omega arith in ap (λ n. record l { held = n }) same
+
+module _ (sets : List (List Segment)) (before : List Step) (step : Step) (s : Segment) where
+  raised-yes : IsTrue (conflict sets (segment_of step.arc) s) → conflicting sets s (holds_of (before ++ step ∷ [])) ≡ conflicting sets s (holds_of before) + 1
+  raised-yes met =
+      ap (conflicting sets s) (map-append hold_of before (step ∷ [])) ∙ conflicting-append sets s (holds_of before) (hold_of step ∷ [])
+      ∙ ap (λ n. conflicting sets s (holds_of before) + n) (conflicting-yes sets s (hold_of step) [] (conflict-turned sets (segment_of step.arc) s met))
+
+  raised-no : IsFalse (conflict sets (segment_of step.arc) s) → conflicting sets s (holds_of (before ++ step ∷ [])) ≡ conflicting sets s (holds_of before)
+  raised-no apart =
+      let other : IsFalse (conflict sets s (segment_of step.arc)) = false_from_ne_true _ (λ met. both_ways _ apart (conflict-turned sets s (segment_of step.arc) met)) in
+      let none : conflicting sets s (holds_of before) + conflicting sets s (hold_of step ∷ []) ≡ conflicting sets s (holds_of before) = omega (arith, conflicting-no sets s (hold_of step) [] other) in
+      ap (conflicting sets s) (map-append hold_of before (step ∷ [])) ∙ conflicting-append sets s (holds_of before) (hold_of step ∷ []) ∙ none
+
+  -- a number that is raised, and raised once more where the step is in conflict
+  raised-more : (old mid new : Listed) → mid ≡ record old { held = old.held + conflicting sets s (holds_of before) } → (IsTrue (conflict sets (segment_of step.arc) s) → IsRaised s mid new)
+      → (IsFalse (conflict sets (segment_of step.arc) s) → new ≡ mid) → new ≡ record old { held = old.held + conflicting sets s (holds_of (before ++ step ∷ [])) }
+  raised-more old mid new first more same = elim (cases_Bool (conflict sets (segment_of step.arc) s)) [
+    | inl met ↦
+        let number : old.held + conflicting sets s (holds_of before) + 1 ≡ old.held + conflicting sets s (holds_of (before ++ step ∷ [])) = omega (arith, raised-yes met) in
+        more met ∙ ap (λ (l : Listed). record l { held = l.held + 1 }) first ∙ ap (λ n. record old { held = n }) number
+    | inr apart ↦
+        let number : old.held + conflicting sets s (holds_of before) ≡ old.held + conflicting sets s (holds_of (before ++ step ∷ [])) = omega (arith, raised-no apart) in
+        same apart ∙ first ∙ ap (λ n. record old { held = n }) number
+  ]
+
+  -- the same, where the step is lowered first
+  lowered-more : (old mid new : Listed) → old ≡ record mid { held = mid.held + conflicting sets s (holds_of before) } → (IsTrue (conflict sets (segment_of step.arc) s) → IsRaised s new mid)
+      → (IsFalse (conflict sets (segment_of step.arc) s) → new ≡ mid) → old ≡ record new { held = new.held + conflicting sets s (holds_of (before ++ step ∷ [])) }
+  lowered-more old mid new first more same = elim (cases_Bool (conflict sets (segment_of step.arc) s)) [
+    | inl met ↦
+        let number : new.held + 1 + conflicting sets s (holds_of before) ≡ new.held + conflicting sets s (holds_of (before ++ step ∷ [])) = omega (arith, raised-yes met) in
+        first ∙ ap (λ (l : Listed). record l { held = l.held + conflicting sets s (holds_of before) }) (more met) ∙ ap (λ n. record new { held = n }) number
+    | inr apart ↦
+        let number : new.held + conflicting sets s (holds_of before) ≡ new.held + conflicting sets s (holds_of (before ++ step ∷ [])) = omega (arith, raised-no apart) in
+        first ∙ ap (λ (l : Listed). record l { held = l.held + conflicting sets s (holds_of before) }) (sym (same apart)) ∙ ap (λ n. record new { held = n }) number
+  ]
+
+pub AreRaised-more : (sets : List (List Segment)) (before : List Step) (step : Step) (old mid new : List Listed) → AreRaised sets before old mid → ChangesConflicting sets (segment_of step.arc) IsRaised mid new
+    → AreRaised sets (before ++ step ∷ []) old new
+AreRaised-more sets before step old mid new raised changes = record {
+  as_many = changes.as_many ∙ raised.as_many;
+  each = λ s low. raised-more sets before step s (list_in old s) (list_in mid s) (list_in new s) (raised.each s low) (λ met. changes.changed s (omega (arith, low, raised.as_many)) met)
+      (λ apart. changes.others s (λ met. both_ways _ apart met));
+}
+
+pub AreRaised-less : (sets : List (List Segment)) (before : List Step) (step : Step) (old mid new : List Listed) → AreRaised sets before mid old
+    → ChangesConflicting sets (segment_of step.arc) (λ s new old. IsRaised s old new) mid new → AreRaised sets (before ++ step ∷ []) new old
+AreRaised-less sets before step old mid new raised changes = record {
+  as_many = raised.as_many ∙ sym changes.as_many;
+  each = λ s low.
+      let in_mid : s.0 < length mid = omega (arith, low, changes.as_many) in
+      lowered-more sets before step s (list_in old s) (list_in mid s) (list_in new s) (raised.each s in_mid) (λ met. changes.changed s in_mid met) (λ apart. changes.others s (λ met. both_ways _ apart met));
+}
+
+-- the numbers stay small enough while they are raised, and are large enough to be lowered
+pub few-raised : (sets : List (List Segment)) (steps : List Step) (k : ℕ) (old mid : List Listed) (segment : Segment) → All (λ l. l.held + length steps < 2 ^ 33) old → AreRaised sets (take k steps) old mid
+    → EachInConflict sets segment (λ s l. l.held < 2 ^ 33) mid
+few-raised sets steps k old mid segment few raised s exists met =
+    let in_old : s.0 < length old = omega (arith, exists, raised.as_many) in
+    let number = ap (λ (l : Listed). l.held) (raised.each s in_old) in
+    omega (arith, number, few s.0 no_list in_old, conflicting-le sets s (take k steps), length-take k steps)
+
+pub some-raised : (sets : List (List Segment)) (steps : List Step) (k : ℕ) (d : Step) (old mid : List Listed)
+    → ((s : Segment) → s.0 < length old → conflicting sets s (holds_of steps) ≤ (list_in old s).held) → k < length steps → AreRaised sets (take k steps) mid old
+    → EachInConflict sets (segment_of (get_or steps k d).arc) (λ s l. 1 ≤ l.held) mid
+some-raised sets steps k d old mid enough low raised s exists met =
+    let number = ap (λ (l : Listed). l.held) (raised.each s exists) in
+    omega (arith, number, enough s (omega (arith, exists, raised.as_many)), conflicting-part sets s steps k d low (conflict-turned sets (segment_of (get_or steps k d).arc) s met))

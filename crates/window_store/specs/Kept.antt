@@ -1,0 +1,45 @@
+-- What stays in a store when holds come and go.
+use Rattle.std.specs.Prelude.{◌≡◌, ◌<◌, ◌≤◌, ◌⊎◌, List, length, Contains, All, IsTrue, Option, Some, None}
+use Rattle.taxi_base.specs.declared.numbers.Segment.{Segment}
+use Rattle.taxi_base.specs.declared.rows.Span.{Span}
+use Rattle.taxi_base.specs.Airport.{conflict}
+use Rattle.taxi_base.specs.Windows.{Hold, IsPart}
+use Rattle.interval_list.specs.declared.window.Window.{Window}
+use Rattle.interval_list.specs.Intervals.{span_of}
+use Rattle.segment_windows.specs.Standing.{nodes}
+use Rattle.window_store.specs.Store.{Store, list_at, windows_at}
+
+-- a window has no second of a span
+abbrev pub IsApartFrom : Window → Span → Type 0
+IsApartFrom w span = (w.until ≤ span.from) ⊎ (span.until ≤ w.from)
+
+-- and neither ends where the other begins
+abbrev pub IsClearOf : Window → Span → Type 0
+IsClearOf w span = (w.until < span.from) ⊎ (span.until < w.from)
+
+-- a window is so placed against each of the holds in conflict with its segment
+abbrev pub AgainstEach : (Window → Span → Type 0) → List (List Segment) → Segment → List Hold → Window → Type 0
+AgainstEach Placed sets segment holds w = All (λ h. IsTrue (conflict sets segment h.segment) → Placed w h.span) holds
+
+-- the windows so placed stand there still, with their ids
+abbrev pub KeepsWindows : (Window → Span → Type 0) → List (List Segment) → List Hold → Store → Store → Type 0
+KeepsWindows Placed sets holds old new =
+    (segment : Segment) (w : Window) → segment.0 < length old.lists → Contains (windows_at old segment) w → AgainstEach Placed sets segment holds w → Contains (windows_at new segment) w
+
+-- each list has as many windows and spare nodes together as before, and no id is new
+pub record KeepsNodes (old new : Store) : Type 0 where
+  pub lists : length new.lists ≡ length old.lists
+  pub nodes : (segment : Segment) → segment.0 < length old.lists → nodes (list_at new segment) ≡ nodes (list_at old segment)
+  pub next : new.next ≡ old.next
+
+-- each list has its windows and its number as before, and at least as many nodes
+pub record GainsRoom (old new : Store) : Type 0 where
+  pub lists : length new.lists ≡ length old.lists
+  pub windows : (segment : Segment) → segment.0 < length old.lists → windows_at new segment ≡ windows_at old segment
+  pub held : (segment : Segment) → segment.0 < length old.lists → (list_at new segment).held ≡ (list_at old segment).held
+  pub nodes : (segment : Segment) → segment.0 < length old.lists → nodes (list_at old segment) ≤ nodes (list_at new segment)
+
+-- the window of a list in which a span lies; none where it lies in none
+abbrev pub IsWindowAt : List Window → Span → Option Window → Type 0
+IsWindowAt windows span (Some w) = Contains windows w × IsPart span (span_of w)
+IsWindowAt windows span None = (w : Window) → Contains windows w → IsPart span (span_of w) → ⊥

@@ -1,0 +1,5 @@
+pub mod Store
+pub mod Stands
+pub mod Kept
+pub mod Conflicting
+pub mod Edits

@@ -1,0 +1,200 @@
+//! Edits of the lists in conflict with the segments of steps.
+ghost use Rattle.std.specs.Prelude.{ℕ, ◌≡◌, ◌+◌, ◌/◌, ◌^◌, ◌<◌, ◌≤◌, List, ◌++◌, length, All, OnOk};
+ghost use Rattle.taxi_base.specs.declared.numbers.Segment.{Segment as SegmentNumber};
+ghost use Rattle.taxi_base.specs.Airport.{segment_of};
+ghost use Rattle.taxi_base.specs.Windows.{Hold, hold_of, holds_of};
+ghost use Rattle.conflict_sets.specs.Conflicts.{AreConflicts};
+ghost use Rattle.window_store.specs.Store.{Store, IsStore};
+ghost use Rattle.window_store.specs.Stands.{StandsFor, HasRoomFor, conflicting, route_holds, AreOnSegments, TakeTime};
+ghost use Rattle.window_store.specs.Conflicting.{spans_in_conflict};
+ghost use Rattle.window_store.specs.Edits.{of_lists, list_in, EachInConflict, ChangesConflicting, CanHold, IsHeld, CanRelease, IsReleased, IsRaised, HasRoom, AreHeld, AreReleased, AreRaised, GainsNodes};
+
+use crate::still_held::StillHeld;
+use conflict_sets::Conflicts;
+use interval_list::Ids;
+use segment_graph::segment_of;
+use segment_windows::SegmentWindows;
+use taxi_base::{Memory, Routes, Segment, Span, Step};
+
+// ---- a step
+
+// The segments in conflict with a step's, itself among them.
+fn segments_of<'a>(conflicts: &'a Conflicts, step: &Step) -> &'a [Segment]
+    requires { step.now.arc.0 / 2 < conflicts.now.segments }
+    ensures all { AreConflicts conflicts.now.sets (segment_of step.now.arc) result.now }
+    ensures exist { All (λ t. t.0 < conflicts.now.segments) result.now }
+{
+    conflicts.of(segment_of(step.arc))
+}
+
+// For which seconds a step holds its segment.
+fn span_of(step: &Step) -> Span
+    ensures { result ≡ (hold_of step.now).span }
+{
+    Span {
+        from: step.enter,
+        until: step.leave,
+    }
+}
+
+// ---- holding
+
+/// Each list in conflict with a step is cut by what the step holds.
+pub(crate) fn hold_steps(lists: &mut [SegmentWindows], conflicts: &Conflicts, steps: &[Step])
+    requires segments { length lists.old ≡ conflicts.now.segments }
+    requires steps { AreOnSegments conflicts.now.segments steps.now }
+    requires time { TakeTime steps.now }
+    requires stands { (horizon : ℕ) × (holds : List Hold) × StandsFor conflicts.now.sets horizon holds (of_lists lists.old) }
+    requires room { HasRoomFor conflicts.now.sets steps.now (of_lists lists.old) }
+    ensures { AreHeld conflicts.now.sets steps.now lists.old lists.new }
+{
+    for step in steps {
+        hold_step(lists, conflicts, step);
+    }
+}
+
+fn hold_step(lists: &mut [SegmentWindows], conflicts: &Conflicts, step: &Step)
+    requires segments { length lists.old ≡ conflicts.now.segments }
+    requires step { step.now.arc.0 / 2 < conflicts.now.segments }
+    requires time { step.now.enter < step.now.leave }
+    requires can { EachInConflict conflicts.now.sets (segment_of step.now.arc) CanHold lists.old }
+    ensures { ChangesConflicting conflicts.now.sets (segment_of step.now.arc) (IsHeld (hold_of step.now).span) lists.old lists.new }
+{
+    for segment in segments_of(conflicts, step) {
+        lists[segment.0 as usize].hold(span_of(step));
+    }
+}
+
+// ---- releasing
+
+/// Each list in conflict with a step gets back what the step held and nothing else does: neither a later step nor a
+/// route that remains.
+pub(crate) fn release_steps<R: Routes>(
+    lists: &mut [SegmentWindows],
+    conflicts: &Conflicts,
+    remaining: &R,
+    steps: &[Step],
+)
+    requires segments { length lists.old ≡ conflicts.now.segments }
+    requires steps { AreOnSegments conflicts.now.segments steps.now }
+    requires time { TakeTime steps.now }
+    requires stands { (horizon : ℕ) × All (λ s. s.leave ≤ horizon) steps.now × StandsFor conflicts.now.sets horizon (route_holds (R.listed remaining.now) ++ holds_of steps.now) (of_lists lists.old) }
+    ensures { AreReleased conflicts.now.sets (route_holds (R.listed remaining.now)) steps.now (length steps.now) lists.old lists.new }
+{
+    for (place, step) in steps.iter().enumerate() {
+        release_step(lists, conflicts, remaining, step, &steps[place + 1..]);
+    }
+}
+
+fn release_step<R: Routes>(
+    lists: &mut [SegmentWindows],
+    conflicts: &Conflicts,
+    remaining: &R,
+    step: &Step,
+    later: &[Step],
+)
+    requires segments { length lists.old ≡ conflicts.now.segments }
+    requires step { step.now.arc.0 / 2 < conflicts.now.segments }
+    requires time { step.now.enter < step.now.leave }
+    requires can { EachInConflict conflicts.now.sets (segment_of step.now.arc) (CanRelease (hold_of step.now).span (λ s. spans_in_conflict conflicts.now.sets s (route_holds (R.listed remaining.now) ++ holds_of later.now))) lists.old }
+    ensures { ChangesConflicting conflicts.now.sets (segment_of step.now.arc) (IsReleased (hold_of step.now).span (λ s. spans_in_conflict conflicts.now.sets s (route_holds (R.listed remaining.now) ++ holds_of later.now))) lists.old lists.new }
+{
+    for segment in segments_of(conflicts, step) {
+        let others = StillHeld {
+            conflicts,
+            segment: *segment,
+            remaining,
+            later,
+        };
+        lists[segment.0 as usize].release(span_of(step), &others);
+    }
+}
+
+// ---- making room
+
+/// Each list's number is raised by that of the steps in conflict with it.
+pub(crate) fn raise_for_steps(lists: &mut [SegmentWindows], conflicts: &Conflicts, steps: &[Step])
+    requires segments { length lists.old ≡ conflicts.now.segments }
+    requires steps { AreOnSegments conflicts.now.segments steps.now }
+    requires few { All (λ l. l.held + length steps.now < 2 ^ 33) lists.old }
+    ensures { AreRaised conflicts.now.sets steps.now lists.old lists.new }
+{
+    for step in steps {
+        raise_for_step(lists, conflicts, step);
+    }
+}
+
+fn raise_for_step(lists: &mut [SegmentWindows], conflicts: &Conflicts, step: &Step)
+    requires segments { length lists.old ≡ conflicts.now.segments }
+    requires step { step.now.arc.0 / 2 < conflicts.now.segments }
+    requires few { EachInConflict conflicts.now.sets (segment_of step.now.arc) (λ s l. l.held < 2 ^ 33) lists.old }
+    ensures { ChangesConflicting conflicts.now.sets (segment_of step.now.arc) IsRaised lists.old lists.new }
+{
+    for segment in segments_of(conflicts, step) {
+        lists[segment.0 as usize].count_one_more();
+    }
+}
+
+/// The numbers are lowered again.
+pub(crate) fn lower_for_steps(lists: &mut [SegmentWindows], conflicts: &Conflicts, steps: &[Step])
+    requires segments { length lists.old ≡ conflicts.now.segments }
+    requires steps { AreOnSegments conflicts.now.segments steps.now }
+    requires raised { (s : SegmentNumber) → s.0 < length lists.old → conflicting conflicts.now.sets s (holds_of steps.now) ≤ (list_in lists.old s).held }
+    ensures { AreRaised conflicts.now.sets steps.now lists.new lists.old }
+{
+    for step in steps {
+        lower_for_step(lists, conflicts, step);
+    }
+}
+
+fn lower_for_step(lists: &mut [SegmentWindows], conflicts: &Conflicts, step: &Step)
+    requires segments { length lists.old ≡ conflicts.now.segments }
+    requires step { step.now.arc.0 / 2 < conflicts.now.segments }
+    requires raised { EachInConflict conflicts.now.sets (segment_of step.now.arc) (λ s l. 1 ≤ l.held) lists.old }
+    ensures { ChangesConflicting conflicts.now.sets (segment_of step.now.arc) (λ s new old. IsRaised s old new) lists.old lists.new }
+{
+    for segment in segments_of(conflicts, step) {
+        lists[segment.0 as usize].count_one_fewer();
+    }
+}
+
+/// Each list in conflict with a step has nodes for one window more than its number says. What was made before memory ran
+/// out stays.
+pub(crate) fn make_room(
+    lists: &mut [SegmentWindows],
+    ids: &mut Ids,
+    conflicts: &Conflicts,
+    steps: &[Step],
+) -> Result<(), Memory>
+    requires segments { length lists.old ≡ conflicts.now.segments }
+    requires steps { AreOnSegments conflicts.now.segments steps.now }
+    requires few { All (λ l. l.held < 2 ^ 33) lists.old }
+    requires store { IsStore (record { lists = lists.old; next = ids.old.next }) }
+    ensures room { OnOk result (All (λ step. EachInConflict conflicts.now.sets (segment_of step.arc) HasRoom lists.new) steps.now) }
+    ensures gained { GainsNodes (record { lists = lists.old; next = ids.old.next }) (record { lists = lists.new; next = ids.new.next }) }
+{
+    for step in steps {
+        make_room_for_step(lists, ids, conflicts, step)?;
+    }
+    Ok(())
+}
+
+fn make_room_for_step(
+    lists: &mut [SegmentWindows],
+    ids: &mut Ids,
+    conflicts: &Conflicts,
+    step: &Step,
+) -> Result<(), Memory>
+    requires segments { length lists.old ≡ conflicts.now.segments }
+    requires step { step.now.arc.0 / 2 < conflicts.now.segments }
+    requires few { All (λ l. l.held < 2 ^ 33) lists.old }
+    requires store { IsStore (record { lists = lists.old; next = ids.old.next }) }
+    ensures room { OnOk result (EachInConflict conflicts.now.sets (segment_of step.now.arc) HasRoom lists.new) }
+    ensures gained { GainsNodes (record { lists = lists.old; next = ids.old.next }) (record { lists = lists.new; next = ids.new.next }) }
+{
+    for segment in segments_of(conflicts, step) {
+        let list = &mut lists[segment.0 as usize];
+        list.make_room(ids, list.held() + 1)?;
+    }
+    Ok(())
+}

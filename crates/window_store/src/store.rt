@@ -1,0 +1,144 @@
+//! A list of windows for each segment.
+ghost use Rattle.std.specs.Prelude.{ℕ, find, nat_lt, ◌≡◌, ◌+◌, ◌^◌, ◌<◌, ◌≤◌, List, [], ◌++◌, length, reverse, All, IfOk, OnOk};
+ghost use Rattle.taxi_base.specs.declared.numbers.Segment.{Segment as SegmentNumber};
+ghost use Rattle.taxi_base.specs.Windows.{Hold, holds_of};
+ghost use Rattle.interval_list.specs.Intervals.{span, IsNormal};
+ghost use Rattle.window_store.specs.Store.{Store, IsStore, list_at, windows_at};
+ghost use Rattle.window_store.specs.Stands.{StandsFor, HasRoomFor, route_holds, AreOnSegments, TakeTime};
+ghost use Rattle.window_store.specs.Kept.{IsApartFrom, IsClearOf, KeepsWindows, KeepsNodes, GainsRoom, IsWindowAt};
+
+use crate::edits::{hold_steps, lower_for_steps, make_room, raise_for_steps, release_steps};
+use conflict_sets::Conflicts;
+use interval_list::{Ids, Window, Windows, WindowsBack};
+use segment_windows::SegmentWindows;
+use std::alloc::Global;
+use std::marker::Model;
+use taxi_base::{Memory, Routes, Segment, Step, Time};
+
+/// The free windows of each segment.
+#[derive(Drop)]
+pub struct WindowStore {
+    lists: Vec<SegmentWindows>,
+    ids: Ids,
+}
+
+impl Model for WindowStore {
+    ghost use Rattle.window_store.specs.Store.{Store, IsStore, HaveRoom};
+
+    ghost Value = { Store };
+
+    ghost view = { λ s. record { lists = s.lists.items; next = s.ids.next } };
+
+    ghost invariant = { λ s. IsStore (record { lists = s.lists.items; next = s.ids.next }) × HaveRoom s.lists.items };
+}
+
+impl WindowStore {
+    /// All seconds before the horizon are free on each of so many segments.
+    pub fn new(alloc: Global, segments: usize, horizon: Time) -> Result<WindowStore, Memory>
+        requires segments { segments ≤ 10000 }
+        requires horizon { 1 ≤ horizon }
+        ensures segments { IfOk result (λ store. length store.lists ≡ segments) }
+        ensures stands { (sets : List (List SegmentNumber)) → IfOk result (StandsFor sets horizon []) }
+    {
+        let mut ids = Ids { next: 0 };
+        let mut lists = Vec::new(alloc);
+        for _ in 0..segments {
+            lists.push(SegmentWindows::new(alloc, &mut ids, horizon)?)?;
+        }
+        Ok(WindowStore { lists, ids })
+    }
+
+    /// A number above the ids of all windows and spare nodes.
+    pub fn ids(&self) -> usize
+        ensures ids { result ≡ self.now.next }
+        ensures below { result < 2 ^ 50 }
+        ensures store { IsStore self.now }
+    {
+        self.ids.next
+    }
+
+    /// A segment's windows from first to last.
+    pub fn windows(&self, segment: Segment) -> Windows<'_>
+        requires { segment.0 < length self.now.lists }
+        ensures windows { result ≡ windows_at self.now segment }
+        ensures normal { IsNormal (list_at self.now segment).intervals }
+    {
+        self.lists[segment.0 as usize].intervals().windows()
+    }
+
+    /// A segment's windows from last to first.
+    pub fn windows_back(&self, segment: Segment) -> WindowsBack<'_>
+        requires { segment.0 < length self.now.lists }
+        ensures { result ≡ reverse (windows_at self.now segment) }
+    {
+        self.lists[segment.0 as usize].intervals().windows_back()
+    }
+
+    /// The window in which the seconds from `from` up to `until` lie; none where they lie in none.
+    pub fn window_at(&self, segment: Segment, from: Time, until: Time) -> Option<Window>
+        requires segment { segment.0 < length self.now.lists }
+        requires some { from < until }
+        ensures { IsWindowAt (windows_at self.now segment) (span from until) result }
+    {
+        let window = self.first_beyond(segment, from)?;
+        if window.from <= from && until <= window.until {
+            Some(window)
+        } else {
+            None
+        }
+    }
+
+    // The first window that reaches beyond a second.
+    fn first_beyond(&self, segment: Segment, from: Time) -> Option<Window>
+        requires { segment.0 < length self.now.lists }
+        ensures found { result ≡ find (λ w. nat_lt from w.until) (windows_at self.now segment) }
+        ensures normal { IsNormal (list_at self.now segment).intervals }
+    {
+        self.windows(segment).find(|w| from < w.until)
+    }
+
+    /// Makes room for steps. All windows stay, also where memory runs out.
+    pub fn reserve(&mut self, conflicts: &Conflicts, steps: &[Step]) -> Result<(), Memory>
+        requires segments { length self.old.lists ≡ conflicts.now.segments }
+        requires steps { AreOnSegments conflicts.now.segments steps.now }
+        requires few { All (λ l. l.held + length steps.now < 2 ^ 33) self.old.lists }
+        ensures room { OnOk result (HasRoomFor conflicts.now.sets steps.now self.new) }
+        ensures gained { GainsRoom self.old self.new }
+        ensures stands { (horizon : ℕ) (holds : List Hold) → StandsFor conflicts.now.sets horizon holds self.old → StandsFor conflicts.now.sets horizon holds self.new }
+    {
+        let lists = self.lists.as_mut_slice();
+        raise_for_steps(lists, conflicts, steps);
+        let made = make_room(lists, &mut self.ids, conflicts, steps);
+        lower_for_steps(lists, conflicts, steps);
+        made
+    }
+
+    /// Holds what the steps hold. It needs no memory. A window that has no second of theirs stays as it is.
+    pub fn occupy(&mut self, conflicts: &Conflicts, steps: &[Step])
+        requires segments { length self.old.lists ≡ conflicts.now.segments }
+        requires steps { AreOnSegments conflicts.now.segments steps.now }
+        requires time { TakeTime steps.now }
+        requires stands { (horizon : ℕ) × (holds : List Hold) × StandsFor conflicts.now.sets horizon holds self.old }
+        requires room { HasRoomFor conflicts.now.sets steps.now self.old }
+        ensures stands { (horizon : ℕ) (holds : List Hold) → StandsFor conflicts.now.sets horizon holds self.old → StandsFor conflicts.now.sets horizon (holds ++ holds_of steps.now) self.new }
+        ensures kept { KeepsWindows IsApartFrom conflicts.now.sets (holds_of steps.now) self.old self.new }
+        ensures nodes { KeepsNodes self.old self.new }
+    {
+        hold_steps(&mut self.lists, conflicts, steps);
+    }
+
+    /// No longer holds what the steps hold, while the remaining routes hold what they do. It needs no memory, and there
+    /// is room for the steps afterwards. A window that neither meets nor touches what they hold stays as it is.
+    pub fn release<R: Routes>(&mut self, conflicts: &Conflicts, remaining: &R, steps: &[Step])
+        requires segments { length self.old.lists ≡ conflicts.now.segments }
+        requires steps { AreOnSegments conflicts.now.segments steps.now }
+        requires time { TakeTime steps.now }
+        requires stands { (horizon : ℕ) × All (λ s. s.leave ≤ horizon) steps.now × StandsFor conflicts.now.sets horizon (route_holds (R.listed remaining.now) ++ holds_of steps.now) self.old }
+        ensures stands { (horizon : ℕ) → All (λ s. s.leave ≤ horizon) steps.now → StandsFor conflicts.now.sets horizon (route_holds (R.listed remaining.now) ++ holds_of steps.now) self.old → StandsFor conflicts.now.sets horizon (route_holds (R.listed remaining.now)) self.new }
+        ensures room { HasRoomFor conflicts.now.sets steps.now self.new }
+        ensures kept { KeepsWindows IsClearOf conflicts.now.sets (holds_of steps.now) self.old self.new }
+        ensures nodes { KeepsNodes self.old self.new }
+    {
+        release_steps(&mut self.lists, conflicts, remaining, steps);
+    }
+}
