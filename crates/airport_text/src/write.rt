@@ -1,7 +1,8 @@
 //! An airport's records, in the order of its canonical text.
-ghost use Rattle.std.specs.Prelude.{◌≡◌, ◌∷◌, ◌<◌, ◌/◌, [], All, IfOk, IfSome, OnOk, codes, length, map, slice_get};
+ghost use Rattle.std.specs.Prelude.{◌≡◌, ◌∷◌, ◌<◌, ◌/◌, [], All, Ok, IfOk, IfSome, OnOk, codes, length, map, slice_get};
 ghost use Rattle.csv.specs.Records.{fields_of};
 ghost use Rattle.taxi_base.specs.Airport.{IsWellFormed};
+ghost use Rattle.airport_file.specs.Reading.{airport_of};
 ghost use Rattle.airport_file.specs.Words.{segment_word, word_of_arc};
 ghost use Rattle.airport_text.specs.Canonical.{canonical_text, kind_word, direction_word, first_record, horizon_record, node_record, class_record, segment_record, time_record, times_on, time_records, forbid_record, conflict_record};
 ghost use Rattle.airport_text.specs.Written.{and_records, record_if_any};
@@ -15,9 +16,10 @@ use std::alloc::Global;
 use taxi_base::{Arc, Class, Kind, Memory, Node, Segment};
 use taxi_text::ShortText;
 
-/// The airport's canonical text. The only error is that memory ran out.
+/// The airport's canonical text, which reads as the airport again. The only error is that memory ran out.
 pub fn write_airport(alloc: Global, airport: &Airport) -> Result<Vec<u8>, Memory>
-    ensures { IfOk result (λ text. text.items ≡ canonical_text airport.now) }
+    ensures text { IfOk result (λ text. text.items ≡ canonical_text airport.now) }
+    ensures again { IfOk result (λ text. airport_of text.items ≡ Ok airport.now) }
 {
     let mut records = RecordWriter::new(alloc);
     write_first(&mut records)?;

@@ -1,4 +1,8 @@
-use Rattle.std.proofs.Common.{◌≡◌, IfOk, subst}
+use Rattle.std.proofs.Common.{◌≡◌, ◌∙◌, ℕ, List, Result, Ok, Err, IfOk, ap, subst}
+use Rattle.taxi_base.specs.Airport.{Airport, IsWellFormed}
+use Rattle.airport_file.specs.Reading.{airport_of}
+use Rattle.airport_text.specs.Canonical.{canonical_text}
+use Rattle.airport_text.proofs.Again.{text-again}
 use Rattle.airport_text.proofs.RecordLaws.{records-then, whole-text}
 use Rattle.airport_text.proofs.write.write_airport.Goals as goal
 
@@ -13,4 +17,10 @@ returns c =
     let from_horizon = records-then _ _ _ _ _ c.in_ok-write_horizon.ensures.text from_nodes in
     let all = records-then _ _ _ _ _ c.in_ok-write_first.ensures from_horizon in
     let whole = whole-text c.args.airport.now _ _ c.new-records.ensures all in
-    subst (λ t. IfOk c.finish.result (λ text. text.items ≡ t)) whole c.finish.ensures
+    let written = subst (λ t. IfOk c.finish.result (λ text. text.items ≡ t)) whole c.finish.ensures in
+    record { text = written; again = read-back c.args.airport.now (λ text. text.items) c.finish.result c.in_ok-write_horizon.ensures.rules written }
+  where
+    read-back : {T E : Type 0} (airport : Airport) (items : T → List ℕ) (r : Result T E) → IsWellFormed airport
+        → IfOk r (λ text. items text ≡ canonical_text airport) → IfOk r (λ text. airport_of (items text) ≡ Ok airport)
+    read-back airport items (Ok text) rules e = ap airport_of e ∙ text-again airport rules
+    read-back airport items (Err why) rules e = e
