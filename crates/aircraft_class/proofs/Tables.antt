@@ -1,4 +1,4 @@
--- The times of a table that is kept as a list of rows of any kind.
+-- The times and clearances of a table that is kept as a list of rows of any kind.
 use Rattle.std.proofs.Common.{◌≡◌, ℕ, ◌<◌, ◌≤◌, List, [], length, map, get_or, set, Option, Some, None, sym, ◌∙◌, ap, subst, inl, inr}
 use Rattle.std.specs.Prelude.{All, IfSome}
 use Rattle.std.proofs.lemmas.Bool.{cases_lt}
@@ -45,11 +45,27 @@ map-set_place f rows k row new segment place low is changed =
     map-set f rows k new ∙ ap (set (map f rows) k) (changed ∙ ap (λ r. set r segment place) (sym (get_or-row f rows k row low is)))
 
 pub AreTimes-set : (times : Times) (class segment n : ℕ) → AreTimes times → class < length times.table → IsTime n
-    → AreTimes (record { segments = times.segments; table = set times.table class (set (get_or times.table class []) segment (Some n)) })
+    → AreTimes (record times { table = set times.table class (set (get_or times.table class []) segment (Some n)) })
 AreTimes-set times class segment n are low is_time =
     let row = get_or times.table class [] in
     record {
       few = rw (length-set times.table class (set row segment (Some n))) are.few;
       rows = All-set (λ r. length r ≡ times.segments) times.table class (set row segment (Some n)) (length-set row segment (Some n) ∙ are.rows class [] low) are.rows;
       range = All-set (All IsPlace) times.table class (set row segment (Some n)) (All-set IsPlace row segment (Some n) is_time (are.range class [] low)) are.range;
+      clearances = (are.clearances.0 ∙ sym (length-set times.table class (set row segment (Some n))), are.clearances.1);
     }
+
+-- ---- clearances
+
+pub AreTimes-clearance : (times : Times) (class n : ℕ) → AreTimes times → n ≤ 600 → AreTimes (record times { clearances = set times.clearances class n })
+AreTimes-clearance times class n are short = record {
+  few = are.few;
+  rows = are.rows;
+  range = are.range;
+  clearances = (length-set times.clearances class n ∙ are.clearances.0, All-set (λ g. g ≤ 600) times.clearances class n short are.clearances.1);
+}
+
+pub clearance-range : {V : Type 0} (f : V → ℕ) (rows : List V) (k : ℕ) (row : V) → k < length rows → row ≡ get_or rows k row → All (λ g. g ≤ 600) (map f rows) → f row ≤ 600
+clearance-range f rows k row low is range =
+    let kept : get_or (map f rows) k 0 ≡ f row = get_or-map f rows k row 0 low ∙ ap f (sym is) in
+    subst (λ g. g ≤ 600) kept (range k 0 (rw (length-map rows f) low))

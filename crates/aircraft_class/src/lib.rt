@@ -1,4 +1,4 @@
-//! How long each class of aircraft takes on each segment at least.
+//! How long each class of aircraft takes on each segment at least, and for how long it keeps one shut after leaving it.
 #![tactic(auto)]
 
 ghost use Rattle.std.specs.Prelude.{◌≡◌, ◌+◌, ◌<◌, ◌≤◌, ◌++◌, ◌∷◌, [], Some, None, length, replicate, slice_set, slice_index_or, IfSome, IfOk, OnOk, OnErr};
@@ -7,13 +7,21 @@ ghost use Rattle.aircraft_class.specs.Times.{Times, IsTime};
 
 use std::alloc::Global;
 use std::marker::Model;
-use taxi_base::{Class, Memory, Segment};
+use taxi_base::{Class, Memory, Segment, Time};
 
-/// A table of least times, in seconds, by class and segment. A class may not use a segment where it has no time.
+/// A table of least times by class and segment, and of clearances by class, in seconds. A class may not use a segment where
+/// it has no time.
 #[derive(Drop)]
 pub struct Classes {
     segments: usize,
-    rows: Vec<Vec<Option<u32>>>,
+    rows: Vec<Row>,
+}
+
+// What is kept of a class.
+#[derive(Drop)]
+struct Row {
+    times: Vec<Option<Time>>,
+    clearance: Time,
 }
 
 impl Model for Classes {
@@ -22,15 +30,15 @@ impl Model for Classes {
 
     ghost Value = { Times };
 
-    ghost view = { λ c. record { segments = c.segments; table = map (λ row. row.items) c.rows.items } };
+    ghost view = { λ c. record { segments = c.segments; table = map (λ row. row.times.items) c.rows.items; clearances = map (λ row. row.clearance) c.rows.items } };
 
-    ghost invariant = { λ c. AreTimes (record { segments = c.segments; table = map (λ row. row.items) c.rows.items }) };
+    ghost invariant = { λ c. AreTimes (record { segments = c.segments; table = map (λ row. row.times.items) c.rows.items; clearances = map (λ row. row.clearance) c.rows.items }) };
 }
 
 impl Classes {
     /// No class yet, on so many segments.
     pub fn new(alloc: Global, segments: usize) -> Result<Classes, Memory>
-        ensures { IfOk result (λ c. c ≡ record { segments = segments; table = [] }) }
+        ensures { IfOk result (λ c. c ≡ record { segments = segments; table = []; clearances = [] }) }
     {
         let rows = Vec::with_capacity(alloc, MOST_CLASSES)?;
         Ok(Classes { segments, rows })
@@ -43,46 +51,67 @@ impl Classes {
         self.rows.len()
     }
 
-    /// One more class, which may use no segment yet.
+    /// One more class, which may use no segment yet and has no clearance.
     pub fn class(&mut self) -> Result<Class, Memory>
         requires { length self.old.table < 32 }
         ensures number { IfOk result (λ c. c.0 ≡ length self.old.table) }
-        ensures ok { OnOk result (self.new ≡ record self.old { table = self.old.table ++ replicate self.old.segments None ∷ [] }) }
+        ensures ok { OnOk result (self.new ≡ record self.old { table = self.old.table ++ replicate self.old.segments None ∷ []; clearances = self.old.clearances ++ 0 ∷ [] }) }
         ensures err { OnErr result (self.new ≡ self.old) }
     {
         let class = Class(self.rows.len() as u32);
-        let row = Vec::from_elem(*self.rows.allocator(), None, self.segments)?;
-        self.rows.push(row)?;
+        let times = Vec::from_elem(*self.rows.allocator(), None, self.segments)?;
+        let clearance = 0;
+        self.rows.push(Row { times, clearance })?;
         Ok(class)
     }
 
     /// Sets a class's least time on a segment, in seconds.
-    pub fn set(&mut self, class: Class, segment: Segment, seconds: u32)
+    pub fn set(&mut self, class: Class, segment: Segment, seconds: Time)
         requires class { class.0 < length self.old.table }
         requires segment { segment.0 < self.old.segments }
         requires seconds { IsTime seconds }
         ensures { self.new ≡ record self.old { table = slice_set self.old.table class.0 (slice_set (slice_index_or self.old.table class.0 []) segment.0 (Some seconds)) } }
     {
         let row = &mut self.rows[class.0 as usize];
-        row[segment.0 as usize] = Some(seconds);
+        row.times[segment.0 as usize] = Some(seconds);
     }
 
     /// A class's least time on a segment, in seconds; none where it was not set.
-    pub fn seconds(&self, class: Class, segment: Segment) -> Option<u32>
+    pub fn seconds(&self, class: Class, segment: Segment) -> Option<Time>
         ensures set { result ≡ seconds_in self.now.table class segment }
         ensures range { IfSome result IsTime }
     {
         match self.rows.get(class.0 as usize) {
-            Some(row) => time_in(row, segment),
+            Some(row) => time_in(&row.times, segment),
             None => None,
+        }
+    }
+
+    /// Sets for how long a class keeps a segment shut after leaving it, in seconds.
+    pub fn set_clearance(&mut self, class: Class, seconds: Time)
+        requires class { class.0 < length self.old.table }
+        requires seconds { seconds ≤ 600 }
+        ensures { self.new ≡ record self.old { clearances = slice_set self.old.clearances class.0 seconds } }
+    {
+        self.rows[class.0 as usize].clearance = seconds;
+    }
+
+    /// For how long a class keeps a segment shut after leaving it, in seconds; 0 where none was set.
+    pub fn clearance(&self, class: Class) -> Time
+        ensures set { result ≡ slice_index_or self.now.clearances class.0 0 }
+        ensures range { result ≤ 600 }
+    {
+        match self.rows.get(class.0 as usize) {
+            Some(row) => row.clearance,
+            None => 0,
         }
     }
 }
 
-fn time_in(row: &[Option<u32>], segment: Segment) -> Option<u32>
-    ensures { result ≡ slice_index_or row.now segment.0 None }
+fn time_in(times: &[Option<Time>], segment: Segment) -> Option<Time>
+    ensures { result ≡ slice_index_or times.now segment.0 None }
 {
-    row.get(segment.0 as usize).copied().flatten()
+    times.get(segment.0 as usize).copied().flatten()
 }
 
 const MOST_CLASSES: usize = 32;
@@ -101,6 +130,10 @@ mod tests {
         assert_eq!(rt; classes.seconds(medium, Segment(3)), Some(15));
         assert_eq!(rt; classes.seconds(medium, Segment(4)), None);
         assert_eq!(rt; classes.seconds(Class(1), Segment(3)), None);
+        assert_eq!(rt; classes.clearance(medium), 0);
+        classes.set_clearance(medium, 45);
+        assert_eq!(rt; classes.clearance(medium), 45);
+        assert_eq!(rt; classes.seconds(medium, Segment(3)), Some(15));
         Ok(())
     }
 }

@@ -1,18 +1,17 @@
 -- A sound plan may be laid out segment by segment and turn by turn.
 use Rattle.std.proofs.Common.{◌≡◌, ℕ, ◌<◌, ◌≤◌, ◌+◌, ◌/◌, Bool, true, false, List, [], ◌∷◌, ◌++◌, length, map, take, get_or, Option, Some, None, refl, sym, ap, subst, arith, ◌∙◌}
-use Rattle.std.specs.Prelude.{All, IsTrue, ◌&&◌, not, ◌==◌, is_some, option_map, sum_by}
-use Rattle.std.proofs.lemmas.List.{take-map, take_more, length-map}
+use Rattle.std.specs.Prelude.{◌&&◌, not, ◌==◌, is_some, option_map}
+use Rattle.std.proofs.lemmas.List.{take_more, length-map}
 use Rattle.std.proofs.Math.ListN.{get_or-map}
 use Rattle.std.proofs.lemmas.List.Sums.{sum_by-take-le}
 use Rattle.taxi_base.specs.declared.numbers.Node.{Node}
 use Rattle.taxi_base.specs.declared.numbers.Arc.{Arc}
-use Rattle.taxi_base.specs.Airport.{Link, Layout, Ends, ends, arc_exists, head, tail, meet}
+use Rattle.taxi_base.specs.Airport.{Link, Layout, Ends, ends, arc_exists, head, tail, meet, own_ends, link_ends}
 use Rattle.airport_rules.specs.declared.rows.Taxiway.{Taxiway}
-use Rattle.airport_rules.specs.Plan.{Plan, layout_of_plan, link_ends}
+use Rattle.airport_rules.specs.Plan.{Plan}
 use Rattle.airport_rules.specs.Rules.{goes_on}
 use Rattle.airport_rules.specs.Indexed.{link_of_way}
 use Rattle.airport_rules.specs.Sound.{IsSound}
-use Rattle.airport_rules.proofs.CountLaws.{own_ends}
 
 -- the link at a place
 pub link-at : (ways : List Taxiway) (links : List Link) (i : ℕ) (d : Taxiway) → map link_of_way ways ≡ links → get_or links i (link_of_way d) ≡ link_of_way (get_or ways i d)
@@ -36,7 +35,7 @@ pub way-degree : (plan : Plan) (ways : List Taxiway) (i : ℕ) (d : Taxiway) (no
     → link_ends node (take i plan.links ++ link_of_way (get_or ways i d) ∷ []) ≤ 32
 way-degree plan ways i d node s e low =
     subst (λ xs. link_ends node xs ≤ 32) (links-more ways plan.links i d e low)
-    (let less = sum_by-take-le (own_ends node.0) plan.links (i + 1) in let all = s.degree node in omega (arith, less, all))
+    (let less = sum_by-take-le (own_ends node) plan.links (i + 1) in let all = s.degree node in omega (arith, less, all))
 
 pub few-ways : (plan : Plan) (ways : List Taxiway) (i : ℕ) → IsSound plan → map link_of_way ways ≡ plan.links → i < length ways → i < 10000
 few-ways plan ways i s e low =

@@ -2,3 +2,4 @@ mod CsvRecords
 mod PlainLines
 mod BuildLaws
 mod ReadLaws
+pub mod NamedPlaces

@@ -1,29 +1,38 @@
 -- How the records are judged one after the other.
-use Rattle.std.proofs.Common.{◌≡◌, ℕ, ◌+◌, List, [], ◌∷◌, Ok, Err, Option, Some, None, zero, suc, refl, ap, sym, ◌∙◌, ◌++◌, ◌<◌, take, drop, map, length, get_or, arith, drop-cons}
+use Rattle.std.proofs.Common.{◌≡◌, ℕ, ◌+◌, List, [], ◌∷◌, Ok, Err, Option, Some, None, zero, suc, refl, ap, sym, ◌∙◌, ◌++◌, ◌<◌, take, drop, map, length, get_or, arith, drop-cons, true, inl, inr}
 use Rattle.std.specs.Borrow.{Bor}
 use Rattle.std.proofs.lemmas.List.{map-append, take_more}
-use Rattle.std.proofs.lemmas.Option.{get_or_from_slice_get, slice_get_within}
+use Rattle.std.proofs.lemmas.Option.{get_or_from_slice_get, slice_get_within, slice_get_cases}
 use Rattle.airport_rules.specs.Judged.{texts_of}
-use Rattle.std.specs.Prelude.{Result, slice_get}
+use Rattle.std.specs.Prelude.{slice_get, option_map, is_some}
 use Rattle.csv.specs.Records.{Row, fields_of, field_at}
 use Rattle.airport_rules.specs.declared.faults.AirportFault.{AirportFault}
+use Rattle.airport_rules.specs.declared.version.Version.{Version}
 use Rattle.airport_rules.specs.Plan.{Plan}
 use Rattle.airport_rules.specs.Rules.{judge}
 use Rattle.airport_file.specs.Reading.{judged_after}
 
 -- a record that breaks no rule
-pub judged-taken : (last : ℕ) (plan new : Plan) (row : List (List ℕ)) (rows : List (List (List ℕ))) → judge plan row ≡ Ok new → judged_after last plan (row ∷ rows) ≡ judged_after (last + 1) new rows
-judged-taken last plan new row rows e = rw e refl
+pub judged-taken : (version : Version) (last : ℕ) (plan new : Plan) (row : List (List ℕ)) (rows : List (List (List ℕ))) → judge version plan row ≡ Ok new → judged_after version last plan (row ∷ rows) ≡ judged_after version (last + 1) new rows
+judged-taken version last plan new row rows e = rw e refl
 
-pub judged-refused : (last : ℕ) (plan : Plan) (row : List (List ℕ)) (rows : List (List (List ℕ))) (why : AirportFault) → judge plan row ≡ Err why
-    → judged_after last plan (row ∷ rows) ≡ Err (record { at = last + 1; why = why })
-judged-refused last plan row rows why e = rw e refl
+pub judged-refused : (version : Version) (last : ℕ) (plan : Plan) (row : List (List ℕ)) (rows : List (List (List ℕ))) (why : AirportFault) → judge version plan row ≡ Err why
+    → judged_after version last plan (row ∷ rows) ≡ Err (record { at = last + 1; why = why })
+judged-refused version last plan row rows why e = rw e refl
 
 pub field_at-get : (fields : List (List ℕ)) (i : ℕ) → field_at fields i ≡ slice_get fields i
 unfolding field_at
 field_at-get [] i = refl
 field_at-get (f ∷ fields) zero = refl
 field_at-get (f ∷ fields) (suc i) = field_at-get fields i
+
+-- where there is a place there is a field
+pub field-there : (fields : List (List ℕ)) (i : ℕ) (o : Option (Bor (List ℕ))) → i < length fields → option_map (λ (f : Bor (List ℕ)). f.now) o ≡ field_at fields i → is_some o ≡ true
+field-there fields i (Some f) low e = refl
+field-there fields i None low e = elim (slice_get_cases fields i).1 [
+  | inl there ↦ absurd (let got = there.2 in cc (e ∙ field_at-get fields i ∙ got))
+  | inr past ↦ absurd (let far = past.0 in omega (arith, low, far))
+]
 
 -- the fields so far and one more
 pub texts-more : (got : List (Bor (List ℕ))) (f : Bor (List ℕ)) (fields : List (List ℕ)) (i : ℕ) → texts_of got ≡ take i fields → Some f.now ≡ field_at fields i
@@ -34,10 +43,10 @@ texts-more got f fields i e at =
     ∙ ap (λ x. take i fields ++ x ∷ []) (sym (get_or_from_slice_get fields i f.now [] found)) ∙ sym (take_more fields i [] (slice_get_within fields i f.now found))
 
 -- the records from a place on, the first of which breaks no rule
-pub judged-more : (records : List Row) (k : ℕ) (item : Row) (plan new : Plan) → item ≡ get_or records k item → k < length records → judge plan (fields_of item) ≡ Ok new
-    → judged_after (k + 1) plan (map fields_of (drop k records)) ≡ judged_after (k + 1 + 1) new (map fields_of (drop (k + 1) records))
-judged-more records k item plan new is low due =
+pub judged-more : (version : Version) (records : List Row) (k : ℕ) (item : Row) (plan new : Plan) → item ≡ get_or records k item → k < length records → judge version plan (fields_of item) ≡ Ok new
+    → judged_after version (k + 1) plan (map fields_of (drop k records)) ≡ judged_after version (k + 1 + 1) new (map fields_of (drop (k + 1) records))
+judged-more version records k item plan new is low due =
     let next : suc k ≡ k + 1 = omega arith in
-    ap (λ rs. judged_after (k + 1) plan (map fields_of rs)) (drop-cons records k item low ∙ ap (λ x. x ∷ drop (suc k) records) (sym is))
-    ∙ judged-taken (k + 1) plan new (fields_of item) (map fields_of (drop (suc k) records)) due
-    ∙ ap (λ n. judged_after (k + 1 + 1) new (map fields_of (drop n records))) next
+    ap (λ rs. judged_after version (k + 1) plan (map fields_of rs)) (drop-cons records k item low ∙ ap (λ x. x ∷ drop (suc k) records) (sym is))
+    ∙ judged-taken version (k + 1) plan new (fields_of item) (map fields_of (drop (suc k) records)) due
+    ∙ ap (λ n. judged_after version (k + 1 + 1) new (map fields_of (drop n records))) next

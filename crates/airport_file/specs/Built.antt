@@ -1,14 +1,18 @@
 -- What an airport keeps beside its plain record.
-use Rattle.std.specs.Prelude.{ℕ, ◌≡◌, length, Some, Option}
+use Rattle.std.specs.Prelude.{ℕ, ◌≡◌, length}
 use Rattle.taxi_base.specs.Airport.{Layout, IsWellFormed}
 use Rattle.aircraft_class.specs.Times.{Times}
 use Rattle.conflict_sets.specs.Conflicts.{ConflictSets}
-use Rattle.airport_rules.specs.Plan.{Plan, layout_of_plan, table_of, airport_of_plan}
+use Rattle.airport_rules.specs.Plan.{Plan, layout_of_plan, table_of, clearances_of, airport_of_plan}
 use Rattle.airport_rules.specs.Sound.{IsSound}
 
--- the least times of a plan's classes
+-- the least times and the clearances of a plan's classes
 abbrev pub times_of_plan : Plan → Times
-times_of_plan plan = record { segments = length plan.segments; table = table_of (length plan.classes) (length plan.segments) plan.times }
+times_of_plan plan = record {
+  segments = length plan.segments;
+  table = table_of (length plan.classes) (length plan.segments) plan.times;
+  clearances = clearances_of (length plan.classes) plan.clearances;
+}
 
 abbrev pub conflicts_of_plan : Plan → ConflictSets
 conflicts_of_plan plan = record { segments = length plan.segments; sets = plan.conflicts }

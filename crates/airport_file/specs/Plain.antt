@@ -1,5 +1,5 @@
 -- The records of a text of plain lines.
-use Rattle.std.specs.Prelude.{◌≡◌, ◌<◌, ◌++◌, ◌==◌, ℕ, List, [], ◌∷◌, if◌then◌else◌, true, false}
+use Rattle.std.specs.Prelude.{◌≡◌, ◌<◌, ◌++◌, ◌==◌, ℕ, List, [], ◌∷◌, if◌then◌else◌, false}
 
 -- a line split at its commas, with the bytes so far of the field at hand
 abbrev pub split_from : List ℕ → List ℕ → List (List ℕ)

@@ -1,6 +1,6 @@
 //! An airport, with its graph, the times of its classes and its conflicts.
-ghost use Rattle.std.specs.Prelude.{◌≡◌, ◌<◌, Some, length, map, slice_get, option_map};
-ghost use Rattle.taxi_base.specs.Airport.{IsWellFormed, layout_of, times_of, node_name, class_name, segment_name, node_named, class_named, segment_named, arc_named};
+ghost use Rattle.std.specs.Prelude.{◌≡◌, ◌<◌, ◌≤◌, Some, length, map, slice_get, option_map};
+ghost use Rattle.taxi_base.specs.Airport.{IsWellFormed, layout_of, times_of, clearance_of, node_name, class_name, segment_name, node_named, class_named, segment_named, arc_named};
 
 use aircraft_class::Classes;
 use airport_rules::Plan;
@@ -47,11 +47,19 @@ impl Airport {
         &self.graph
     }
 
-    /// The least time of each class on each segment.
+    /// The least time of each class on each segment, and the clearance of each.
     pub fn classes(&self) -> &Classes
-        ensures { result.now ≡ record { segments = length self.now.segments; table = times_of self.now } }
+        ensures { result.now ≡ record { segments = length self.now.segments; table = times_of self.now; clearances = self.now.clearances } }
     {
         &self.classes
+    }
+
+    /// For how long a class keeps a segment shut after leaving it, in seconds; 0 where the file gives no clearance.
+    pub fn clearance(&self, class: Class) -> Time
+        ensures clearance { result ≡ clearance_of self.now class }
+        ensures range { result ≤ 600 }
+    {
+        self.classes.clearance(class)
     }
 
     pub fn conflicts(&self) -> &Conflicts

@@ -1,6 +1,6 @@
 //! Building an airport of a plan: its graph, the times of its classes and its conflicts.
 ghost use Rattle.std.specs.Prelude.{◌≡◌, ◌+◌, ◌≤◌, [], Some, None, length, replicate, IfOk};
-ghost use Rattle.airport_rules.specs.Plan.{layout_of_plan, airport_of_plan};
+ghost use Rattle.airport_rules.specs.Plan.{layout_of_plan, table_of, airport_of_plan};
 ghost use Rattle.airport_rules.specs.Sound.{IsSound};
 ghost use Rattle.airport_file.specs.Built.{times_of_plan};
 
@@ -82,13 +82,14 @@ fn classes_of(alloc: Global, plan: &Plan) -> Result<Classes, Memory>
     let mut table = Classes::new(alloc, plan.segments().len())?;
     add_classes(&mut table, plan.classes().len())?;
     set_times(&mut table, plan);
+    set_clearances(&mut table, plan);
     Ok(table)
 }
 
 fn add_classes(table: &mut Classes, classes: usize) -> Result<(), Memory>
-    requires empty { table.old.table ≡ [] }
+    requires empty { (table.old.table ≡ []) × (table.old.clearances ≡ []) }
     requires few { classes ≤ 32 }
-    ensures { IfOk result (λ _. table.new ≡ record table.old { table = replicate classes (replicate table.old.segments None) }) }
+    ensures { IfOk result (λ _. table.new ≡ record { segments = table.old.segments; table = replicate classes (replicate table.old.segments None); clearances = replicate classes 0 }) }
 {
     for at in 0..classes {
         let _ = at;
@@ -98,11 +99,21 @@ fn add_classes(table: &mut Classes, classes: usize) -> Result<(), Memory>
 }
 
 fn set_times(table: &mut Classes, plan: &Plan)
-    requires blank { table.old ≡ record { segments = length plan.now.segments; table = replicate (length plan.now.classes) (replicate (length plan.now.segments) None) } }
+    requires blank { table.old ≡ record { segments = length plan.now.segments; table = replicate (length plan.now.classes) (replicate (length plan.now.segments) None); clearances = replicate (length plan.now.classes) 0 } }
     requires sound { IsSound plan.now }
-    ensures { table.new ≡ times_of_plan plan.now }
+    ensures { table.new ≡ record table.old { table = table_of (length plan.now.classes) (length plan.now.segments) plan.now.times } }
 {
     for row in plan.times() {
         table.set(row.class, row.segment, row.seconds);
+    }
+}
+
+fn set_clearances(table: &mut Classes, plan: &Plan)
+    requires none { table.old ≡ record { segments = length plan.now.segments; table = table_of (length plan.now.classes) (length plan.now.segments) plan.now.times; clearances = replicate (length plan.now.classes) 0 } }
+    requires sound { IsSound plan.now }
+    ensures { table.new ≡ times_of_plan plan.now }
+{
+    for row in plan.clearances() {
+        table.set_clearance(row.class, row.seconds);
     }
 }

@@ -1,15 +1,16 @@
 //! Reading an airport file.
-ghost use Rattle.std.specs.Prelude.{◌≡◌, ◌+◌, ◌≤◌, ◌∷◌, ◌&&◌, [], Some, Ok, Err, length, map, IfOk, bytes_eq, codes};
+ghost use Rattle.std.specs.Prelude.{◌≡◌, ◌+◌, ◌≤◌, ◌∷◌, [], Some, None, Ok, Err, length, map, IfOk, bytes_eq, codes, if◌then◌else◌};
 ghost use Rattle.csv.specs.Records.{fields_of};
+ghost use Rattle.airport_rules.specs.Versions.{version_named};
 ghost use Rattle.airport_rules.specs.Plan.{empty_plan};
 ghost use Rattle.airport_rules.specs.Rules.{judge};
 ghost use Rattle.airport_rules.specs.Judged.{Answers, texts_of};
-ghost use Rattle.airport_file.specs.Reading.{records_of, is_first, judged_after, airport_of_records, airport_of};
+ghost use Rattle.airport_file.specs.Reading.{records_of, version_of, judged_after, airport_of_records, airport_of};
 ghost use Rattle.airport_file.specs.Refused.{ForBad};
 
 use crate::build::build;
 use crate::{Airport, AirportFault};
-use airport_rules::{NotTaken, Plan, judge};
+use airport_rules::{NotTaken, Plan, Version, judge};
 use csv::{ByteRecord, ReaderBuilder};
 use std::alloc::Global;
 use taxi_base::Memory;
@@ -73,40 +74,48 @@ fn airport_of_records(alloc: Global, records: &[ByteRecord]) -> Result<Airport, 
     let Ok(fields) = fields_of(alloc, first) else {
         return Err(AirportRefused::Memory);
     };
-    if !is_first(fields.as_slice()) {
+    let Some(version) = version_of(fields.as_slice()) else {
         return Err(AirportRefused::Bad {
             at: 1,
             why: AirportFault::FirstRow,
         });
-    }
-    judge_records(alloc, rest)
+    };
+    judge_records(alloc, version, rest)
 }
 
-/// Whether a record says that the file is an airport's.
-fn is_first(fields: &[&[u8]]) -> bool
-    ensures { result ≡ is_first (texts_of fields.now) }
+/// The version of a file by its first record; none where that is not an airport's.
+fn version_of(fields: &[&[u8]]) -> Option<Version>
+    ensures { result ≡ version_of (texts_of fields.now) }
 {
     match fields {
-        [word, version] => is_heading(word, version),
-        _ => false,
+        [word, number] => version_by(word, number),
+        _ => None,
     }
 }
 
-fn is_heading(word: &[u8], version: &[u8]) -> bool
-    ensures { result ≡ (bytes_eq word.now (codes "taxi-airport") && bytes_eq version.now (codes "1")) }
+fn version_by(word: &[u8], number: &[u8]) -> Option<Version>
+    ensures { result ≡ (if bytes_eq word.now (codes "taxi-airport") then version_named number.now else None) }
 {
-    word == b"taxi-airport".as_slice() && version == b"1".as_slice()
+    if word == b"taxi-airport".as_slice() {
+        Version::named(number)
+    } else {
+        None
+    }
 }
 
 /// Judges the records after the first, each against those before it.
-fn judge_records(alloc: Global, records: &[ByteRecord]) -> Result<Airport, AirportRefused>
+fn judge_records(
+    alloc: Global,
+    version: Version,
+    records: &[ByteRecord],
+) -> Result<Airport, AirportRefused>
     requires { length records.now ≤ 4194304 }
-    ensures ok { IfOk result (λ airport. judged_after 1 empty_plan (map fields_of records.now) ≡ Ok airport) }
-    ensures bad { ForBad result (λ at why. judged_after 1 empty_plan (map fields_of records.now) ≡ Err (record { at = at; why = why })) }
+    ensures ok { IfOk result (λ airport. judged_after version 1 empty_plan (map fields_of records.now) ≡ Ok airport) }
+    ensures bad { ForBad result (λ at why. judged_after version 1 empty_plan (map fields_of records.now) ≡ Err (record { at = at; why = why })) }
 {
     let mut plan = Plan::new(alloc);
     for (k, record) in records.iter().enumerate() {
-        match judge_record(alloc, &mut plan, record) {
+        match judge_record(alloc, version, &mut plan, record) {
             Ok(()) => {}
             Err(NotTaken::Fault(why)) => {
                 return Err(AirportRefused::Bad {
@@ -129,11 +138,16 @@ fn judge_records(alloc: Global, records: &[ByteRecord]) -> Result<Airport, Airpo
     }
 }
 
-fn judge_record(alloc: Global, plan: &mut Plan, row: &ByteRecord) -> Result<(), NotTaken>
-    ensures { Answers (judge plan.old (fields_of row.now)) plan.new result }
+fn judge_record(
+    alloc: Global,
+    version: Version,
+    plan: &mut Plan,
+    row: &ByteRecord,
+) -> Result<(), NotTaken>
+    ensures { Answers (judge version plan.old (fields_of row.now)) plan.new result }
 {
     match fields_of(alloc, row) {
-        Ok(fields) => judge(alloc, plan, fields.as_slice()),
+        Ok(fields) => judge(alloc, version, plan, fields.as_slice()),
         Err(_) => Err(NotTaken::Memory),
     }
 }
@@ -144,10 +158,7 @@ fn fields_of<'a>(alloc: Global, row: &'a ByteRecord) -> Result<Vec<&'a [u8]>, Me
 {
     let mut fields = Vec::new(alloc);
     for at in 0..row.len() {
-        let Some(field) = row.get(at) else {
-            return Err(Memory);
-        };
-        fields.push(field)?;
+        fields.push(row.get(at).unwrap())?;
     }
     Ok(fields)
 }

@@ -1,16 +1,14 @@
 -- The airport of a sound plan has the plan's names, arcs, times and sets.
-use Rattle.std.proofs.Common.{◌≡◌, ℕ, ◌<◌, List, [], ◌∷◌, length, map, replicate, get_or, set, refl, sym, ap, ◌∙◌, Option, Some, None, arith, length-set}
-use Rattle.std.specs.Prelude.{Bool, bytes_eq, fold, slice_get, option_map, if◌then◌else◌}
+use Rattle.std.proofs.Common.{◌≡◌, ℕ, ◌<◌, List, [], ◌∷◌, length, map, replicate, refl, sym, ap, ◌∙◌, Option, Some, None, length-set}
+use Rattle.std.specs.Prelude.{Bool, bytes_eq, fold, if◌then◌else◌}
 use Rattle.std.specs.List.{zip}
 use Rattle.std.proofs.lemmas.List.{length-map, length-replicate}
 use Rattle.std.proofs.lemmas.List.Quantifiers.{position-Some}
 use Rattle.std.proofs.lemmas.Slice.Zip.{firsts-zip, seconds-zip}
-use Rattle.taxi_base.specs.declared.numbers.Node.{Node}
-use Rattle.taxi_base.specs.declared.rows.Kind.{Kind}
-use Rattle.taxi_base.specs.Airport.{Airport, NodeRow, SegmentRow, ClassRow, Link, link_of, layout_of, times_of, place_of, arc_named, segment_named, arc_exists, arc_of}
+use Rattle.taxi_base.specs.Airport.{link_of, layout_of, times_of, place_of, arc_named, segment_named, arc_exists, arc_of}
 use Rattle.airport_rules.specs.declared.rows.TimeRow.{TimeRow}
-use Rattle.airport_rules.specs.Plan.{Plan, layout_of_plan, table_of, with_time, airport_of_plan, node_row, segment_row, class_row}
-use Rattle.airport_rules.specs.Sound.{IsSound}
+use Rattle.airport_rules.specs.declared.rows.ClearanceRow.{ClearanceRow}
+use Rattle.airport_rules.specs.Plan.{Plan, layout_of_plan, table_of, with_time, airport_of_plan, with_clearance, clearances_of, node_row, segment_row, class_row}
 
 -- a part of the rows that are made of two lists
 part-firsts : {A B R C : Type 0} (make : A × B → R) (part : R → C) (of : A × B → C) → ((p : A × B) → part (make p) ≡ of p) → (ps : List (A × B)) → map part (map make ps) ≡ map of ps
@@ -54,6 +52,13 @@ length-segments h plan e = sym (length-map (airport_of_plan h plan).segments (λ
 
 pub length-classes : (h : ℕ) (plan : Plan) → length (airport_of_plan h plan).classes ≡ length plan.classes
 length-classes h plan = sym (length-map (airport_of_plan h plan).classes (λ c. c.name)) ∙ ap length (class_names h plan)
+
+length-clearances_from : (clearances : List ℕ) (rows : List ClearanceRow) → length (fold with_clearance clearances rows) ≡ length clearances
+length-clearances_from clearances [] = refl
+length-clearances_from clearances (r ∷ rows) = length-clearances_from (with_clearance clearances r) rows ∙ length-set clearances r.class.0 r.seconds
+
+pub length-clearances : (classes : ℕ) (rows : List ClearanceRow) → length (clearances_of classes rows) ≡ classes
+length-clearances classes rows = length-clearances_from (replicate classes 0) rows ∙ length-replicate classes 0
 
 pub layout-plan : (h : ℕ) (plan : Plan) → length plan.kinds ≡ length plan.nodes → length plan.links ≡ length plan.segments → layout_of (airport_of_plan h plan) ≡ layout_of_plan plan
 layout-plan h plan kinds links = rw (length-nodes h plan kinds, segment_links h plan links) refl

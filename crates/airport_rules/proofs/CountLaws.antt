@@ -1,20 +1,14 @@
 -- How many ends of segments are at each node once a node or a segment is added.
-use Rattle.std.proofs.Common.{◌≡◌, ◌≢◌, ℕ, ◌<◌, ◌≤◌, ◌+◌, ◌-◌, Bool, true, false, cond, eqb, List, [], ◌∷◌, ◌++◌, length, length-append, get_or, set, refl, sym, ap, subst, arith, inl, inr, ◌∙◌, get_or-set_same, get_or-set_other, length-set, eq-eqb}
-use Rattle.std.specs.Prelude.{All, sum_by, ◌==◌, if◌then◌else◌, slice_index, nat_lt, ◌||◌}
+use Rattle.std.proofs.Common.{◌≡◌, ◌≢◌, ℕ, ◌<◌, ◌≤◌, ◌+◌, ◌-◌, List, [], ◌∷◌, ◌++◌, length, length-append, get_or, set, refl, sym, ap, subst, arith, inl, inr, ◌∙◌, get_or-set_same, get_or-set_other, length-set, eq-eqb}
+use Rattle.std.specs.Prelude.{All, ◌==◌, if◌then◌else◌, nat_lt, ◌||◌}
 use Rattle.std.proofs.lemmas.Bool.{cases_Bool, cases_lt, both_ways, eqb-true}
 use Rattle.std.proofs.lemmas.Bool.Decides.{nat_tests}
 use Rattle.std.proofs.lemmas.List.{get_or_append_left, get_or_push}
 use Rattle.std.proofs.lemmas.List.Elements.{All-push, All-head, All-tail, All-weaker}
 use Rattle.std.proofs.lemmas.List.Sums.{sum_by-append}
-use Rattle.taxi_base.specs.declared.numbers.Node.{Node}
-use Rattle.taxi_base.specs.Airport.{Link}
-use Rattle.airport_rules.specs.Plan.{link_ends}
+use Rattle.taxi_base.specs.Airport.{Link, own_ends, link_ends}
 use Rattle.airport_rules.specs.Rules.{is_crowded}
 use Rattle.airport_rules.specs.Indexed.{AreCounted}
-
--- the ends of one segment at a node
-abbrev pub own_ends : ℕ → Link → ℕ
-own_ends k l = (if l.from.0 == k then 1 else 0) + (if l.to.0 == k then 1 else 0)
 
 abbrev pub AreWithin : ℕ → List Link → Type 0
 AreWithin nodes links = All (λ (l : Link). (l.from.0 < nodes) × (l.to.0 < nodes)) links
@@ -40,8 +34,8 @@ AreCounted-node nodes links ends h = record {
 }
 
 -- the ends at a node, with those of one more segment
-pub link_ends-push : (k : ℕ) (links : List Link) (l : Link) → link_ends (record { 0 = k }) (links ++ l ∷ []) ≡ link_ends (record { 0 = k }) links + own_ends k l
-link_ends-push k links l = sum_by-append (own_ends k) links (l ∷ []) ∙ ap (λ n. link_ends (record { 0 = k }) links + n) (omega arith)
+pub link_ends-push : (k : ℕ) (links : List Link) (l : Link) → link_ends (record { 0 = k }) (links ++ l ∷ []) ≡ link_ends (record { 0 = k }) links + own_ends (record { 0 = k }) l
+link_ends-push k links l = sum_by-append (own_ends (record { 0 = k })) links (l ∷ []) ∙ ap (λ n. link_ends (record { 0 = k }) links + n) (omega arith)
 
 -- the counts with one more at a place
 abbrev pub with_end : List ℕ → ℕ → List ℕ
@@ -72,20 +66,20 @@ AreCounted-link nodes links ends l h from to = record {
 
 -- whether a node would be crowded, by the counts
 pub is_crowded-counts : (nodes : ℕ) (links : List Link) (ends : List ℕ) (l : Link) → AreCounted nodes links ends → l.from.0 < nodes → l.to.0 < nodes
-    → is_crowded links l ≡ (nat_lt 32 (get_or ends l.from.0 0 + own_ends l.from.0 l) || nat_lt 32 (get_or ends l.to.0 0 + own_ends l.to.0 l))
+    → is_crowded links l ≡ (nat_lt 32 (get_or ends l.from.0 0 + own_ends l.from l) || nat_lt 32 (get_or ends l.to.0 0 + own_ends l.to l))
 is_crowded-counts nodes links ends l h from to =
-    let at_from : link_ends l.from (links ++ l ∷ []) ≡ get_or ends l.from.0 0 + own_ends l.from.0 l =
-    link_ends-push l.from.0 links l ∙ ap (λ n. n + own_ends l.from.0 l) (sym (h.count l.from.0 (omega (arith, from, h.each)))) in
-    let at_to : link_ends l.to (links ++ l ∷ []) ≡ get_or ends l.to.0 0 + own_ends l.to.0 l =
-    link_ends-push l.to.0 links l ∙ ap (λ n. n + own_ends l.to.0 l) (sym (h.count l.to.0 (omega (arith, to, h.each)))) in
+    let at_from : link_ends l.from (links ++ l ∷ []) ≡ get_or ends l.from.0 0 + own_ends l.from l =
+    link_ends-push l.from.0 links l ∙ ap (λ n. n + own_ends l.from l) (sym (h.count l.from.0 (omega (arith, from, h.each)))) in
+    let at_to : link_ends l.to (links ++ l ∷ []) ≡ get_or ends l.to.0 0 + own_ends l.to l =
+    link_ends-push l.to.0 links l ∙ ap (λ n. n + own_ends l.to l) (sym (h.count l.to.0 (omega (arith, to, h.each)))) in
     ap (λ n. nat_lt 32 n || nat_lt 32 (link_ends l.to (links ++ l ∷ []))) at_from
-    ∙ ap (λ n. nat_lt 32 (get_or ends l.from.0 0 + own_ends l.from.0 l) || nat_lt 32 n) at_to
+    ∙ ap (λ n. nat_lt 32 (get_or ends l.from.0 0 + own_ends l.from l) || nat_lt 32 n) at_to
 
 -- how many of its ends a new segment has at each of its nodes
-pub own_ends-from : (l : Link) (new : ℕ) → new ≡ (if l.from.0 == l.to.0 then 2 else 1) → own_ends l.from.0 l ≡ new
+pub own_ends-from : (l : Link) (new : ℕ) → new ≡ (if l.from.0 == l.to.0 then 2 else 1) → own_ends l.from l ≡ new
 own_ends-from l new e = grind (arith, nat_tests)
 
-pub own_ends-to : (l : Link) (new : ℕ) → new ≡ (if l.from.0 == l.to.0 then 2 else 1) → own_ends l.to.0 l ≡ new
+pub own_ends-to : (l : Link) (new : ℕ) → new ≡ (if l.from.0 == l.to.0 then 2 else 1) → own_ends l.to l ≡ new
 own_ends-to l new e = grind (arith, nat_tests)
 
 over : (a new : ℕ) → new ≤ 32 → nat_lt 32 (a + new) ≡ nat_lt (32 - new) a

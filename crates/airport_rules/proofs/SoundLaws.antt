@@ -1,8 +1,8 @@
 -- The rules let only sound plans through.
-use Rattle.std.proofs.Common.{◌≡◌, ◌≢◌, ℕ, ◌<◌, ◌≤◌, ◌+◌, ◌*◌, ◌/◌, ◌%◌, zero, suc, Bool, true, false, List, [], ◌∷◌, ◌++◌, length, length-append, get_or, Option, Some, None, Ok, Err, refl, sym, ap, subst, arith, ◌∙◌, inl, inr, lit≤}
-use Rattle.std.specs.Prelude.{Result, All, AllPairs, IfSome, IsTrue, ◌==◌, ◌&&◌, ◌||◌, not, nat_lt, nat_le, is_some, slice_get, option_map, option_and_then, bytes_eq, codes, if◌then◌else◌, sum_by}
-use Rattle.std.specs.List.{AllPass, list_any, list_all}
-use Rattle.std.proofs.lemmas.Bool.{cases_Bool, both_ways, eqb-true}
+use Rattle.std.proofs.Common.{◌≡◌, ◌≢◌, ℕ, ◌<◌, ◌≤◌, ◌+◌, ◌/◌, ◌%◌, zero, suc, Bool, true, false, List, [], ◌∷◌, ◌++◌, length, length-append, Option, Some, None, Ok, Err, refl, ap, subst, arith, ◌∙◌, inl, inr, lit≤}
+use Rattle.std.specs.Prelude.{Result, All, AllPairs, IsTrue, ◌==◌, ◌&&◌, ◌||◌, not, nat_le, is_some, slice_get, option_map, option_and_then, bytes_eq, codes, if◌then◌else◌}
+use Rattle.std.specs.List.{list_all}
+use Rattle.std.proofs.lemmas.Bool.{cases_Bool, eqb-true}
 use Rattle.std.proofs.lemmas.Bool.Decides.{nat_tests}
 use Rattle.std.proofs.lemmas.List.Elements.{All-push, All-weaker, All-nil, All-cons, All-head, All-tail}
 use Rattle.std.proofs.lemmas.List.Kept.{AllPairs-cons}
@@ -11,20 +11,22 @@ use Rattle.std.proofs.lemmas.List.Quantifiers.{all_pairs_push}
 use Rattle.taxi_base.specs.declared.numbers.Node.{Node}
 use Rattle.taxi_base.specs.declared.numbers.Segment.{Segment}
 use Rattle.taxi_base.specs.declared.numbers.Arc.{Arc}
-use Rattle.taxi_base.specs.declared.numbers.Class.{Class}
 use Rattle.taxi_base.specs.Words.{is_name}
-use Rattle.taxi_base.specs.Airport.{Link, Layout, AreNames, place_of, Ends, ends_of_link, IsConflictSet, head, tail, meet, ends, pair_precedes, arc_of}
+use Rattle.taxi_base.specs.Airport.{Link, Layout, AreNames, place_of, Ends, ends_of_link, IsConflictSet, head, tail, meet, ends, pair_precedes, arc_of, own_ends, link_ends, is_forbidden}
 use Rattle.taxi_text.specs.Fields.{number_of, arc_word_of}
 use Rattle.airport_rules.specs.declared.rows.TimeRow.{TimeRow}
+use Rattle.airport_rules.specs.declared.rows.ClearanceRow.{ClearanceRow}
+use Rattle.airport_rules.specs.declared.version.Version.{Version}
+use Rattle.airport_rules.specs.Versions.{gives_clearances}
 use Rattle.airport_rules.specs.declared.faults.AirportFault.{AirportFault}
-use Rattle.airport_rules.specs.Plan.{Plan, empty_plan, layout_of_plan, link_ends}
-use Rattle.airport_rules.specs.Rules.{◌>>=◌, kind_of, both_of, refused, some_or, is_given, is_crowded, judge, judge_horizon, judge_node, judge_class, judge_link, judge_segment, judge_seconds, judge_turn, judge_forbid, judge_members, judge_conflict, judge_horizon_row, judge_node_row, judge_class_row, judge_segment_row, judge_seconds_row, judge_forbid_row, judge_conflict_row, members_of, repeats, number_to, within, is_timed, goes_on, is_forbidden, with_pair, in_order}
+use Rattle.airport_rules.specs.Plan.{Plan, empty_plan, layout_of_plan}
+use Rattle.airport_rules.specs.Rules.{◌>>=◌, kind_of, both_of, refused, some_or, is_given, is_crowded, judge, judge_horizon, judge_node, judge_class, judge_link, judge_segment, judge_seconds, judge_clearance, judge_turn, judge_forbid, judge_members, judge_conflict, judge_horizon_row, judge_node_row, judge_class_row, judge_segment_row, judge_seconds_row, judge_clearance_row, judge_forbid_row, judge_conflict_row, members_of, repeats, number_within, within, is_timed, has_clearance, goes_on, with_pair, in_order}
 use Rattle.airport_rules.specs.declared.faults.AirportFault.TheVariants.{FieldCount}
 use Rattle.airport_rules.proofs.ConflictLaws.{order-in_order, length-in_order, All-in_order, members-of}
-use Rattle.airport_rules.proofs.CountLaws.{own_ends, link_ends-push}
+use Rattle.airport_rules.proofs.CountLaws.{link_ends-push}
 use Rattle.airport_rules.proofs.AirportViews.{place-within}
 use Rattle.name_list.proofs.PlaceLaws.{not_found-differs}
-use Rattle.airport_rules.specs.Sound.{IsSound, IsSoundTime}
+use Rattle.airport_rules.specs.Sound.{IsSound, IsSoundTime, IsSoundClearance}
 
 -- ---- what a step says that lets a record through
 
@@ -64,6 +66,7 @@ IsSound-empty = record {
   within = All-nil _;
   degree = λ node. omega arith;
   times = All-nil _;
+  clearances = All-nil _;
   few_forbidden = lit≤ tt;
   forbidden = All-nil _;
   forbidden_order = λ i j d low high. absurd (omega (arith, high));
@@ -73,16 +76,16 @@ IsSound-empty = record {
 
 -- ---- the rows
 
-number-range : (most n : ℕ) (word : List ℕ) → number_to most word ≡ Some n → (1 ≤ n) × (n ≤ most)
-number-range most n word e = within-range (number_of word) e
+number-range : (least most n : ℕ) (word : List ℕ) → number_within least most word ≡ Some n → (least ≤ n) × (n ≤ most)
+number-range least most n word e = within-range (number_of word) e
   where
-    within-range : (o : Option ℕ) → within most o ≡ Some n → (1 ≤ n) × (n ≤ most)
+    within-range : (o : Option ℕ) → within least most o ≡ Some n → (least ≤ n) × (n ≤ most)
     within-range (Some m) h = grind (arith, nat_tests, h)
     within-range None h = absurd (cc h)
 
 pub IsSound-horizon : (plan new : Plan) (number : List ℕ) → IsSound plan → judge_horizon plan number ≡ Ok new → IsSound new
 IsSound-horizon plan new number h e =
-    let one = some_or-passed _ (number_to 604800 number) _ new e in
+    let one = some_or-passed _ (number_within 1 604800 number) _ new e in
     let two = refused-passed _ (is_some plan.horizon) _ new one.2 in
     let same : record plan { horizon = Some one.0 } ≡ new = cc two.1 in
     subst IsSound same (record {
@@ -94,12 +97,13 @@ IsSound-horizon plan new number h e =
       within = h.within;
       degree = h.degree;
       times = h.times;
+      clearances = h.clearances;
       few_forbidden = h.few_forbidden;
       forbidden = h.forbidden;
       forbidden_order = h.forbidden_order;
       few_conflicts = h.few_conflicts;
       conflicts = h.conflicts;
-      horizon = number-range 604800 one.0 number one.1;
+      horizon = number-range 1 604800 one.0 number one.1;
     })
 
 pub IsSound-class : (plan new : Plan) (name : List ℕ) → IsSound plan → judge_class plan name ≡ Ok new → IsSound new
@@ -124,6 +128,7 @@ IsSound-class plan new name h e =
       conflicts = h.conflicts;
       classes = AreNames-push 32 plan.classes name h.classes one.0 two.0 three.0;
       times = All-weaker (IsSoundTime plan) (IsSoundTime grown) (λ t s. (s.0, rw length-append (omega (arith, s.1)), s.2, s.3)) plan.times h.times;
+      clearances = All-weaker (IsSoundClearance plan) (IsSoundClearance grown) (λ r s. (rw length-append (omega (arith, s.0)), s.1)) plan.clearances h.clearances;
     })
 
 -- arcs depend on the links alone
@@ -149,6 +154,7 @@ IsSound-node plan new name kind h e =
       links = h.links;
       degree = h.degree;
       times = h.times;
+      clearances = h.clearances;
       few_forbidden = h.few_forbidden;
       forbidden_order = h.forbidden_order;
       few_conflicts = h.few_conflicts;
@@ -194,7 +200,7 @@ goes_on-more links l a b x y old new h =
     rw (joined, parts.1) refl
 
 -- elsewhere no end is added
-own_ends-other : (k : ℕ) (l : Link) → (l.from.0 == k) ≡ false → (l.to.0 == k) ≡ false → own_ends k l ≡ 0
+own_ends-other : (k : ℕ) (l : Link) → (l.from.0 == k) ≡ false → (l.to.0 == k) ≡ false → own_ends (record { 0 = k }) l ≡ 0
 own_ends-other k l a b = rw (a, b) refl
 
 degree-more : (links : List Link) (l : Link) → ((node : Node) → link_ends node links ≤ 32) → is_crowded links l ≡ false → (node : Node) → link_ends node (links ++ l ∷ []) ≤ 32
@@ -232,6 +238,7 @@ IsSound-link plan new name l h valid fresh from to e =
       within = All-push (λ (l : Link). (l.from.0 < length plan.nodes) × (l.to.0 < length plan.nodes)) plan.links l h.within (from, to);
       degree = degree-more plan.links l h.degree two.0;
       times = All-weaker (IsSoundTime plan) (IsSoundTime grown) (λ t s. (rw length-append (omega (arith, s.0)), s.1, s.2, s.3)) plan.times h.times;
+      clearances = h.clearances;
       forbidden = All-weaker (GoOn (layout_of_plan plan)) (GoOn (layout_of_plan grown)) (λ p g. goes_on-more plan.links l (layout_of_plan plan) (layout_of_plan grown) p.0 p.1 refl refl g) plan.forbidden h.forbidden;
       conflicts = All-weaker (IsConflictSet (length plan.segments)) (IsConflictSet (length grown.segments))
           (λ set s. (s.0, s.1, All-weaker (λ m. m.0 < length plan.segments) (λ m. m.0 < length grown.segments) (λ m low. rw length-append (omega (arith, low))) set s.2, s.3)) plan.conflicts h.conflicts;
@@ -252,12 +259,12 @@ IsSound-seconds plan new segment class number h e =
     let one = refused-passed _ (not (is_name segment && is_name class)) _ new e in
     let two = some_or-passed _ (place_of segment plan.segments) _ new one.1 in
     let three = some_or-passed _ (place_of class plan.classes) _ new two.2 in
-    let four = some_or-passed _ (number_to 3600 number) _ new three.2 in
+    let four = some_or-passed _ (number_within 1 3600 number) _ new three.2 in
     let five = refused-passed _ (is_timed (record { 0 = two.0 }) (record { 0 = three.0 }) plan.times) _ new four.2 in
     let row : TimeRow = record { segment = record { 0 = two.0 }; class = record { 0 = three.0 }; seconds = four.0 } in
     let grown : Plan = record plan { times = plan.times ++ row ∷ [] } in
     let same : grown ≡ new = cc five.1 in
-    let range = number-range 3600 four.0 number four.1 in
+    let range = number-range 1 3600 four.0 number four.1 in
     subst IsSound same (record {
       horizon = h.horizon;
       nodes = h.nodes;
@@ -272,7 +279,36 @@ IsSound-seconds plan new segment class number h e =
       forbidden_order = h.forbidden_order;
       few_conflicts = h.few_conflicts;
       conflicts = h.conflicts;
+      clearances = h.clearances;
       times = All-push (IsSoundTime plan) plan.times row h.times (place-within segment plan.segments two.0 two.1, place-within class plan.classes three.0 three.1, range.0, range.1);
+    })
+
+pub IsSound-clearance : (plan new : Plan) (class number : List ℕ) → IsSound plan → judge_clearance plan class number ≡ Ok new → IsSound new
+IsSound-clearance plan new class number h e =
+    let one = refused-passed _ (not (is_name class)) _ new e in
+    let two = some_or-passed _ (place_of class plan.classes) _ new one.1 in
+    let three = some_or-passed _ (number_within 0 600 number) _ new two.2 in
+    let four = refused-passed _ (has_clearance (record { 0 = two.0 }) plan.clearances) _ new three.2 in
+    let row : ClearanceRow = record { class = record { 0 = two.0 }; seconds = three.0 } in
+    let grown : Plan = record plan { clearances = plan.clearances ++ row ∷ [] } in
+    let same : grown ≡ new = cc four.1 in
+    let range = number-range 0 600 three.0 number three.1 in
+    subst IsSound same (record {
+      horizon = h.horizon;
+      nodes = h.nodes;
+      kinds = h.kinds;
+      classes = h.classes;
+      segments = h.segments;
+      links = h.links;
+      within = h.within;
+      degree = h.degree;
+      times = h.times;
+      few_forbidden = h.few_forbidden;
+      forbidden = h.forbidden;
+      forbidden_order = h.forbidden_order;
+      few_conflicts = h.few_conflicts;
+      conflicts = h.conflicts;
+      clearances = All-push (IsSoundClearance plan) plan.clearances row h.clearances (place-within class plan.classes two.0 two.1, range.1);
     })
 
 -- ---- one more forbidden turn
@@ -319,10 +355,10 @@ order-with_pair_by true pair p pairs e other order rest =
 order-with_pair_by false pair p pairs e other order rest =
     AllPairs-cons Precedes p (with_pair pair pairs) (All-with_pair (Precedes p) pair pairs (precedes-other pair p e other) (AllPairs-first Precedes p pairs order)) rest
 
-order-with_pair : (pair : Arc × Arc) (pairs : List (Arc × Arc)) → is_forbidden pair.0 pair.1 pairs ≡ false → AllPairs Precedes pairs → AllPairs Precedes (with_pair pair pairs)
+order-with_pair : (pair : Arc × Arc) (pairs : List (Arc × Arc)) → is_forbidden pairs pair.0 pair.1 ≡ false → AllPairs Precedes pairs → AllPairs Precedes (with_pair pair pairs)
 order-with_pair pair [] none order = λ i j d low high. absurd (omega (arith, low, high))
 order-with_pair pair (p ∷ pairs) none order =
-    let parts = both_false (p.0.0 == pair.0.0 && p.1.0 == pair.1.0) (is_forbidden pair.0 pair.1 pairs) none in
+    let parts = both_false (p.0.0 == pair.0.0 && p.1.0 == pair.1.0) (is_forbidden pairs pair.0 pair.1) none in
     order-with_pair_by (pair_precedes pair p) pair p pairs refl parts.0 order (order-with_pair pair pairs parts.1 (AllPairs-rest Precedes p pairs order))
 
 not_false : (b : Bool) → not b ≡ false → b ≡ true
@@ -332,7 +368,7 @@ not_false false e = absurd (cc e)
 pub IsSound-turn : (plan new : Plan) (x y : Arc) → IsSound plan → judge_turn plan x y ≡ Ok new → IsSound new
 IsSound-turn plan new x y h e =
     let one = refused-passed _ (not (goes_on (layout_of_plan plan) x y)) _ new e in
-    let two = refused-passed _ (is_forbidden x y plan.forbidden) _ new one.1 in
+    let two = refused-passed _ (is_forbidden plan.forbidden x y) _ new one.1 in
     let three = refused-passed _ (nat_le 50000 (length plan.forbidden)) _ new two.1 in
     let grown : Plan = record plan { forbidden = with_pair (x, y) plan.forbidden } in
     let same : grown ≡ new = cc three.1 in
@@ -348,6 +384,7 @@ IsSound-turn plan new x y h e =
       within = h.within;
       degree = h.degree;
       times = h.times;
+      clearances = h.clearances;
       few_conflicts = h.few_conflicts;
       conflicts = h.conflicts;
       few_forbidden = rw longer (grind (arith, nat_tests, three.0));
@@ -383,6 +420,7 @@ IsSound-members plan new ms h low high all e =
       within = h.within;
       degree = h.degree;
       times = h.times;
+      clearances = h.clearances;
       few_forbidden = h.few_forbidden;
       forbidden = h.forbidden;
       forbidden_order = h.forbidden_order;
@@ -428,6 +466,12 @@ seconds-row plan new (a ∷ b ∷ []) h e = absurd (cc e)
 seconds-row plan new (a ∷ b ∷ c ∷ []) h e = IsSound-seconds plan new a b c h e
 seconds-row plan new (a ∷ b ∷ c ∷ d ∷ rest) h e = absurd (cc e)
 
+clearance-row : (plan new : Plan) (fields : List (List ℕ)) → IsSound plan → judge_clearance_row plan fields ≡ Ok new → IsSound new
+clearance-row plan new [] h e = absurd (cc e)
+clearance-row plan new (a ∷ []) h e = absurd (cc e)
+clearance-row plan new (a ∷ b ∷ []) h e = IsSound-clearance plan new a b h e
+clearance-row plan new (a ∷ b ∷ c ∷ rest) h e = absurd (cc e)
+
 segment-row : (plan new : Plan) (fields : List (List ℕ)) → IsSound plan → judge_segment_row plan fields ≡ Ok new → IsSound new
 segment-row plan new [] h e = absurd (cc e)
 segment-row plan new (a ∷ []) h e = absurd (cc e)
@@ -447,10 +491,10 @@ either-row : (new : Plan) (b : Bool) (x y : Result Plan AirportFault) → (x ≡
 either-row new true x y f g e = f e
 either-row new false x y f g e = g e
 
-pub IsSound-judge : (plan new : Plan) (fields : List (List ℕ)) → IsSound plan → judge plan fields ≡ Ok new → IsSound new
+pub IsSound-judge : (version : Version) (plan new : Plan) (fields : List (List ℕ)) → IsSound plan → judge version plan fields ≡ Ok new → IsSound new
 unfolding judge
-IsSound-judge plan new [] h e = absurd (cc e)
-IsSound-judge plan new (word ∷ fields) h e =
+IsSound-judge version plan new [] h e = absurd (cc e)
+IsSound-judge version plan new (word ∷ fields) h e =
     either-row new (bytes_eq word (codes "horizon")) _ _ (horizon-row plan new fields h)
     (either-row new (bytes_eq word (codes "node")) _ _ (node-row plan new fields h)
     (either-row new (bytes_eq word (codes "class")) _ _ (class-row plan new fields h)
@@ -458,4 +502,5 @@ IsSound-judge plan new (word ∷ fields) h e =
     (either-row new (bytes_eq word (codes "seconds")) _ _ (seconds-row plan new fields h)
     (either-row new (bytes_eq word (codes "forbid")) _ _ (forbid-row plan new fields h)
     (either-row new (bytes_eq word (codes "conflict")) _ _ (conflict-row plan new fields h)
-    (λ f. absurd (cc f)))))))) e
+    (either-row new (bytes_eq word (codes "clearance") && gives_clearances version) _ _ (clearance-row plan new fields h)
+    (λ f. absurd (cc f))))))))) e

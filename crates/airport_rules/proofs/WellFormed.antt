@@ -1,25 +1,25 @@
 -- The airport of a sound plan keeps the rules of an airport.
-use Rattle.std.proofs.Common.{◌≡◌, ◌≢◌, ℕ, ◌<◌, ◌≤◌, ◌+◌, ◌/◌, zero, suc, Bool, true, false, List, [], ◌∷◌, length, map, replicate, get_or, set, Option, Some, None, refl, sym, ap, subst, arith, ◌∙◌, length-set}
-use Rattle.std.specs.Prelude.{All, AllPairs, EachIndex, IfSome, IsTrue, ◌==◌, ◌&&◌, not, fold, sum_by, if◌then◌else◌, slice_index_or, slice_set}
+use Rattle.std.proofs.Common.{◌≡◌, ◌≢◌, ℕ, ◌<◌, ◌≤◌, ◌+◌, ◌/◌, Bool, true, false, List, [], ◌∷◌, length, map, replicate, get_or, set, Option, Some, None, refl, sym, ap, subst, arith, ◌∙◌, length-set}
+use Rattle.std.specs.Prelude.{All, IfSome, IsTrue, ◌==◌, ◌&&◌, not, fold, if◌then◌else◌}
 use Rattle.std.proofs.lemmas.Bool.Decides.{nat_tests}
 use Rattle.std.proofs.lemmas.List.{length-replicate}
 use Rattle.std.proofs.lemmas.List.Elements.{All-weaker, All-nil, All-cons, All-head, All-tail, All-set, All-replicate}
 use Rattle.taxi_base.specs.declared.numbers.Node.{Node}
 use Rattle.taxi_base.specs.declared.numbers.Arc.{Arc}
-use Rattle.taxi_base.specs.declared.numbers.Segment.{Segment}
-use Rattle.taxi_base.specs.Airport.{Airport, NodeRow, SegmentRow, ClassRow, Link, Layout, link_of, layout_of, times_of, AreNames, IsWellFormed, IsConflictSet, ends_at, meet, head, tail, pair_precedes}
+use Rattle.taxi_base.specs.Airport.{Airport, SegmentRow, ClassRow, Link, Layout, link_of, layout_of, AreNames, IsWellFormed, IsConflictSet, ends_at, meet, head, tail, link_ends}
 use Rattle.airport_rules.specs.declared.rows.TimeRow.{TimeRow}
-use Rattle.airport_rules.specs.Plan.{Plan, layout_of_plan, link_ends, table_of, with_time, airport_of_plan}
+use Rattle.airport_rules.specs.declared.rows.ClearanceRow.{ClearanceRow}
+use Rattle.airport_rules.specs.Plan.{Plan, layout_of_plan, table_of, with_time, with_clearance, clearances_of, airport_of_plan}
 use Rattle.airport_rules.specs.Rules.{goes_on}
-use Rattle.airport_rules.specs.Sound.{IsSound, IsSoundTime}
-use Rattle.airport_rules.proofs.AirportViews.{node_names, segment_names, segment_links, class_names, class_times, length-nodes, length-segments, length-table, layout-plan}
+use Rattle.airport_rules.specs.Sound.{IsSound, IsSoundTime, IsSoundClearance}
+use Rattle.airport_rules.proofs.AirportViews.{node_names, segment_names, segment_links, class_names, class_times, length-nodes, length-segments, length-classes, length-clearances, layout-plan}
 
 All-from_map : {X Y : Type 0} (P : Y → Type 0) (f : X → Y) (xs : List X) → All P (map f xs) → All (λ x. P (f x)) xs
 All-from_map P f [] all = All-nil _
 All-from_map P f (x ∷ xs) all = All-cons (λ x. P (f x)) x xs (All-head P (f x) (map f xs) all) (All-from_map P f xs (All-tail P (f x) (map f xs) all))
 
 -- the ends at a node, by the segments and by the links
-ends_at-links : (node : Node) (segments : List SegmentRow) → ends_at node segments ≡ link_ends node (map link_of segments)
+pub ends_at-links : (node : Node) (segments : List SegmentRow) → ends_at node segments ≡ link_ends node (map link_of segments)
 ends_at-links node segments = from 0 segments
   where
     from : (n : ℕ) (segments : List SegmentRow)
@@ -54,6 +54,18 @@ rows-of_plan plan h =
     (All-replicate (IsRow (length plan.segments)) (length plan.classes) (replicate (length plan.segments) None)
     (length-replicate (length plan.segments) None, All-replicate IsTime (length plan.segments) None tt))
 
+-- ---- the clearances
+
+written-short : (plan : Plan) (clearances : List ℕ) (rows : List ClearanceRow) → All (IsSoundClearance plan) rows → All (λ g. g ≤ 600) clearances → All (λ g. g ≤ 600) (fold with_clearance clearances rows)
+written-short plan clearances [] sound short = short
+written-short plan clearances (r ∷ rows) sound short =
+    written-short plan (with_clearance clearances r) rows (All-tail (IsSoundClearance plan) r rows sound)
+    (All-set (λ g. g ≤ 600) clearances r.class.0 r.seconds (All-head (IsSoundClearance plan) r rows sound).1 short)
+
+short-clearances : (plan : Plan) → IsSound plan → All (λ g. g ≤ 600) (clearances_of (length plan.classes) plan.clearances)
+short-clearances plan h =
+    written-short plan (replicate (length plan.classes) 0) plan.clearances h.clearances (All-replicate (λ g. g ≤ 600) (length plan.classes) 0 (omega arith))
+
 -- ---- the airport
 
 both_true : (a b : Bool) → (a && b) ≡ true → (a ≡ true) × (b ≡ true)
@@ -85,6 +97,7 @@ IsWellFormed-plan h plan given s =
       degree = λ k low. subst (λ n. n ≤ 32) (ap (link_ends (record { 0 = k })) (sym links) ∙ sym (ends_at-links (record { 0 = k }) airport.segments)) (s.degree (record { 0 = k }));
       times = subst (λ n. All (λ (c : ClassRow). (length c.seconds ≡ n) × All IsTime c.seconds) airport.classes) (sym segments)
           (All-from_map (IsRow (length plan.segments)) (λ (c : ClassRow). c.seconds) airport.classes (subst (All (IsRow (length plan.segments))) (sym (class_times h plan)) table));
+      clearances = (length-clearances (length plan.classes) plan.clearances ∙ sym (length-classes h plan), short-clearances plan s);
       few_forbidden = s.few_forbidden;
       forbidden = subst (λ (l : Layout). All (λ (p : Arc × Arc). IsTrue (meet (head l p.0) (tail l p.1)) × (p.0.0 / 2 ≢ p.1.0 / 2)) plan.forbidden) (sym layout)
           (All-weaker (λ (p : Arc × Arc). IsTrue (goes_on (layout_of_plan plan) p.0 p.1)) (λ (p : Arc × Arc). IsTrue (meet (head (layout_of_plan plan) p.0) (tail (layout_of_plan plan) p.1)) × (p.0.0 / 2 ≢ p.1.0 / 2))

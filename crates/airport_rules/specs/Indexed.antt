@@ -1,14 +1,12 @@
 -- What a plan keeps beside its rows, to find things at once.
-use Rattle.std.specs.Prelude.{ℕ, ◌≡◌, ◌<◌, ◌==◌, Bool, if◌then◌else◌, List, length, map, slice_index, All}
+use Rattle.std.specs.Prelude.{ℕ, ◌≡◌, ◌<◌, List, length, slice_index, All}
 use Rattle.std.specs.declared.cmp.Ordering.{Ordering}
 use Rattle.std.specs.Ordering.{nat_cmp, ordering_then}
 use Rattle.std.specs.BTreeSet.{BTreeSet, contains}
-use Rattle.taxi_base.specs.declared.numbers.Node.{Node}
 use Rattle.taxi_base.specs.declared.numbers.Arc.{Arc}
-use Rattle.taxi_base.specs.Airport.{Link}
+use Rattle.taxi_base.specs.Airport.{Link, link_ends}
 use Rattle.airport_rules.specs.declared.rows.TimeRow.{TimeRow}
 use Rattle.airport_rules.specs.declared.rows.Taxiway.{Taxiway}
-use Rattle.airport_rules.specs.Plan.{link_ends}
 use Rattle.airport_rules.specs.Rules.{is_timed}
 
 abbrev pub link_of_way : Taxiway → Link

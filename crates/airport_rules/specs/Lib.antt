@@ -1,4 +1,5 @@
 pub mod Faults
+pub mod Versions
 pub mod Plan
 pub mod Rules
 pub mod Indexed

@@ -1,13 +1,12 @@
 -- What the records of an airport file have given, and the airport that they make.
-use Rattle.std.specs.Prelude.{ℕ, ◌+◌, ◌==◌, nat_le, Bool, if◌then◌else◌, List, [], ◌∷◌, length, map, replicate, fold, sum_by, Option, Some, None, slice_set, slice_index_or}
+use Rattle.std.specs.Prelude.{ℕ, List, [], length, map, replicate, fold, Option, Some, None, slice_set, slice_index_or}
 use Rattle.std.specs.List.{zip}
-use Rattle.taxi_base.specs.declared.numbers.Node.{Node}
 use Rattle.taxi_base.specs.declared.numbers.Segment.{Segment}
 use Rattle.taxi_base.specs.declared.numbers.Arc.{Arc}
-use Rattle.taxi_base.specs.declared.numbers.Class.{Class}
 use Rattle.taxi_base.specs.declared.rows.Kind.{Kind}
 use Rattle.taxi_base.specs.Airport.{Airport, NodeRow, SegmentRow, ClassRow, Link, Layout}
 use Rattle.airport_rules.specs.declared.rows.TimeRow.{TimeRow}
+use Rattle.airport_rules.specs.declared.rows.ClearanceRow.{ClearanceRow}
 
 -- the names and rows in the order of the file; only the forbidden turns stand in the order of their arcs
 pub record Plan : Type 0 where
@@ -18,20 +17,17 @@ pub record Plan : Type 0 where
   pub segments : List (List ℕ)
   pub links : List Link
   pub times : List TimeRow
+  pub clearances : List ClearanceRow
   pub forbidden : List (Arc × Arc)
   pub conflicts : List (List Segment)
 
 -- before the first of these records
 abbrev pub empty_plan : Plan
-empty_plan = record { horizon = None; nodes = []; kinds = []; classes = []; segments = []; links = []; times = []; forbidden = []; conflicts = [] }
+empty_plan = record { horizon = None; nodes = []; kinds = []; classes = []; segments = []; links = []; times = []; clearances = []; forbidden = []; conflicts = [] }
 
 -- its arcs and turns
 abbrev pub layout_of_plan : Plan → Layout
 layout_of_plan plan = record { nodes = length plan.nodes; links = plan.links; forbidden = plan.forbidden }
-
--- how many ends of segments are at a node
-abbrev pub link_ends : Node → List Link → ℕ
-link_ends node links = sum_by (λ l. (if l.from.0 == node.0 then 1 else 0) + (if l.to.0 == node.0 then 1 else 0)) links
 
 -- ---- the airport
 
@@ -42,6 +38,14 @@ with_time table row = slice_set table row.class.0 (slice_set (slice_index_or tab
 -- the least times of so many classes on so many segments: those of the rows, and no other
 abbrev pub table_of : ℕ → ℕ → List TimeRow → List (List (Option ℕ))
 table_of classes segments times = fold with_time (replicate classes (replicate segments None)) times
+
+-- the clearances with a row's written in
+abbrev pub with_clearance : List ℕ → ClearanceRow → List ℕ
+with_clearance clearances row = slice_set clearances row.class.0 row.seconds
+
+-- the clearances of so many classes: those of the rows, and 0 for each other class
+abbrev pub clearances_of : ℕ → List ClearanceRow → List ℕ
+clearances_of classes rows = fold with_clearance (replicate classes 0) rows
 
 abbrev pub node_row : List ℕ × Kind → NodeRow
 node_row named = record { name = named.0; kind = named.1 }
@@ -59,6 +63,7 @@ airport_of_plan horizon plan = record {
   nodes = map node_row (zip plan.nodes plan.kinds);
   segments = map segment_row (zip plan.segments plan.links);
   classes = map class_row (zip plan.classes (table_of (length plan.classes) (length plan.segments) plan.times));
+  clearances = clearances_of (length plan.classes) plan.clearances;
   forbidden = plan.forbidden;
   conflicts = plan.conflicts;
 }

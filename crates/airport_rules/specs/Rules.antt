@@ -1,20 +1,22 @@
 -- How one record is judged against the records before it.
-use Rattle.std.specs.Prelude.{ℕ, ◌+◌, ◌*◌, ◌/◌, ◌<◌, ◌==◌, ◌&&◌, ◌||◌, not, nat_lt, nat_le, Bool, true, false, if◌then◌else◌, List, [], ◌∷◌, ◌++◌, length, map, fold, insert, Option, Some, None, is_some, is_none, Result, Ok, Err, codes, bytes_eq, ⊤}
+use Rattle.std.specs.Prelude.{ℕ, ◌/◌, ◌==◌, ◌&&◌, ◌||◌, not, nat_lt, nat_le, Bool, true, false, if◌then◌else◌, List, [], ◌∷◌, ◌++◌, length, fold, insert, Option, Some, None, is_some, Result, Ok, Err, codes, bytes_eq}
 use Rattle.std.specs.List.{list_all, list_any, position_or_len}
-use Rattle.taxi_base.specs.declared.numbers.Node.{Node}
 use Rattle.taxi_base.specs.declared.numbers.Segment.{Segment}
 use Rattle.taxi_base.specs.declared.numbers.Arc.{Arc}
 use Rattle.taxi_base.specs.declared.numbers.Class.{Class}
 use Rattle.taxi_base.specs.declared.rows.Kind.{Kind}
 use Rattle.taxi_base.specs.declared.rows.Kind.TheVariants.{Runway, Junction, Stand}
 use Rattle.taxi_base.specs.Words.{is_name}
-use Rattle.taxi_base.specs.Airport.{Link, Layout, place_of, arc_of, meet, head, tail, has_member, pair_precedes}
+use Rattle.taxi_base.specs.Airport.{Link, Layout, place_of, arc_of, meet, head, tail, has_member, pair_precedes, is_forbidden, link_ends}
 use Rattle.taxi_text.specs.Fields.{number_of, arc_word_of}
 use Rattle.airport_rules.specs.declared.rows.TimeRow.{TimeRow}
+use Rattle.airport_rules.specs.declared.rows.ClearanceRow.{ClearanceRow}
+use Rattle.airport_rules.specs.declared.version.Version.{Version}
 use Rattle.airport_rules.specs.declared.faults.LimitKind.TheVariants.{Nodes, Classes, Segments, Ends, Forbids, Sets}
 use Rattle.airport_rules.specs.declared.faults.AirportFault.{AirportFault}
 use Rattle.airport_rules.specs.declared.faults.AirportFault.TheVariants.{UnknownRow, FieldCount, BadName, NameTwice, UnknownName, BadWord, BadNumber, NoSuchArc, RowTwice, Limit}
-use Rattle.airport_rules.specs.Plan.{Plan, layout_of_plan, link_ends}
+use Rattle.airport_rules.specs.Versions.{gives_clearances}
+use Rattle.airport_rules.specs.Plan.{Plan, layout_of_plan}
 
 -- ---- rules
 
@@ -49,20 +51,20 @@ kind_of word =
 abbrev pub both_of : List ℕ → Option Bool
 both_of word = if bytes_eq word (codes "both") then Some true else (if bytes_eq word (codes "one") then Some false else None)
 
--- a number from 1 to the most
-abbrev pub within : ℕ → Option ℕ → Option ℕ
-within most (Some n) = if nat_le 1 n && nat_le n most then Some n else None
-within most None = None
+-- a number from the least to the most
+abbrev pub within : ℕ → ℕ → Option ℕ → Option ℕ
+within least most (Some n) = if nat_le least n && nat_le n most then Some n else None
+within least most None = None
 
-abbrev pub number_to : ℕ → List ℕ → Option ℕ
-number_to most word = within most (number_of word)
+abbrev pub number_within : ℕ → ℕ → List ℕ → Option ℕ
+number_within least most word = within least most (number_of word)
 
 -- ---- the rows
 
 -- HORIZON
 abbrev pub judge_horizon : Plan → List ℕ → Result Plan AirportFault
 judge_horizon plan number = do
-  horizon ← some_or BadNumber (number_to 604800 number)
+  horizon ← some_or BadNumber (number_within 1 604800 number)
   _ ← refused RowTwice (is_some plan.horizon)
   Ok (record plan { horizon = Some horizon })
 
@@ -114,16 +116,26 @@ judge_seconds plan segment class number = do
   _ ← refused BadName (not (is_name segment && is_name class))
   segment ← some_or UnknownName (place_of segment plan.segments)
   class ← some_or UnknownName (place_of class plan.classes)
-  seconds ← some_or BadNumber (number_to 3600 number)
+  seconds ← some_or BadNumber (number_within 1 3600 number)
   _ ← refused RowTwice (is_timed (record { 0 = segment }) (record { 0 = class }) plan.times)
   Ok (record plan { times = plan.times ++ record { segment = record { 0 = segment }; class = record { 0 = class }; seconds = seconds } ∷ [] })
+
+-- whether a class was given its clearance, be it 0
+abbrev pub has_clearance : Class → List ClearanceRow → Bool
+has_clearance class rows = list_any (λ r. r.class.0 == class.0) rows
+
+-- CLASS SECONDS
+abbrev pub judge_clearance : Plan → List ℕ → List ℕ → Result Plan AirportFault
+judge_clearance plan class number = do
+  _ ← refused BadName (not (is_name class))
+  class ← some_or UnknownName (place_of class plan.classes)
+  seconds ← some_or BadNumber (number_within 0 600 number)
+  _ ← refused RowTwice (has_clearance (record { 0 = class }) plan.clearances)
+  Ok (record plan { clearances = plan.clearances ++ record { class = record { 0 = class }; seconds = seconds } ∷ [] })
 
 -- whether the way goes on from the first arc to the second, on another segment
 abbrev pub goes_on : Layout → Arc → Arc → Bool
 goes_on layout x y = meet (head layout x) (tail layout y) && not (x.0 / 2 == y.0 / 2)
-
-abbrev pub is_forbidden : Arc → Arc → List (Arc × Arc) → Bool
-is_forbidden x y forbidden = list_any (λ p. p.0.0 == x.0 && p.1.0 == y.0) forbidden
 
 -- the pairs with one more, before the first that it precedes
 abbrev pub with_pair : Arc × Arc → List (Arc × Arc) → List (Arc × Arc)
@@ -134,7 +146,7 @@ with_pair pair (p ∷ pairs) = if pair_precedes pair p then pair ∷ p ∷ pairs
 abbrev pub judge_turn : Plan → Arc → Arc → Result Plan AirportFault
 judge_turn plan x y = do
   _ ← refused NoSuchArc (not (goes_on (layout_of_plan plan) x y))
-  _ ← refused RowTwice (is_forbidden x y plan.forbidden)
+  _ ← refused RowTwice (is_forbidden plan.forbidden x y)
   _ ← refused (Limit Forbids) (nat_le 50000 (length plan.forbidden))
   Ok (record plan { forbidden = with_pair (x, y) plan.forbidden })
 
@@ -205,6 +217,10 @@ abbrev pub judge_seconds_row : Plan → List (List ℕ) → Result Plan AirportF
 judge_seconds_row plan (segment ∷ class ∷ number ∷ []) = judge_seconds plan segment class number
 judge_seconds_row plan _ = Err FieldCount
 
+abbrev pub judge_clearance_row : Plan → List (List ℕ) → Result Plan AirportFault
+judge_clearance_row plan (class ∷ number ∷ []) = judge_clearance plan class number
+judge_clearance_row plan _ = Err FieldCount
+
 abbrev pub judge_forbid_row : Plan → List (List ℕ) → Result Plan AirportFault
 judge_forbid_row plan (x ∷ y ∷ []) = judge_forbid plan x y
 judge_forbid_row plan _ = Err FieldCount
@@ -213,9 +229,9 @@ judge_forbid_row plan _ = Err FieldCount
 abbrev pub judge_conflict_row : Plan → List (List ℕ) → Result Plan AirportFault
 judge_conflict_row plan names = if nat_le 2 (length names) && nat_le (length names) 16 then judge_conflict plan names else Err FieldCount
 
--- the row that the first field names
-abbrev pub judge_row : Plan → List ℕ → List (List ℕ) → Result Plan AirportFault
-judge_row plan word fields =
+-- the row that the first field names in a file of this version
+abbrev pub judge_row : Version → Plan → List ℕ → List (List ℕ) → Result Plan AirportFault
+judge_row version plan word fields =
     if bytes_eq word (codes "horizon") then judge_horizon_row plan fields
     else (if bytes_eq word (codes "node") then judge_node_row plan fields
     else (if bytes_eq word (codes "class") then judge_class_row plan fields
@@ -223,9 +239,10 @@ judge_row plan word fields =
     else (if bytes_eq word (codes "seconds") then judge_seconds_row plan fields
     else (if bytes_eq word (codes "forbid") then judge_forbid_row plan fields
     else (if bytes_eq word (codes "conflict") then judge_conflict_row plan fields
-    else Err UnknownRow))))))
+    else (if bytes_eq word (codes "clearance") && gives_clearances version then judge_clearance_row plan fields
+    else Err UnknownRow)))))))
 
 -- a record after the first: the plan with it, or the first rule that it breaks
-unfoldable pub judge : Plan → List (List ℕ) → Result Plan AirportFault
-judge plan [] = Err UnknownRow
-judge plan (word ∷ fields) = judge_row plan word fields
+unfoldable pub judge : Version → Plan → List (List ℕ) → Result Plan AirportFault
+judge version plan [] = Err UnknownRow
+judge version plan (word ∷ fields) = judge_row version plan word fields

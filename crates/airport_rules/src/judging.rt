@@ -1,11 +1,11 @@
 //! Judging one record of an airport file against those before it, field by field.
 ghost use Rattle.std.specs.Prelude.{◌≡◌, ◌<◌, ◌≤◌, ◌∷◌, [], None, length};
 ghost use Rattle.taxi_base.specs.Airport.{place_of, arc_of};
-ghost use Rattle.airport_rules.specs.Rules.{kind_of, both_of, number_to, judge_horizon, judge_node, judge_class, judge_segment, judge_link, judge_seconds, judge_forbid, judge_turn};
+ghost use Rattle.airport_rules.specs.Rules.{kind_of, both_of, number_within, judge_horizon, judge_node, judge_class, judge_segment, judge_link, judge_seconds, judge_clearance, judge_forbid, judge_turn};
 ghost use Rattle.airport_rules.specs.Indexed.{link_of_way};
 ghost use Rattle.airport_rules.specs.Judged.{Answers};
 
-use crate::{AirportFault, LimitKind, Plan, Taxiway, TimeRow};
+use crate::{AirportFault, ClearanceRow, LimitKind, Plan, Taxiway, TimeRow};
 use taxi_base::{Arc, Class, Kind, Memory, Name, Node, Segment};
 use taxi_text::{read_arc_word, read_number};
 
@@ -27,6 +27,8 @@ const MOST_FORBIDDEN: usize = 50_000;
 const LATEST_HORIZON: u32 = 604_800;
 
 const MOST_SECONDS: u32 = 3600;
+
+const MOST_CLEARANCE: u32 = 600;
 
 fn kind_of(word: &[u8]) -> Option<Kind>
     ensures { result ≡ kind_of word.now }
@@ -55,12 +57,12 @@ fn both_of(word: &[u8]) -> Option<bool>
     }
 }
 
-/// A number from 1 to the most.
-fn number_to(most: u32, word: &[u8]) -> Option<u32>
-    ensures { result ≡ number_to most word.now }
+/// A number from the least to the most.
+fn number_within(least: u32, most: u32, word: &[u8]) -> Option<u32>
+    ensures { result ≡ number_within least most word.now }
 {
     let number = read_number(word)?;
-    if 1 <= number && number <= most {
+    if least <= number && number <= most {
         Some(number)
     } else {
         None
@@ -70,7 +72,7 @@ fn number_to(most: u32, word: &[u8]) -> Option<u32>
 pub(crate) fn judge_horizon(plan: &mut Plan, number: &[u8]) -> Result<(), NotTaken>
     ensures { Answers (judge_horizon plan.old number.now) plan.new result }
 {
-    let Some(horizon) = number_to(LATEST_HORIZON, number) else {
+    let Some(horizon) = number_within(1, LATEST_HORIZON, number) else {
         return Err(NotTaken::Fault(AirportFault::BadNumber));
     };
     if plan.horizon().is_some() {
@@ -196,7 +198,7 @@ pub(crate) fn judge_seconds(
     let Some(class) = plan.classes().find(&class) else {
         return Err(NotTaken::Fault(AirportFault::UnknownName));
     };
-    let Some(seconds) = number_to(MOST_SECONDS, number) else {
+    let Some(seconds) = number_within(1, MOST_SECONDS, number) else {
         return Err(NotTaken::Fault(AirportFault::BadNumber));
     };
     let row = TimeRow {
@@ -208,6 +210,31 @@ pub(crate) fn judge_seconds(
         return Err(NotTaken::Fault(AirportFault::RowTwice));
     }
     if plan.add_time(&row).is_err() {
+        return Err(NotTaken::Memory);
+    }
+    Ok(())
+}
+
+pub(crate) fn judge_clearance(plan: &mut Plan, class: &[u8], number: &[u8]) -> Result<(), NotTaken>
+    ensures { Answers (judge_clearance plan.old class.now number.now) plan.new result }
+{
+    let Some(class) = Name::read(class) else {
+        return Err(NotTaken::Fault(AirportFault::BadName));
+    };
+    let Some(class) = plan.classes().find(&class) else {
+        return Err(NotTaken::Fault(AirportFault::UnknownName));
+    };
+    let Some(seconds) = number_within(0, MOST_CLEARANCE, number) else {
+        return Err(NotTaken::Fault(AirportFault::BadNumber));
+    };
+    let row = ClearanceRow {
+        class: Class(class),
+        seconds,
+    };
+    if plan.has_clearance(row.class) {
+        return Err(NotTaken::Fault(AirportFault::RowTwice));
+    }
+    if plan.add_clearance(&row).is_err() {
         return Err(NotTaken::Memory);
     }
     Ok(())

@@ -8,10 +8,12 @@ mod members;
 mod plan;
 mod record;
 mod rows;
+mod version;
 
 pub use faults::{AirportFault, LimitKind};
 pub use judging::NotTaken;
 pub use laws::{sound_plans, well_formed_airports};
 pub use plan::Plan;
 pub use record::judge;
-pub use rows::{Taxiway, TimeRow};
+pub use rows::{ClearanceRow, Taxiway, TimeRow};
+pub use version::Version;

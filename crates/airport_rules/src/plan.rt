@@ -4,12 +4,12 @@
 //! found, and the number of segment ends at each node. Each call that wants memory asks for it first, and changes
 //! nothing where it gets none.
 ghost use Rattle.std.specs.Prelude.{◌≡◌, ◌<◌, ◌≤◌, ◌++◌, ◌∷◌, [], ℕ, length, None, Some, Bool, false, true, OnOk, OnErr, IfOk, option_map, map};
-ghost use Rattle.taxi_base.specs.Airport.{place_of, ends, arc_exists};
+ghost use Rattle.taxi_base.specs.Airport.{place_of, ends, arc_exists, is_forbidden};
 ghost use Rattle.airport_rules.specs.Plan.{empty_plan, layout_of_plan};
-ghost use Rattle.airport_rules.specs.Rules.{is_crowded, is_timed, goes_on, is_forbidden, with_pair};
+ghost use Rattle.airport_rules.specs.Rules.{is_crowded, is_timed, has_clearance, goes_on, with_pair};
 ghost use Rattle.airport_rules.specs.Indexed.{link_of_way};
 
-use crate::{Taxiway, TimeRow};
+use crate::{ClearanceRow, Taxiway, TimeRow};
 use name_list::NameList;
 use std::alloc::Global;
 use std::collections::BTreeSet;
@@ -30,6 +30,7 @@ pub struct Plan {
     times: Vec<TimeRow>,
     // The numbers of the segment and the class of each time.
     timed: BTreeSet<(u32, u32)>,
+    clearances: Vec<ClearanceRow>,
     // The numbers of the arcs of each forbidden turn.
     forbidden: BTreeSet<(u32, u32)>,
     conflicts: Vec<List<Segment>>,
@@ -43,7 +44,7 @@ impl Model for Plan {
     ghost use Rattle.std.specs.Prelude.{map, length};
     ghost use Rattle.airport_rules.specs.Indexed.{link_of_way, arcs_of_pair, AreCounted, AreTimed};
 
-    ghost view = { λ p. record { horizon = p.horizon; nodes = p.nodes; kinds = p.kinds.items; classes = p.classes; segments = p.segments; links = map link_of_way p.ways.items; times = p.times.items; forbidden = map arcs_of_pair p.forbidden.keys; conflicts = p.conflicts.items } };
+    ghost view = { λ p. record { horizon = p.horizon; nodes = p.nodes; kinds = p.kinds.items; classes = p.classes; segments = p.segments; links = map link_of_way p.ways.items; times = p.times.items; clearances = p.clearances.items; forbidden = map arcs_of_pair p.forbidden.keys; conflicts = p.conflicts.items } };
 
     ghost invariant = { λ p. AreCounted (length p.nodes) (map link_of_way p.ways.items) p.ends.items × AreTimed p.times.items p.timed };
 }
@@ -63,6 +64,7 @@ impl Plan {
             ways: Vec::new(alloc),
             times: Vec::new(alloc),
             timed: BTreeSet::new(alloc),
+            clearances: Vec::new(alloc),
             forbidden: BTreeSet::new(alloc),
             conflicts: Vec::new(alloc),
         }
@@ -187,6 +189,28 @@ impl Plan {
         Ok(())
     }
 
+    /// The clearances that were given, in the order of the file.
+    pub fn clearances(&self) -> &[ClearanceRow]
+        ensures { result.now ≡ self.now.clearances }
+    {
+        self.clearances.as_slice()
+    }
+
+    /// Whether the class was given its clearance, be it 0.
+    pub fn has_clearance(&self, class: Class) -> bool
+        ensures { result ≡ has_clearance class self.now.clearances }
+    {
+        self.clearances.iter().any(|row| row.class.0 == class.0)
+    }
+
+    pub fn add_clearance(&mut self, row: &ClearanceRow) -> Result<(), Memory>
+        ensures ok { OnOk result (self.new ≡ record self.old { clearances = self.old.clearances ++ row.now ∷ [] }) }
+        ensures err { OnErr result (self.new ≡ self.old) }
+    {
+        self.clearances.push(*row)?;
+        Ok(())
+    }
+
     /// The nodes that an arc leads from and to; none where its segment lacks it.
     fn ends(&self, arc: Arc) -> Option<(Node, Node)>
         ensures { result ≡ option_map (λ e. (e.tail, e.head)) (ends (layout_of_plan self.now) arc) }
@@ -219,7 +243,7 @@ impl Plan {
     }
 
     pub fn is_forbidden(&self, x: Arc, y: Arc) -> bool
-        ensures { result ≡ is_forbidden x y self.now.forbidden }
+        ensures { result ≡ is_forbidden self.now.forbidden x y }
     {
         self.forbidden.contains(&(x.0, y.0))
     }
@@ -243,7 +267,7 @@ impl Plan {
     }
 
     pub fn forbid(&mut self, x: Arc, y: Arc) -> Result<(), Memory>
-        requires fresh { is_forbidden x y self.old.forbidden ≡ false }
+        requires fresh { is_forbidden self.old.forbidden x y ≡ false }
         ensures ok { OnOk result (self.new ≡ record self.old { forbidden = with_pair (x, y) self.old.forbidden }) }
         ensures err { OnErr result (self.new ≡ self.old) }
     {

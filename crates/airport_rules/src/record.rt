@@ -1,30 +1,42 @@
 //! Judging a record by its first field.
 ghost use Rattle.std.specs.Prelude.{◌≡◌, ◌≤◌, [], List, ℕ, bytes_eq};
-ghost use Rattle.airport_rules.specs.Rules.{judge, judge_row, judge_horizon_row, judge_node_row, judge_class_row, judge_segment_row, judge_seconds_row, judge_forbid_row, judge_conflict_row};
+ghost use Rattle.airport_rules.specs.Rules.{judge, judge_row, judge_horizon_row, judge_node_row, judge_class_row, judge_segment_row, judge_seconds_row, judge_clearance_row, judge_forbid_row, judge_conflict_row};
 ghost use Rattle.airport_rules.specs.Judged.{Answers, texts_of};
 
 use crate::judging::{
-    judge_class, judge_forbid, judge_horizon, judge_node, judge_seconds, judge_segment,
+    judge_class, judge_clearance, judge_forbid, judge_horizon, judge_node, judge_seconds,
+    judge_segment,
 };
 use crate::members::judge_conflict;
-use crate::{AirportFault, NotTaken, Plan};
+use crate::{AirportFault, NotTaken, Plan, Version};
 use std::alloc::Global;
 
 const COUNT: NotTaken = NotTaken::Fault(AirportFault::FieldCount);
 
-/// Judges a record after the first by its fields, and adds what it gives to the plan.
+/// Judges a record after the first by its fields, in a file of this version, and adds what it gives to the plan.
 #[tactic(auto, unfolding(crate::specs::Rules::judge))]
-pub fn judge(alloc: Global, plan: &mut Plan, fields: &[&[u8]]) -> Result<(), NotTaken>
-    ensures { Answers (judge plan.old (texts_of fields.now)) plan.new result }
+pub fn judge(
+    alloc: Global,
+    version: Version,
+    plan: &mut Plan,
+    fields: &[&[u8]],
+) -> Result<(), NotTaken>
+    ensures { Answers (judge version plan.old (texts_of fields.now)) plan.new result }
 {
     match fields.split_first() {
-        Some((word, rest)) => judge_row(alloc, plan, word, rest),
+        Some((word, rest)) => judge_row(alloc, version, plan, word, rest),
         None => Err(NotTaken::Fault(AirportFault::UnknownRow)),
     }
 }
 
-fn judge_row(alloc: Global, plan: &mut Plan, word: &[u8], fields: &[&[u8]]) -> Result<(), NotTaken>
-    ensures { Answers (judge_row plan.old word.now (texts_of fields.now)) plan.new result }
+fn judge_row(
+    alloc: Global,
+    version: Version,
+    plan: &mut Plan,
+    word: &[u8],
+    fields: &[&[u8]],
+) -> Result<(), NotTaken>
+    ensures { Answers (judge_row version plan.old word.now (texts_of fields.now)) plan.new result }
 {
     if word == b"horizon".as_slice() {
         judge_horizon_row(plan, fields)
@@ -40,6 +52,8 @@ fn judge_row(alloc: Global, plan: &mut Plan, word: &[u8], fields: &[&[u8]]) -> R
         judge_forbid_row(plan, fields)
     } else if word == b"conflict".as_slice() {
         judge_conflict_row(alloc, plan, fields)
+    } else if word == b"clearance".as_slice() && version.gives_clearances() {
+        judge_clearance_row(plan, fields)
     } else {
         Err(NotTaken::Fault(AirportFault::UnknownRow))
     }
@@ -86,6 +100,15 @@ fn judge_seconds_row(plan: &mut Plan, fields: &[&[u8]]) -> Result<(), NotTaken>
 {
     match fields {
         [segment, class, number] => judge_seconds(plan, segment, class, number),
+        _ => Err(COUNT),
+    }
+}
+
+fn judge_clearance_row(plan: &mut Plan, fields: &[&[u8]]) -> Result<(), NotTaken>
+    ensures { Answers (judge_clearance_row plan.old (texts_of fields.now)) plan.new result }
+{
+    match fields {
+        [class, number] => judge_clearance(plan, class, number),
         _ => Err(COUNT),
     }
 }

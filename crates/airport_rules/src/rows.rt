@@ -9,6 +9,13 @@ pub struct TimeRow {
     pub seconds: u32,
 }
 
+/// For how long a class keeps a segment shut after leaving it, in seconds.
+#[derive(Clone, Copy, Debug, PartialEq, Eq)]
+pub struct ClearanceRow {
+    pub class: Class,
+    pub seconds: u32,
+}
+
 /// Where a segment leads from and to, and whether it is taken both ways.
 #[derive(Clone, Copy, Debug, PartialEq, Eq)]
 pub struct Taxiway {

@@ -1,21 +1,23 @@
 -- The canonical text of an airport is read as that airport.
-use Rattle.std.proofs.Common.{◌≡◌, ◌≢◌, ℕ, ◌≤◌, ◌+◌, ◌/◌, List, [], ◌∷◌, ◌++◌, length, map, Some, Ok, refl, subst, arith, ◌∙◌, ap}
-use Rattle.std.specs.Prelude.{All, IsTrue, fold, decimal, ◌==◌, if◌then◌else◌}
+use Rattle.std.proofs.Common.{◌≡◌, ◌≢◌, ℕ, ◌≤◌, ◌/◌, List, [], ◌∷◌, ◌++◌, length, map, Some, Ok, refl, subst, arith, ◌∙◌, ap}
+use Rattle.std.specs.Prelude.{All, IsTrue, decimal}
 use Rattle.std.proofs.lemmas.List.Elements.{All-nil, All-cons, All-weaker}
 use Rattle.csv.specs.Reading.{default_config, records, strip_bom}
 use Rattle.csv.specs.Writing.{row_text, fields_text, is_blank, escaped}
-use Rattle.taxi_base.specs.declared.numbers.Node.{Node}
 use Rattle.taxi_base.specs.declared.numbers.Arc.{Arc}
-use Rattle.taxi_base.specs.Airport.{Airport, SegmentRow, Link, IsWellFormed, link_of, layout_of, ends_at, meet, head, tail}
+use Rattle.taxi_base.specs.Airport.{Airport, IsWellFormed, link_of, layout_of, meet, head, tail}
 use Rattle.airport_file.specs.Reading.{airport_of, airport_of_records}
-use Rattle.airport_rules.specs.Plan.{Plan, empty_plan, link_ends}
-use Rattle.airport_rules.specs.Rules.{judge, judge_horizon, number_to}
-use Rattle.airport_text.specs.Canonical.{Fields, canonical_text, canonical_records, text_of_records, record_writer, first_record, horizon_record, node_record, class_record, segment_record, time_records, forbid_record, conflict_record}
+use Rattle.airport_rules.specs.declared.version.Version.TheVariants.{Two}
+use Rattle.airport_rules.specs.Plan.{Plan, empty_plan}
+use Rattle.airport_rules.specs.Rules.{judge, judge_horizon, number_within}
+use Rattle.airport_rules.proofs.WellFormed.{ends_at-links}
+use Rattle.airport_text.specs.Canonical.{Fields, canonical_text, canonical_records, text_of_records, record_writer, first_record, horizon_record, node_record, class_record, segment_record, time_records, clearance_records, forbid_record, conflict_record}
 use Rattle.airport_text.proofs.Texts.{HasField, records-again}
 use Rattle.airport_text.proofs.Judging.{AreTaken, taken-append, taken-read}
 use Rattle.airport_text.proofs.Named.{with_nodes, with_classes, nodes-taken, classes-taken}
 use Rattle.airport_text.proofs.Ways.{with_segments, ways-taken}
 use Rattle.airport_text.proofs.Times.{with_times, rows_below, number-taken, times-taken}
+use Rattle.airport_text.proofs.Clearances.{with_clearances, clearances_below, clearances-taken}
 use Rattle.airport_text.proofs.Turns.{with_forbidden, IsTurn, turns-taken}
 use Rattle.airport_text.proofs.Sets.{sets-taken}
 use Rattle.airport_text.proofs.Plans.{plan_of, airport-again}
@@ -37,34 +39,27 @@ with_its_segments airport = with_segments (with_its_classes airport) (map (λ s.
 abbrev with_its_times : Airport → Plan
 with_its_times airport = with_times (with_its_segments airport) (rows_below airport (length airport.segments))
 
+abbrev with_its_clearances : Airport → Plan
+with_its_clearances airport = with_clearances (with_its_times airport) (clearances_below airport (length airport.classes))
+
 abbrev with_its_turns : Airport → Plan
-with_its_turns airport = with_forbidden (with_its_times airport) airport.forbidden
+with_its_turns airport = with_forbidden (with_its_clearances airport) airport.forbidden
 
 -- ---- each kind of record
 
-horizon-judged : (number : List ℕ) (horizon : ℕ) → number_to 604800 number ≡ Some horizon → judge_horizon empty_plan number ≡ Ok (record empty_plan { horizon = Some horizon })
+horizon-judged : (number : List ℕ) (horizon : ℕ) → number_within 1 604800 number ≡ Some horizon → judge_horizon empty_plan number ≡ Ok (record empty_plan { horizon = Some horizon })
 horizon-judged number horizon e = rw e refl
 
-horizon-taken : (airport : Airport) → IsWellFormed airport → judge empty_plan (horizon_record airport) ≡ Ok (with_horizon airport)
+horizon-taken : (airport : Airport) → IsWellFormed airport → judge Two empty_plan (horizon_record airport) ≡ Ok (with_horizon airport)
 unfolding judge
 horizon-taken airport well =
     let range = well.horizon in
-    horizon-judged (decimal airport.horizon) airport.horizon (number-taken 604800 airport.horizon range.0 range.1 (omega (arith, range.1)))
-
--- the ends at a node, by the segments and by the links
-ends-links : (node : Node) (segments : List SegmentRow) → ends_at node segments ≡ link_ends node (map link_of segments)
-ends-links node segments = from 0 segments
-  where
-    from : (n : ℕ) (segments : List SegmentRow)
-        → fold (λ a (s : SegmentRow). a + ((if s.from.0 == node.0 then 1 else 0) + (if s.to.0 == node.0 then 1 else 0))) n segments
-        ≡ fold (λ a (l : Link). a + ((if l.from.0 == node.0 then 1 else 0) + (if l.to.0 == node.0 then 1 else 0))) n (map link_of segments)
-    from n [] = refl
-    from n (s ∷ segments) = from (n + ((if s.from.0 == node.0 then 1 else 0) + (if s.to.0 == node.0 then 1 else 0))) segments
+    horizon-judged (decimal airport.horizon) airport.horizon (number-taken 1 604800 airport.horizon range.0 range.1 (omega (arith, range.1)))
 
 segments-taken : (airport : Airport) → IsWellFormed airport → AreTaken (with_its_classes airport) (map (segment_record airport) airport.segments) (with_its_segments airport)
 segments-taken airport well =
     ways-taken airport (with_its_classes airport) (with_its_segments airport) airport.segments refl well.nodes well.ends well.segments
-    (λ k low. subst (λ n. n ≤ 32) (ends-links (record { 0 = k }) airport.segments) (well.degree k low)) refl
+    (λ k low. subst (λ n. n ≤ 32) (ends_at-links (record { 0 = k }) airport.segments) (well.degree k low)) refl
 
 turns-are : (airport : Airport) → IsWellFormed airport → All (IsTurn airport) airport.forbidden
 turns-are airport well =
@@ -80,8 +75,9 @@ after_first airport =
     ++ (map class_record airport.classes
     ++ (map (segment_record airport) airport.segments
     ++ (time_records airport
+    ++ (clearance_records airport
     ++ (map (forbid_record airport) airport.forbidden
-    ++ map (conflict_record airport) airport.conflicts)))))
+    ++ map (conflict_record airport) airport.conflicts))))))
 
 all-taken : (airport : Airport) → IsWellFormed airport → AreTaken empty_plan (after_first airport) (plan_of airport)
 all-taken airport well =
@@ -95,10 +91,12 @@ all-taken airport well =
           (taken-append (with_its_classes airport) (with_its_segments airport) end _ _ (segments-taken airport well)
           (taken-append (with_its_segments airport) (with_its_times airport) end _ _
           (times-taken airport (with_its_segments airport) (record { well = well; segments = refl; classes = refl }) refl)
-          (taken-append (with_its_times airport) (with_its_turns airport) end _ _
-          (turns-taken airport (with_its_times airport) (with_its_turns airport) airport.forbidden (record { well = well; segments = refl; classes = refl }) refl (turns-are airport well)
+          (taken-append (with_its_times airport) (with_its_clearances airport) end _ _
+          (clearances-taken airport (with_its_times airport) (record { well = well; segments = refl; classes = refl }) refl)
+          (taken-append (with_its_clearances airport) (with_its_turns airport) end _ _
+          (turns-taken airport (with_its_clearances airport) (with_its_turns airport) airport.forbidden (record { well = well; segments = refl; classes = refl }) refl (turns-are airport well)
           well.forbidden_order well.few_forbidden refl)
-          (sets-taken airport (with_its_turns airport) end airport.conflicts (record { well = well; segments = refl; classes = refl }) well.conflicts well.few_conflicts refl))))),
+          (sets-taken airport (with_its_turns airport) end airport.conflicts (record { well = well; segments = refl; classes = refl }) well.conflicts well.few_conflicts refl)))))),
     )
 
 -- ---- the text

@@ -4,6 +4,7 @@ pub mod Judging
 pub mod Named
 pub mod Ways
 pub mod Times
+pub mod Clearances
 pub mod Tables
 pub mod Turns
 pub mod Sets

@@ -3,6 +3,7 @@ use Rattle.std.proofs.Common.{◌≡◌, ℕ, List, [], ◌∷◌, ◌++◌, map
 use Rattle.taxi_base.specs.declared.rows.Kind.{Kind}
 use Rattle.taxi_base.specs.declared.rows.Kind.TheVariants.{Runway, Junction, Stand}
 use Rattle.taxi_base.specs.Airport.{NodeRow, ClassRow, AreNames}
+use Rattle.airport_rules.specs.declared.version.Version.TheVariants.{Two}
 use Rattle.airport_rules.specs.Plan.{Plan}
 use Rattle.airport_rules.specs.Rules.{judge, judge_node, judge_class, kind_of}
 use Rattle.airport_text.specs.Canonical.{kind_word, node_record, class_record}
@@ -23,7 +24,7 @@ node-judged : (plan : Plan) (name word : List ℕ) (kind : Kind) → IsNext 1000
 node-judged plan name word kind next read = rw (next.valid, next.fresh, read, next.room) refl
 
 node-taken : (plan : Plan) (node : NodeRow) → IsNext 10000 plan.nodes node.name
-    → judge plan (node_record node) ≡ Ok (with_nodes plan (plan.nodes ++ node.name ∷ []) (plan.kinds ++ node.kind ∷ []))
+    → judge Two plan (node_record node) ≡ Ok (with_nodes plan (plan.nodes ++ node.name ∷ []) (plan.kinds ++ node.kind ∷ []))
 unfolding judge
 node-taken plan node next = node-judged plan node.name (kind_word node.kind) node.kind next (kind-again node.kind)
 
@@ -45,7 +46,7 @@ with_classes plan classes = record plan { classes = classes }
 class-judged : (plan : Plan) (name : List ℕ) → IsNext 32 plan.classes name → judge_class plan name ≡ Ok (with_classes plan (plan.classes ++ name ∷ []))
 class-judged plan name next = rw (next.valid, next.fresh, next.room) refl
 
-class-taken : (plan : Plan) (class : ClassRow) → IsNext 32 plan.classes class.name → judge plan (class_record class) ≡ Ok (with_classes plan (plan.classes ++ class.name ∷ []))
+class-taken : (plan : Plan) (class : ClassRow) → IsNext 32 plan.classes class.name → judge Two plan (class_record class) ≡ Ok (with_classes plan (plan.classes ++ class.name ∷ []))
 unfolding judge
 class-taken plan class next = class-judged plan class.name next
 

@@ -12,6 +12,7 @@ use Rattle.taxi_base.specs.declared.numbers.Segment.{Segment}
 use Rattle.taxi_base.specs.Words.{is_name}
 use Rattle.taxi_base.specs.Airport.{Airport, IsConflictSet, has_member}
 use Rattle.airport_file.specs.Words.{segment_word}
+use Rattle.airport_rules.specs.declared.version.Version.TheVariants.{Two}
 use Rattle.airport_rules.specs.Plan.{Plan}
 use Rattle.airport_rules.specs.Rules.{judge, judge_conflict_row, members_of, repeats, with_member, in_order}
 use Rattle.airport_text.specs.Canonical.{conflict_record}
@@ -80,7 +81,7 @@ set-judged plan names members low high valid found once order room =
     rw (some, few, valid, found, once, room, order) refl
 
 set-taken : (airport : Airport) (plan : Plan) (members : List Segment) → IsNamed airport plan → IsConflictSet (length airport.segments) members → nat_le 10000 (length plan.conflicts) ≡ false
-    → judge plan (conflict_record airport members) ≡ Ok (with_conflicts plan (plan.conflicts ++ members ∷ []))
+    → judge Two plan (conflict_record airport members) ≡ Ok (with_conflicts plan (plan.conflicts ++ members ∷ []))
 unfolding judge
 set-taken airport plan members named set room =
     let names = names-again airport plan members named set.2 in

@@ -13,10 +13,11 @@ use Rattle.taxi_base.proofs.AirportLaws.{seconds-range}
 use Rattle.taxi_text.proofs.Numbers.{number-again}
 use Rattle.airport_file.specs.Words.{segment_word, class_word}
 use Rattle.airport_rules.specs.declared.rows.TimeRow.{TimeRow}
+use Rattle.airport_rules.specs.declared.version.Version.TheVariants.{Two}
 use Rattle.airport_rules.specs.Plan.{Plan}
-use Rattle.airport_rules.specs.Rules.{judge, judge_seconds, number_to, within, is_timed}
+use Rattle.airport_rules.specs.Rules.{judge, judge_seconds, number_within, within, is_timed}
 use Rattle.airport_text.specs.Canonical.{numbers_below, time_record, times_on, time_records}
-use Rattle.airport_text.proofs.Names.{IsFound, word-found}
+use Rattle.airport_file.proofs.NamedPlaces.{IsFound, word-found}
 use Rattle.airport_text.proofs.Judging.{AreTaken, taken-append}
 
 -- ---- the rows
@@ -36,10 +37,10 @@ rows_below airport segments = flat_map (λ s. rows_on airport s (length airport.
 -- ---- one number
 
 -- a number in its range is read again
-pub number-taken : (most n : ℕ) → 1 ≤ n → n ≤ most → n < 10 ^ 7 → number_to most (decimal n) ≡ Some n
-number-taken most n low high few = ap (within most) (number-again n few) ∙ inside
+pub number-taken : (least most n : ℕ) → least ≤ n → n ≤ most → n < 10 ^ 7 → number_within least most (decimal n) ≡ Some n
+number-taken least most n low high few = ap (within least most) (number-again n few) ∙ inside
   where
-    inside : within most (Some n) ≡ Some n
+    inside : within least most (Some n) ≡ Some n
     inside = grind (arith, nat_tests, low, high)
 
 -- ---- one record
@@ -49,7 +50,7 @@ abbrev pub with_times : Plan → List TimeRow → Plan
 with_times plan times = record plan { times = times }
 
 time-judged : (plan : Plan) (segment_name class_name number : List ℕ) (segment class n : ℕ) → IsFound segment_name plan.segments segment → IsFound class_name plan.classes class
-    → number_to 3600 number ≡ Some n → is_timed (record { 0 = segment }) (record { 0 = class }) plan.times ≡ false
+    → number_within 1 3600 number ≡ Some n → is_timed (record { 0 = segment }) (record { 0 = class }) plan.times ≡ false
     → judge_seconds plan segment_name class_name number
     ≡ Ok (with_times plan (plan.times ++ record { segment = record { 0 = segment }; class = record { 0 = class }; seconds = n } ∷ []))
 time-judged plan segment_name class_name number segment class n first second read fresh =
@@ -65,18 +66,22 @@ pub segment-found : (airport : Airport) (plan : Plan) (s : Segment) → IsNamed 
 segment-found airport plan s named low =
     subst (λ ns. IsFound (segment_word airport s) ns s.0) (sym named.segments) (word-found (λ s. s.name) airport.segments s.0 10000 named.well.segments low)
 
+pub class-found : (airport : Airport) (plan : Plan) (c : Class) → IsNamed airport plan → c.0 < length airport.classes → IsFound (class_word airport c) plan.classes c.0
+class-found airport plan c named low =
+    subst (λ ns. IsFound (class_word airport c) ns c.0) (sym named.classes) (word-found (λ c. c.name) airport.classes c.0 32 named.well.classes low)
+
 time-taken : (airport : Airport) (plan : Plan) (segment class n : ℕ) → IsNamed airport plan → segment < length airport.segments → class < length airport.classes
     → seconds airport (record { 0 = class }) (record { 0 = segment }) ≡ Some n
     → is_timed (record { 0 = segment }) (record { 0 = class }) plan.times ≡ false
-    → judge plan (codes "seconds" ∷ segment_word airport (record { 0 = segment }) ∷ class_word airport (record { 0 = class }) ∷ decimal n ∷ [])
+    → judge Two plan (codes "seconds" ∷ segment_word airport (record { 0 = segment }) ∷ class_word airport (record { 0 = class }) ∷ decimal n ∷ [])
     ≡ Ok (with_times plan (plan.times ++ record { segment = record { 0 = segment }; class = record { 0 = class }; seconds = n } ∷ []))
 unfolding judge
 time-taken airport plan segment class n named s c given fresh =
     let range = seconds-range airport (record { 0 = class }) (record { 0 = segment }) n named.well given in
     time-judged plan (segment_word airport (record { 0 = segment })) (class_word airport (record { 0 = class })) (decimal n) segment class n
     (segment-found airport plan (record { 0 = segment }) named s)
-    (subst (λ ns. IsFound (class_word airport (record { 0 = class })) ns class) (sym named.classes) (word-found (λ c. c.name) airport.classes class 32 named.well.classes c))
-    (number-taken 3600 n range.0 range.1 (omega (arith, range.1))) fresh
+    (class-found airport plan (record { 0 = class }) named c)
+    (number-taken 1 3600 n range.0 range.1 (omega (arith, range.1))) fresh
 
 -- the record of a class on a segment, where it has a time there
 cell-taken : (airport : Airport) (plan : Plan) (segment class : ℕ) → IsNamed airport plan → segment < length airport.segments → class < length airport.classes

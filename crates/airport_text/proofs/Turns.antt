@@ -6,15 +6,17 @@ use Rattle.std.proofs.lemmas.Bool.Decides.{nat_tests}
 use Rattle.std.proofs.lemmas.List.{get_or_append_left}
 use Rattle.std.proofs.lemmas.List.Elements.{All-head, All-tail}
 use Rattle.taxi_base.specs.declared.numbers.Arc.{Arc}
-use Rattle.taxi_base.specs.Airport.{Airport, Layout, Ends, ends, link_of, layout_of, segment_of, arc_of, meet, head, tail, pair_precedes}
+use Rattle.taxi_base.specs.Airport.{Airport, Layout, Ends, ends, link_of, layout_of, segment_of, arc_of, meet, head, tail, pair_precedes, is_forbidden}
 use Rattle.taxi_base.proofs.AirportLaws.{arc_exists-segment}
 use Rattle.taxi_text.specs.Fields.{arc_word_of}
 use Rattle.taxi_text.proofs.ArcWords.{arc_word-again}
 use Rattle.airport_file.specs.Words.{segment_word, word_of_arc}
+use Rattle.airport_rules.specs.declared.version.Version.TheVariants.{Two}
 use Rattle.airport_rules.specs.Plan.{Plan, layout_of_plan}
-use Rattle.airport_rules.specs.Rules.{judge, judge_turn, judge_forbid, goes_on, is_forbidden, with_pair}
+use Rattle.airport_rules.specs.Rules.{judge, judge_turn, judge_forbid, goes_on, with_pair}
 use Rattle.airport_text.specs.Canonical.{forbid_record}
-use Rattle.airport_text.proofs.Names.{IsFound, get_or-next}
+use Rattle.airport_file.proofs.NamedPlaces.{IsFound}
+use Rattle.airport_text.proofs.Names.{get_or-next}
 use Rattle.airport_text.proofs.Judging.{AreTaken}
 use Rattle.airport_text.proofs.Times.{IsNamed, segment-found}
 
@@ -33,7 +35,7 @@ pair-last (p ∷ pairs) pair above =
     rw (precedes-one_way p pair (All-head (λ p. pair_precedes p pair ≡ true) p pairs above), pair-last pairs pair (All-tail (λ p. pair_precedes p pair ≡ true) p pairs above)) refl
 
 -- and is not among them
-pair-fresh : (pairs : List (Arc × Arc)) (pair : Arc × Arc) → All (λ p. pair_precedes p pair ≡ true) pairs → is_forbidden pair.0 pair.1 pairs ≡ false
+pair-fresh : (pairs : List (Arc × Arc)) (pair : Arc × Arc) → All (λ p. pair_precedes p pair ≡ true) pairs → is_forbidden pairs pair.0 pair.1 ≡ false
 pair-fresh [] pair above = refl
 pair-fresh (p ∷ pairs) pair above =
     rw (precedes-apart p pair (All-head (λ p. pair_precedes p pair ≡ true) p pairs above), pair-fresh pairs pair (All-tail (λ p. pair_precedes p pair ≡ true) p pairs above)) refl
@@ -91,7 +93,7 @@ turn-goes_on airport plan turn links is =
 
 turn-taken : (airport : Airport) (plan : Plan) (turn : Arc × Arc) → IsNamed airport plan → plan.links ≡ map link_of airport.segments → IsTurn airport turn
     → All (λ p. pair_precedes p turn ≡ true) plan.forbidden → nat_le 50000 (length plan.forbidden) ≡ false
-    → judge plan (forbid_record airport turn) ≡ Ok (with_forbidden plan (plan.forbidden ++ turn ∷ []))
+    → judge Two plan (forbid_record airport turn) ≡ Ok (with_forbidden plan (plan.forbidden ++ turn ∷ []))
 unfolding judge
 turn-taken airport plan turn named links is above room =
     let there = exist-by (ends (layout_of airport) turn.0) (ends (layout_of airport) turn.1) is.meets in

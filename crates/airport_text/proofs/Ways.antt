@@ -5,13 +5,14 @@ use Rattle.std.proofs.lemmas.Bool.Decides.{nat_tests}
 use Rattle.std.proofs.lemmas.List.Sums.{sum_by-append}
 use Rattle.std.proofs.lemmas.List.Elements.{All-head, All-tail}
 use Rattle.taxi_base.specs.declared.numbers.Node.{Node}
-use Rattle.taxi_base.specs.Airport.{Airport, SegmentRow, Link, AreNames, link_of}
+use Rattle.taxi_base.specs.Airport.{Airport, SegmentRow, Link, AreNames, link_of, own_ends, link_ends}
 use Rattle.airport_file.specs.Words.{node_word}
-use Rattle.airport_rules.specs.Plan.{Plan, link_ends}
+use Rattle.airport_rules.specs.declared.version.Version.TheVariants.{Two}
+use Rattle.airport_rules.specs.Plan.{Plan}
 use Rattle.airport_rules.specs.Rules.{judge, judge_segment, both_of, is_crowded}
-use Rattle.airport_rules.proofs.CountLaws.{own_ends}
 use Rattle.airport_text.specs.Canonical.{direction_word, segment_record}
-use Rattle.airport_text.proofs.Names.{IsNext, IsFound, names-next, word-found}
+use Rattle.airport_file.proofs.NamedPlaces.{IsFound, word-found}
+use Rattle.airport_text.proofs.Names.{IsNext, names-next}
 use Rattle.airport_text.proofs.Judging.{AreTaken}
 
 direction-again : (both : Bool) → both_of (direction_word both) ≡ Some both
@@ -31,7 +32,7 @@ way-judged plan name from to direction link next first second read room =
 -- so many ends at a node as all have, some have at most
 ends-fewer : (node : Node) (before : List Link) (link : Link) (after : List Link) → link_ends node (before ++ link ∷ after) ≤ 32 → link_ends node (before ++ link ∷ []) ≤ 32
 ends-fewer node before link after few =
-    let split = sum_by-append (own_ends node.0) (before ++ link ∷ []) after in
+    let split = sum_by-append (own_ends node) (before ++ link ∷ []) after in
     let joined = ap (link_ends node) (append_assoc before (link ∷ []) after) in
     omega (arith, few, split, joined)
 
@@ -48,7 +49,7 @@ IsWithin nodes s = (s.from.0 < nodes) × (s.to.0 < nodes)
 way-taken : (airport : Airport) (plan : Plan) (s : SegmentRow) (after : List Link) → plan.nodes ≡ map (λ n. n.name) airport.nodes → AreNames 10000 (map (λ n. n.name) airport.nodes)
     → IsWithin (length airport.nodes) s → IsNext 10000 plan.segments s.name
     → ((k : ℕ) → k < length airport.nodes → link_ends (record { 0 = k }) (plan.links ++ link_of s ∷ after) ≤ 32)
-    → judge plan (segment_record airport s) ≡ Ok (with_segments plan (plan.segments ++ s.name ∷ []) (plan.links ++ link_of s ∷ []))
+    → judge Two plan (segment_record airport s) ≡ Ok (with_segments plan (plan.segments ++ s.name ∷ []) (plan.links ++ link_of s ∷ []))
 unfolding judge
 way-taken airport plan s after nodes names within next degree =
     way-judged plan s.name (node_word airport s.from) (node_word airport s.to) (direction_word s.both) (link_of s) next

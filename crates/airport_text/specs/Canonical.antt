@@ -1,5 +1,5 @@
 -- The canonical text of an airport: one file for each airport, with its records in a fixed order.
-use Rattle.std.specs.Prelude.{ℕ, zero, suc, Bool, true, if◌then◌else◌, List, [], ◌∷◌, ◌++◌, length, map, flat_map, filter_map, Option, option_map, codes, decimal}
+use Rattle.std.specs.Prelude.{ℕ, zero, suc, Bool, true, if◌then◌else◌, List, [], ◌∷◌, ◌++◌, nat_lt, length, map, flat_map, filter_map, Option, Some, None, option_map, codes, decimal}
 use Rattle.csv.specs.Writing.{default_writer, with_flexible, row_text}
 use Rattle.csv.specs.declared.writer.WriterBuilder.{WriterBuilder}
 use Rattle.taxi_base.specs.declared.numbers.Segment.{Segment}
@@ -7,7 +7,7 @@ use Rattle.taxi_base.specs.declared.numbers.Arc.{Arc}
 use Rattle.taxi_base.specs.declared.numbers.Class.{Class}
 use Rattle.taxi_base.specs.declared.rows.Kind.{Kind}
 use Rattle.taxi_base.specs.declared.rows.Kind.TheVariants.{Runway, Junction, Stand}
-use Rattle.taxi_base.specs.Airport.{Airport, NodeRow, SegmentRow, ClassRow, seconds}
+use Rattle.taxi_base.specs.Airport.{Airport, NodeRow, SegmentRow, ClassRow, seconds, clearance_of}
 use Rattle.airport_file.specs.Words.{node_word, class_word, segment_word, word_of_arc}
 
 -- ---- records, each the list of its fields
@@ -24,7 +24,7 @@ abbrev pub direction_word : Bool → List ℕ
 direction_word both = if both then codes "both" else codes "one"
 
 abbrev pub first_record : Fields
-first_record = codes "taxi-airport" ∷ codes "1" ∷ []
+first_record = codes "taxi-airport" ∷ codes "2" ∷ []
 
 abbrev pub horizon_record : Airport → Fields
 horizon_record airport = codes "horizon" ∷ decimal airport.horizon ∷ []
@@ -43,6 +43,11 @@ segment_record airport segment =
 abbrev pub time_record : Airport → Segment → Class → Option Fields
 time_record airport segment class =
     option_map (λ n. codes "seconds" ∷ segment_word airport segment ∷ class_word airport class ∷ decimal n ∷ []) (seconds airport class segment)
+
+-- a class's clearance; none where it is 0
+abbrev pub clearance_record : Airport → Class → Option Fields
+clearance_record airport class =
+    if nat_lt 0 (clearance_of airport class) then Some (codes "clearance" ∷ class_word airport class ∷ decimal (clearance_of airport class) ∷ []) else None
 
 abbrev pub forbid_record : Airport → Arc × Arc → Fields
 forbid_record airport turn = codes "forbid" ∷ word_of_arc airport turn.0 ∷ word_of_arc airport turn.1 ∷ []
@@ -66,6 +71,9 @@ times_on airport segment =
 abbrev pub time_records : Airport → List Fields
 time_records airport = flat_map (times_on airport) (numbers_below (length airport.segments))
 
+abbrev pub clearance_records : Airport → List Fields
+clearance_records airport = filter_map (λ class. clearance_record airport (record { 0 = class })) (numbers_below (length airport.classes))
+
 abbrev pub canonical_records : Airport → List Fields
 canonical_records airport =
     first_record
@@ -74,8 +82,9 @@ canonical_records airport =
     ++ (map class_record airport.classes
     ++ (map (segment_record airport) airport.segments
     ++ (time_records airport
+    ++ (clearance_records airport
     ++ (map (forbid_record airport) airport.forbidden
-    ++ map (conflict_record airport) airport.conflicts)))))
+    ++ map (conflict_record airport) airport.conflicts))))))
 
 -- ---- the text
 

@@ -4,7 +4,7 @@ ghost use Rattle.csv.specs.Records.{fields_of};
 ghost use Rattle.taxi_base.specs.Airport.{IsWellFormed};
 ghost use Rattle.airport_file.specs.Reading.{airport_of};
 ghost use Rattle.airport_file.specs.Words.{segment_word, word_of_arc};
-ghost use Rattle.airport_text.specs.Canonical.{canonical_text, kind_word, direction_word, first_record, horizon_record, node_record, class_record, segment_record, time_record, times_on, time_records, forbid_record, conflict_record};
+ghost use Rattle.airport_text.specs.Canonical.{canonical_text, kind_word, direction_word, first_record, horizon_record, node_record, class_record, segment_record, time_record, times_on, time_records, clearance_record, clearance_records, forbid_record, conflict_record};
 ghost use Rattle.airport_text.specs.Written.{and_records, record_if_any};
 
 use crate::records::RecordWriter;
@@ -28,6 +28,7 @@ pub fn write_airport(alloc: Global, airport: &Airport) -> Result<Vec<u8>, Memory
     write_classes(&mut records, airport)?;
     write_segments(&mut records, airport)?;
     write_times(&mut records, airport)?;
+    write_clearances(&mut records, airport)?;
     write_turns(&mut records, airport)?;
     write_conflicts(alloc, &mut records, airport)?;
     records.finish()
@@ -36,7 +37,7 @@ pub fn write_airport(alloc: Global, airport: &Airport) -> Result<Vec<u8>, Memory
 fn write_first(records: &mut RecordWriter) -> Result<(), Memory>
     ensures { OnOk result (records.new ≡ and_records records.old (first_record ∷ [])) }
 {
-    records.write(&[b"taxi-airport".as_slice(), b"1".as_slice()])
+    records.write(&[b"taxi-airport".as_slice(), b"2".as_slice()])
 }
 
 fn write_horizon(records: &mut RecordWriter, airport: &Airport) -> Result<(), Memory>
@@ -178,6 +179,37 @@ fn write_time(
     records.write(&[
         b"seconds".as_slice(),
         segment.bytes(),
+        class.bytes(),
+        digits.format(seconds).as_bytes(),
+    ])
+}
+
+fn write_clearances(records: &mut RecordWriter, airport: &Airport) -> Result<(), Memory>
+    requires { IsWellFormed airport.now }
+    ensures { OnOk result (records.new ≡ and_records records.old (clearance_records airport.now)) }
+{
+    for number in 0..airport.classes().count() as u32 {
+        write_clearance(records, airport, Class(number))?;
+    }
+    Ok(())
+}
+
+fn write_clearance(
+    records: &mut RecordWriter,
+    airport: &Airport,
+    class: Class,
+) -> Result<(), Memory>
+    requires { class.0 < length airport.now.classes }
+    ensures { OnOk result (records.new ≡ and_records records.old (record_if_any (clearance_record airport.now class))) }
+{
+    let seconds = airport.clearance(class);
+    if seconds == 0 {
+        return Ok(());
+    }
+    let mut digits = Buffer::new();
+    let class = airport.class_name(class);
+    records.write(&[
+        b"clearance".as_slice(),
         class.bytes(),
         digits.format(seconds).as_bytes(),
     ])

@@ -9,14 +9,14 @@ use Rattle.taxi_base.specs.declared.rows.Step.{Step}
 use Rattle.taxi_base.specs.Airport.{Airport, layout_of, arc_exists, arc_named, arc_of, segment_named}
 use Rattle.taxi_base.specs.Walks.{AreJoined}
 use Rattle.taxi_text.specs.declared.command.FiledStep.{FiledStep}
-use Rattle.certificate.specs.Replies.{filed_steps}
+use Rattle.certificate.specs.Asked.{filed_steps}
 
 -- what an optional chain gave, it gave by its first part
-and_then-some : {A B : Type 0} (f : A → Option B) (o : Option A) (y : B) → option_and_then f o ≡ Some y → (x : A) × (o ≡ Some x) × (f x ≡ Some y)
+pub and_then-some : {A B : Type 0} (f : A → Option B) (o : Option A) (y : B) → option_and_then f o ≡ Some y → (x : A) × (o ≡ Some x) × (f x ≡ Some y)
 and_then-some f None y h = absurd (none-some y h)
 and_then-some f (Some x) y h = (x, refl, h)
 
-map-some : {A B : Type 0} (f : A → B) (o : Option A) (y : B) → option_map f o ≡ Some y → (x : A) × (o ≡ Some x) × (f x ≡ y)
+pub map-some : {A B : Type 0} (f : A → B) (o : Option A) (y : B) → option_map f o ≡ Some y → (x : A) × (o ≡ Some x) × (f x ≡ y)
 map-some f None y h = absurd (none-some y h)
 map-some f (Some x) y h = (x, refl, same h) where
   same : Some (f x) ≡ Some y → f x ≡ y

@@ -1,12 +1,17 @@
--- A line that files a route gives it 1 to 256 steps.
+-- What the grammar promises of a command that was read.
 use Rattle.std.proofs.Common.{ℕ, ◌==◌, Bool, cond, List, [], ◌∷◌, length, drop, IsTrue, Option, Some, None, codes, bytes_eq, inl, inr}
 use Rattle.std.specs.Prelude.{IfSome}
 use Rattle.std.proofs.lemmas.Bool.{cond_both, cases_Bool}
 use Rattle.taxi_text.specs.declared.command.Command.{Command}
 use Rattle.taxi_text.specs.declared.command.Command.TheVariants.{Cancel, Reroute, Divert, Windows, Occupancy, Timetable}
 use Rattle.taxi_text.specs.Words.{words_of}
-use Rattle.taxi_text.specs.Fields.{name_of, number_of}
-use Rattle.certificate.specs.Replies.{HasStepCount}
+use Rattle.taxi_text.specs.Fields.{name_of, is_number, number_of}
+use Rattle.taxi_text.proofs.Numbers.{numerals, is_number-parts}
+use Rattle.std.specs.Str.Parse.{digits_value}
+use Rattle.std.proofs.lemmas.Str.Parse.{digits_value_short}
+use Rattle.taxi_base.specs.Words.{is_name}
+use Rattle.certificate.specs.Printable.{IsShort, IsName}
+use Rattle.certificate.specs.Asked.{IsInGrammar}
 use Rattle.taxi_text.specs.Commands.{◌>>=◌, first_as, the_end, asked_of, steps_of, is_step_count, route_of, filed_steps_of, file_of, unfiled_of, command_of_words, command_of}
 
 module _ {A B : Type 0} (P : B → Type 0) (f : A → Option B) where
@@ -21,44 +26,71 @@ module _ {A B : Type 0} (P : B → Type 0) (f : A → Option B) where
 if_some : {A : Type 0} (P : A → Type 0) (test : Bool) (x : A) → (IsTrue test → P x) → IfSome (cond test (Some x) None) P
 if_some P test x holds = cond_both test (Some x) None (λ o. IfSome o P) holds (λ _. tt)
 
+first-name : (words : List (List ℕ)) → IfSome (first_as name_of words) IsName
+first-name [] = tt
+first-name (word ∷ words) = if_some IsName (is_name word) word (λ name. name)
+
+bind-name : (f : List ℕ → Option Command) (words : List (List ℕ)) → ((name : List ℕ) → IsName name → IfSome (f name) IsInGrammar)
+    → IfSome (first_as name_of words >>= f) IsInGrammar
+bind-name f words each = bind-where IsInGrammar f IsName (first_as name_of words) (first-name words) each
+
 filed_steps-count : (words : List (List ℕ)) → IfSome (filed_steps_of words) (λ steps. IsTrue (is_step_count (length steps)))
 filed_steps-count words =
     bind-each (λ steps. IsTrue (is_step_count (length steps))) route_of (steps_of words)
     (λ steps. if_some (λ steps. IsTrue (is_step_count (length steps))) (is_step_count (length steps)) steps (λ h. h))
 
-file-count : (words : List (List ℕ)) → IfSome (file_of words) HasStepCount
+file-count : (words : List (List ℕ)) → IfSome (file_of words) IsInGrammar
 file-count words =
-    bind-each HasStepCount _ (first_as name_of words) (λ flight.
-    bind-each HasStepCount _ (first_as name_of (drop 1 words)) (λ class.
-    bind-each HasStepCount _ (first_as number_of (drop 1 (drop 1 words))) (λ start.
-    bind-where HasStepCount _ (λ steps. IsTrue (is_step_count (length steps))) (filed_steps_of (drop 1 (drop 1 (drop 1 words)))) (filed_steps-count (drop 1 (drop 1 (drop 1 words)))) (λ steps known. known))))
+    bind-name _ words (λ flight name.
+    bind-each IsInGrammar _ (first_as name_of (drop 1 words)) (λ class.
+    bind-each IsInGrammar _ (first_as number_of (drop 1 (drop 1 words))) (λ start.
+    bind-where IsInGrammar _ (λ steps. IsTrue (is_step_count (length steps))) (filed_steps_of (drop 1 (drop 1 (drop 1 words)))) (filed_steps-count (drop 1 (drop 1 (drop 1 words)))) (λ steps known. (name, known)))))
 
-ended : (command : Command) (words : List (List ℕ)) → HasStepCount command → IfSome (the_end command words) HasStepCount
-ended command words holds = if_some HasStepCount (length words == 0) command (λ _. holds)
+first-number : (words : List (List ℕ)) → IfSome (first_as number_of words) IsShort
+first-number [] = tt
+first-number (word ∷ words) =
+    if_some IsShort (is_number word) (digits_value 10 word) (λ is. let parts = is_number-parts word is in digits_value_short numerals word 7 parts.1 parts.0)
 
-unfiled-count : (verb : List ℕ) (words : List (List ℕ)) → IfSome (unfiled_of verb words) HasStepCount
+bind-number : (f : ℕ → Option Command) (words : List (List ℕ)) → ((n : ℕ) → IsShort n → IfSome (f n) IsInGrammar) → IfSome (first_as number_of words >>= f) IsInGrammar
+bind-number f words each = bind-where IsInGrammar f IsShort (first_as number_of words) (first-number words) each
+
+-- of what is asked for a new flight
+asked-so : (words : List (List ℕ)) → IfSome (asked_of words) (λ a. IsName a.flight × IsShort a.time × IsShort a.slack)
+asked-so words =
+    bind-where (λ a. IsName a.flight × IsShort a.time × IsShort a.slack) _ IsName (first_as name_of words) (first-name words) (λ flight name.
+    bind-each (λ a. IsName a.flight × IsShort a.time × IsShort a.slack) _ (first_as name_of (drop 1 words)) (λ class.
+    bind-each (λ a. IsName a.flight × IsShort a.time × IsShort a.slack) _ (first_as name_of (drop 1 (drop 1 words))) (λ from.
+    bind-each (λ a. IsName a.flight × IsShort a.time × IsShort a.slack) _ (first_as name_of (drop 1 (drop 1 (drop 1 words)))) (λ to.
+    bind-where (λ a. IsName a.flight × IsShort a.time × IsShort a.slack) _ IsShort (first_as number_of (drop 1 (drop 1 (drop 1 (drop 1 words))))) (first-number (drop 1 (drop 1 (drop 1 (drop 1 words))))) (λ time short.
+    bind-where (λ a. IsName a.flight × IsShort a.time × IsShort a.slack) _ IsShort (first_as number_of (drop 1 (drop 1 (drop 1 (drop 1 (drop 1 words)))))) (first-number (drop 1 (drop 1 (drop 1 (drop 1 (drop 1 words)))))) (λ slack few.
+    if_some (λ a. IsName a.flight × IsShort a.time × IsShort a.slack) (length (drop 1 (drop 1 (drop 1 (drop 1 (drop 1 (drop 1 words)))))) == 0) _ (λ _. (name, short, few))))))))
+
+ended : (command : Command) (words : List (List ℕ)) → IsInGrammar command → IfSome (the_end command words) IsInGrammar
+ended command words holds = if_some IsInGrammar (length words == 0) command (λ _. holds)
+
+unfiled-count : (verb : List ℕ) (words : List (List ℕ)) → IfSome (unfiled_of verb words) IsInGrammar
 unfiled-count verb words =
     elim (cases_Bool (bytes_eq verb (codes "arrival"))) [
-      | inl e ↦ rw e (bind-each HasStepCount _ (asked_of words) (λ a. tt))
+      | inl e ↦ rw e (bind-where IsInGrammar _ (λ a. IsName a.flight × IsShort a.time × IsShort a.slack) (asked_of words) (asked-so words) (λ a so. so))
       | inr e ↦ rw e (
           elim (cases_Bool (bytes_eq verb (codes "departure"))) [
-            | inl e ↦ rw e (bind-each HasStepCount _ (asked_of words) (λ a. tt))
+            | inl e ↦ rw e (bind-where IsInGrammar _ (λ a. IsName a.flight × IsShort a.time × IsShort a.slack) (asked_of words) (asked-so words) (λ a so. so))
             | inr e ↦ rw e (
                 elim (cases_Bool (bytes_eq verb (codes "cancel"))) [
-                  | inl e ↦ rw e (bind-each HasStepCount _ (first_as name_of words) (λ n. ended (Cancel n) (drop 1 words) tt))
+                  | inl e ↦ rw e (bind-name _ words (λ n name. ended (Cancel n) (drop 1 words) name))
                   | inr e ↦ rw e (
                       elim (cases_Bool (bytes_eq verb (codes "reroute"))) [
-                        | inl e ↦ rw e (bind-each HasStepCount _ (first_as name_of words) (λ n. bind-each HasStepCount _ (first_as number_of (drop 1 words)) (λ t. ended (Reroute n t) (drop 1 (drop 1 words)) tt)))
+                        | inl e ↦ rw e (bind-name _ words (λ n name. bind-number _ (drop 1 words) (λ t short. ended (Reroute n t) (drop 1 (drop 1 words)) (name, short))))
                         | inr e ↦ rw e (
                             elim (cases_Bool (bytes_eq verb (codes "divert"))) [
-                              | inl e ↦ rw e (bind-each HasStepCount _ (first_as name_of words) (λ n. bind-each HasStepCount _ (first_as number_of (drop 1 words)) (λ t.
-                                  bind-each HasStepCount _ (first_as name_of (drop 1 (drop 1 words))) (λ m. ended (Divert n t m) (drop 1 (drop 1 (drop 1 words))) tt))))
+                              | inl e ↦ rw e (bind-name _ words (λ n name. bind-number _ (drop 1 words) (λ t short.
+                                  bind-each IsInGrammar _ (first_as name_of (drop 1 (drop 1 words))) (λ m. ended (Divert n t m) (drop 1 (drop 1 (drop 1 words))) (name, short)))))
                               | inr e ↦ rw e (
                                   elim (cases_Bool (bytes_eq verb (codes "windows"))) [
-                                    | inl e ↦ rw e (bind-each HasStepCount _ (first_as name_of words) (λ n. ended (Windows n) (drop 1 words) tt))
+                                    | inl e ↦ rw e (bind-each IsInGrammar _ (first_as name_of words) (λ n. ended (Windows n) (drop 1 words) tt))
                                     | inr e ↦ rw e (
                                         elim (cases_Bool (bytes_eq verb (codes "occupancy"))) [
-                                          | inl e ↦ rw e (bind-each HasStepCount _ (first_as name_of words) (λ n. ended (Occupancy n) (drop 1 words) tt))
+                                          | inl e ↦ rw e (bind-each IsInGrammar _ (first_as name_of words) (λ n. ended (Occupancy n) (drop 1 words) tt))
                                           | inr e ↦ rw e (
                                               elim (cases_Bool (bytes_eq verb (codes "timetable"))) [
                                                 | inl e ↦ rw e (ended Timetable words tt)
@@ -81,11 +113,11 @@ unfiled-count verb words =
           )
     ]
 
--- A line that files a route gives it 1 to 256 steps.
-pub command_of-count : (line : List ℕ) → IfSome (command_of line) HasStepCount
+-- The name of a flight in a command is a name, and a route given by hand has 1 to 256 steps.
+pub command_of-in_grammar : (line : List ℕ) → IfSome (command_of line) IsInGrammar
 unfolding command_of
-command_of-count line = of_words (words_of line) where
-  of_words : (words : List (List ℕ)) → IfSome (command_of_words words) HasStepCount
+command_of-in_grammar line = of_words (words_of line) where
+  of_words : (words : List (List ℕ)) → IfSome (command_of_words words) IsInGrammar
   of_words [] = tt
   of_words (verb ∷ words) = elim (cases_Bool (bytes_eq verb (codes "file"))) [
     | inl e ↦ rw e (file-count words)

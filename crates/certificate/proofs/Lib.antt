@@ -2,4 +2,16 @@ pub mod LineLaws
 pub mod Pieces
 pub mod FiledLaws
 pub mod GrammarLaws
+pub mod FlightLaws
+pub mod HolderNames
+pub mod FoundLaws
+pub mod RowPieces
+pub mod RefusalLaws
+pub mod WindowsTold
+pub mod PrintableLaws
 pub mod ReplyLaws
+pub mod OneReply
+pub mod AgainRefusals
+pub mod TablesKept
+pub mod PassLaws
+pub mod BestLaws

@@ -1,5 +1,7 @@
 -- A line of words, as it grows word by word.
-use Rattle.std.proofs.Common.{◌≡◌, ℕ, List, [], ◌∷◌, ◌++◌, append_assoc, refl, ◌∙◌, ap}
+use Rattle.std.proofs.Common.{◌≡◌, ℕ, zero, suc, ◌+◌, ◌<◌, ◌≤◌, ◌^◌, List, [], ◌∷◌, ◌++◌, length, length-append, drop, set, decimal, append_assoc, refl, ◌∙◌, ap, arith}
+use Rattle.std.proofs.lemmas.List.{length-drop}
+use Rattle.std.proofs.lemmas.Fmt.{length-decimal-le}
 use Rattle.certificate.specs.Texts.{line_text, and_words}
 
 and_words-append : (front text : List ℕ) (words : List (List ℕ)) → and_words (front ++ text) words ≡ front ++ and_words text words
@@ -14,3 +16,27 @@ line_text-and_words first (word ∷ words) =
     ap (λ t. t ++ 10 ∷ []) (and_words-append first (32 ∷ word) words)
     ∙ append_assoc first (and_words (32 ∷ word) words) (10 ∷ [])
     ∙ ap (λ t. first ++ t) (ap (λ t. t ++ 10 ∷ []) (and_words-append (32 ∷ []) word words) ∙ ap (λ t. 32 ∷ t) (line_text-and_words word words))
+
+-- ---- a line that is written from its end
+
+pub drop-last : (xs : List ℕ) (n x : ℕ) → length xs ≡ n + 1 → drop n (set xs n x) ≡ x ∷ []
+drop-last [] n x long = absurd (omega (arith, long))
+drop-last (y ∷ []) zero x long = refl
+drop-last (y ∷ z ∷ xs) zero x long = absurd (omega (arith, long))
+drop-last (y ∷ xs) (suc n) x long = drop-last xs n x (omega (arith, long))
+
+pub has-room : (n start : ℕ) (bytes : List ℕ) → n < 2 ^ 64 → start ≤ 96 → length bytes ≡ 96 → length (drop start bytes) + 20 ≤ 96
+    → (length (decimal n) ≤ start) × (start ≤ length bytes)
+has-room n start bytes fits low long room =
+    let digits = length-decimal-le 20 n (omega arith) (omega (arith, fits)) fits in
+    (omega (arith, digits, room, long, low, length-drop start bytes), omega (arith, low, long))
+
+pub length-with_number : (n : ℕ) (old new : List ℕ) → n < 2 ^ 64 → new ≡ decimal n ++ old → length new ≤ length old + 20
+length-with_number n old new fits is =
+    omega (arith, ap length is, length-append (decimal n) old, length-decimal-le 20 n (omega arith) (omega (arith, fits)) fits)
+
+pub drop-whole : (xs : List ℕ) (n : ℕ) → length xs ≡ n → drop n xs ≡ []
+drop-whole [] zero long = refl
+drop-whole [] (suc n) long = refl
+drop-whole (x ∷ xs) zero long = absurd (omega (arith, long))
+drop-whole (x ∷ xs) (suc n) long = drop-whole xs n (omega (arith, long))

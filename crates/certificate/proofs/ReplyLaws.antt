@@ -1,174 +1,235 @@
--- A reply keeps the flights sound, and what it says is so.
-use Rattle.std.proofs.Common.{◌≡◌, ℕ, ◌<◌, nat_le, Bool, cond, List, [], ◌∷◌, length, IsFalse, inl, inr, Option, Some, None, is_some, bytes_eq, refl, arith}
-use Rattle.std.specs.Prelude.{All, IfSome}
-use Rattle.std.specs.List.{find}
-use Rattle.std.specs.Option.{option_map_or}
-use Rattle.std.proofs.lemmas.Bool.{cases_Bool, cases_lt, le-leb, lt-leb, le-ltb, and_parts, ltb-true}
-use Rattle.std.proofs.lemmas.List.Elements.{All-nil, All-cons}
-use Rattle.taxi_base.specs.declared.numbers.Class.{Class}
-use Rattle.taxi_base.specs.declared.numbers.Segment.{Segment}
-use Rattle.taxi_base.specs.declared.rows.Step.{Step}
+-- A reply keeps the state sound, and what it says is so.
+use Rattle.std.proofs.Common.{◌≡◌, ℕ, ◌<◌, cond, Bool, true, false, List, [], length, inl, inr, Option, Some, None, refl, sym, ap, subst, arith}
+use Rattle.std.specs.Prelude.{◌⊎◌, Contains, IfSome, MatchOption}
+use Rattle.std.proofs.lemmas.Bool.{and_parts, ltb-true}
+use Rattle.taxi_base.specs.declared.numbers.Node.{Node}
 use Rattle.taxi_base.specs.declared.answers.Flight.{Flight}
+use Rattle.taxi_base.specs.declared.answers.Found.{Found}
+use Rattle.taxi_base.specs.declared.answers.Found.TheVariants as found
+use Rattle.taxi_base.specs.declared.answers.Request.{Request}
 use Rattle.taxi_base.specs.declared.answers.Refusal.{Refusal}
 use Rattle.taxi_base.specs.declared.answers.Refusal.TheVariants as refusal
-use Rattle.taxi_base.specs.declared.answers.StepFault.{StepFault}
-use Rattle.taxi_base.specs.Airport.{Airport, class_named, segment_named}
-use Rattle.taxi_base.specs.Windows.{is_free, AreWindows}
-use Rattle.taxi_base.specs.Walks.{IsFeasibleWalk, begin_of, end_of}
-use Rattle.taxi_base.specs.State.{State, with_flight, holds_in, IsSound}
+use Rattle.taxi_base.specs.Airport.{Airport, node_named}
+use Rattle.taxi_base.specs.Walks.{IsFeasibleWalk, Meets}
+use Rattle.taxi_base.specs.State.{State, with_flight, with_route, without, conditions_of, IsSound}
 use Rattle.taxi_base.specs.Faults.{conditions_in, route_fault}
+use Rattle.taxi_base.specs.Again.{retargeted, IsTarget, AnswersAgain}
 use Rattle.taxi_base.proofs.FaultLaws.{route_fault-None}
-use Rattle.taxi_base.proofs.StateLaws.{IsSound-with_flight, IsSound-without, IsClashFree-feasible}
-use Rattle.taxi_base.proofs.WindowsMade.{windows_before-are}
+use Rattle.taxi_base.proofs.StateLaws.{IsSound-with_flight, IsSound-with_route, IsSound-without, IsClashFree-feasible}
+use Rattle.std.proofs.lemmas.List.Elements.{All-contains}
 use Rattle.taxi_text.specs.declared.command.FiledStep.{FiledStep}
 use Rattle.taxi_text.specs.declared.command.Command.{Command}
 use Rattle.taxi_text.specs.declared.command.Command.TheVariants as command
 use Rattle.taxi_text.specs.Commands.{command_of, IsFile}
 use Rattle.certificate.specs.declared.block.Block.{Block}
-use Rattle.certificate.specs.declared.block.Block.TheVariants.{Filed}
-use Rattle.certificate.specs.Replies.{Reply, refused, is_in_force, filed_steps, filed_flight, due_to_route, most_flights, windows_among, due_to_file, due_to_cancel, due_to_windows, due_to_command, HasStepCount, due, IsCancel, IsReply, as_due, no_memory, DoesAsItSays, IsAnswered}
+use Rattle.certificate.specs.declared.block.Block.TheVariants.{Refused, Route, NoRoute}
+use Rattle.certificate.specs.Asked.{IsInGrammar, arrival_named, departure_named, AnswersRequest}
+use Rattle.certificate.specs.Refusals.{is_in_force, not_in_force, first_refusal}
+use Rattle.certificate.specs.CarriedOut.{Reply, IsOf, filed_flight, filed_reply, IsFiled, second_of, found_reply, routed_flight, IsRouted, IsRoutedAgain, cancelled_reply, windows_reply, IsCarriedOut}
+use Rattle.certificate.specs.Replies.{refused, is_built, IsDueTo, IsDue, NeedsNoMemory, IsReply, as_due, no_memory, DoesAsItSays, IsAnswered}
 use Rattle.certificate.proofs.FiledLaws.{filed_steps-length, filed_steps-arcs, filed_steps-joined}
-use Rattle.certificate.proofs.GrammarLaws.{command_of-count}
-
--- none of the elements passes where none is found
-pub none_found : {X : Type 0} (p : X → Bool) (xs : List X) → IsFalse (is_some (find p xs)) → All (λ x. IsFalse (p x)) xs
-none_found p [] none = All-nil (λ x. IsFalse (p x))
-none_found p (x ∷ xs) none =
-    elim (cases_Bool (p x)) [
-      | inl here ↦ absurd (cc (rw here at none))
-      | inr not_here ↦ All-cons (λ x. IsFalse (p x)) x xs not_here (none_found p xs (rw not_here at none))
-    ]
-
--- the windows of a segment are those that the flights leave: no second from the horizon on is free
-pub windows_among-are : (airport : Airport) (state : State) (segment : Segment)
-    → AreWindows (is_free airport.conflicts airport.horizon (holds_in airport state) segment) (windows_among airport state segment)
-windows_among-are airport state segment =
-    windows_before-are (is_free airport.conflicts airport.horizon (holds_in airport state) segment) airport.horizon (λ t past. rw (le-ltb t airport.horizon past) refl)
+use Rattle.certificate.proofs.FlightLaws.{flight_named-there, flight_named-name, without-none}
+use Rattle.certificate.proofs.RefusalLaws.{none-first, is-in_force, none-fails, HasRoom, file-has_room, file-does_not_fail, arrival-has_room, departure-has_room}
+use Rattle.certificate.proofs.GrammarLaws.{command_of-in_grammar}
+use Rattle.certificate.proofs.WindowsTold.{windows_among-are}
+use Rattle.certificate.proofs.FoundLaws.{found-meets, found_again-meets, second-retargeted}
+use Rattle.certificate.proofs.PrintableLaws.{due-printable, says-names}
 
 module _ (airport : Airport) (state : State) (sound : IsSound airport state) where
-  -- what the block says is so, and the flights are sound afterwards
-  record IsKept (reply : Reply) : Type 0 where
-    pub as_it_says : DoesAsItSays airport state reply.block reply.after
-    pub stays_sound : IsSound airport reply.after
+  -- what the block says is so, and the state is sound afterwards
+  pub record IsKept (block : Block) (after : State) : Type 0 where
+    pub as_it_says : DoesAsItSays airport state block after
+    pub stays_sound : IsSound airport after
 
-  refused-kept : (why : Refusal) → IsKept (refused state why)
+  -- a block and a state are those of a reply of which this is so
+  of-reply : (reply : Reply) (block : Block) (after : State) → IsOf reply block after → IsKept reply.block reply.after → IsKept block after
+  of-reply reply block after of kept = rw (of.0, of.1) kept
+
+  refused-kept : (why : Refusal) → IsKept (Refused why) state
   refused-kept why = record { as_it_says = refl; stays_sound = sound }
 
-  filed-kept : (name : List ℕ) (class : Class) (steps : List Step) → IsFalse (is_in_force name state) → length state < most_flights
-      → IsFeasibleWalk (conditions_in airport class state) steps
-      → IsKept (record { block = Filed name (begin_of steps) (end_of steps); after = with_flight (filed_flight name class steps) state })
-  filed-kept name class steps not_in_force room walk = record {
-    as_it_says = (filed_flight name class steps, refl, refl, walk, refl, refl);
-    stays_sound = IsSound-with_flight airport (filed_flight name class steps) state sound room (none_found (λ (f : Flight). bytes_eq f.name name) state not_in_force) walk;
-  }
+  file-kept : (name class : List ℕ) (start : ℕ) (filed : List FiledStep) (block : Block) (after : State) → 0 < length filed
+      → first_refusal airport state (command.File name class start filed) ≡ None → IsFiled airport state name class start filed block after → IsKept block after
+  file-kept name class start filed block after some none done =
+      let steps = done.steps in
+      let made = done.steps_known in
+      let room : HasRoom state name = file-has_room airport state name class start filed none in
+      let faultless : route_fault airport done.class state steps ≡ None =
+      none-fails airport state class start filed done.class steps done.class_known made (file-does_not_fail airport state name class start filed none) in
+      let walk : IsFeasibleWalk (conditions_in airport done.class state) steps =
+      (route_fault-None airport done.class state steps (omega (arith, some, filed_steps-length airport start filed steps made))
+      (filed_steps-arcs airport start filed steps made) (filed_steps-joined airport start filed steps made)).0 faultless in
+      of-reply (filed_reply state name done.class steps) block after done.reply (record {
+        as_it_says = (filed_flight name done.class steps, refl, refl, walk, refl, refl);
+        stays_sound = IsSound-with_flight airport (filed_flight name done.class steps) state sound room.room room.absent walk;
+      })
 
-  route-kept : (name : List ℕ) (class : Class) (steps : List Step) → IsFalse (is_in_force name state) → length state < most_flights
-      → (route_fault airport class state steps ≡ None → IsFeasibleWalk (conditions_in airport class state) steps)
-      → IsKept (due_to_route airport state name class steps)
-  route-kept name class steps not_in_force room feasible = go (route_fault airport class state steps) refl where
-    go : (o : Option StepFault) → route_fault airport class state steps ≡ o → IsKept (due_to_route airport state name class steps)
-    go None e = rw e (filed-kept name class steps not_in_force room (feasible e))
-    go (Some fault) e = rw e (refused-kept (refusal.Step fault))
+  routed-kept : (name class : List ℕ) (asked : Option Request) (block : Block) (after : State) → HasRoom state name
+      → IsRouted airport state name class asked block after → IsKept block after
+  routed-kept name class asked block after room done = go done.found done.answers done.reply where
+    go : (found : Found) → AnswersRequest (conditions_in airport done.class state) done.request found
+        → IsOf (found_reply state name done.request (λ steps. with_flight (routed_flight name done.class done.request steps) state) found) block after → IsKept block after
+    go (found.NoRoute labels) answers of = of-reply (record { block = NoRoute labels; after = state }) block after of (record { as_it_says = refl; stays_sound = sound })
+    go (found.Route steps labels) answers of =
+        let flight : Flight = routed_flight name done.class done.request steps in
+        let met : Meets (conditions_in airport done.class state) done.request steps = found-meets (conditions_in airport done.class state) done.request steps labels answers in
+        let same : without name state ≡ state = without-none name state room.absent in
+        of-reply (record { block = Route name (second_of done.request steps) steps labels; after = with_flight flight state }) block after of (record {
+          as_it_says = (flight, refl, refl, ap (with_flight flight) (sym same), subst (λ s. Meets (conditions_in airport done.class s) done.request steps) (sym same) met, refl);
+          stays_sound = IsSound-with_flight airport flight state sound room.room room.absent met;
+        })
 
-  file-kept : (name class : List ℕ) (start : ℕ) (filed : List FiledStep) → 0 < length filed → IsKept (due_to_file airport state name class start filed)
-  file-kept name class start filed some =
-      elim (cases_Bool (is_in_force name state)) [
-        | inl in_force ↦ rw in_force (refused-kept refusal.InForce)
-        | inr not_in_force ↦ rw not_in_force (of_class not_in_force (class_named airport class) refl)
-      ]
-    where
-      of_steps : IsFalse (is_in_force name state) → (class : Class) (o : Option (List Step)) → filed_steps airport start filed ≡ o
-          → IsKept (option_map_or
-          (λ steps. cond (nat_le most_flights (length state)) (refused state refusal.Full) (due_to_route airport state name class steps))
-          (filed_steps airport start filed)
-          (refused state refusal.UnknownSegment))
-      of_steps not_in_force class None e = rw e (refused-kept refusal.UnknownSegment)
-      of_steps not_in_force class (Some steps) e =
-          elim (cases_lt (length state) most_flights) [
-            | inl room ↦ rw (e, lt-leb most_flights (length state) room) (route-kept name class steps not_in_force room (λ none.
-                (route_fault-None airport class state steps (omega (arith, filed_steps-length airport start filed steps e))
-                (filed_steps-arcs airport start filed steps e) (filed_steps-joined airport start filed steps e)).0 none))
-            | inr full ↦ rw (e, le-leb most_flights (length state) full) (refused-kept refusal.Full)
-          ]
+  again-kept : (name : List ℕ) (time : ℕ) (IsMeant : Request → Node → Type 0) (block : Block) (after : State)
+      → IsRoutedAgain airport state name time IsMeant block after → IsKept block after
+  again-kept name time IsMeant block after done = go done.found done.answers done.reply where
+    flight : Flight
+    flight = done.flight
 
-      of_class : IsFalse (is_in_force name state) → (o : Option Class) → class_named airport class ≡ o
-          → IsKept (option_map_or
-          (λ class. option_map_or
-          (λ steps. cond (nat_le most_flights (length state)) (refused state refusal.Full) (due_to_route airport state name class steps))
-          (filed_steps airport start filed)
-          (refused state refusal.UnknownSegment))
-          (class_named airport class)
-          (refused state refusal.UnknownClass))
-      of_class not_in_force None e = rw e (refused-kept refusal.UnknownClass)
-      of_class not_in_force (Some found) e = rw e (of_steps not_in_force found (filed_steps airport start filed) refl)
+    asked : Request
+    asked = retargeted flight.request done.target
 
-  cancel-kept : (name : List ℕ) → IsKept (due_to_cancel state name)
-  cancel-kept name =
-      elim (cases_Bool (is_in_force name state)) [
-        | inl in_force ↦ rw in_force (record { as_it_says = (in_force, refl); stays_sound = IsSound-without airport name state sound })
-        | inr not_in_force ↦ rw not_in_force (refused-kept refusal.NotInForce)
-      ]
+    go : (found : Found) → AnswersAgain (conditions_of airport state flight) flight.steps time done.target flight.request found
+        → IsOf (found_reply state name flight.request (λ steps. with_route flight asked steps state) found) block after → IsKept block after
+    go (found.NoRoute labels) answers of = of-reply (record { block = NoRoute labels; after = state }) block after of (record { as_it_says = refl; stays_sound = sound })
+    go (found.Route steps labels) answers of =
+        let there : Contains state.flights flight = flight_named-there name state.flights flight done.in_force in
+        let old : Meets (conditions_of airport state flight) flight.request flight.steps =
+        All-contains (λ f. Meets (conditions_of airport state f) f.request f.steps) state.flights flight sound.requests there in
+        let met : Meets (conditions_of airport state flight) asked steps =
+        found_again-meets (conditions_of airport state flight) flight.steps time done.target flight.request steps labels old answers in
+        of-reply (record { block = Route name (second_of flight.request steps) steps labels; after = with_route flight asked steps state }) block after of (record {
+          as_it_says = (record flight { request = asked; steps = steps }, flight_named-name name state.flights flight done.in_force, refl, refl, met, second-retargeted flight.request done.target steps);
+          stays_sound = IsSound-with_route airport flight state asked steps sound there met;
+        })
 
-  windows-kept : (name : List ℕ) → IsKept (due_to_windows airport state name)
-  windows-kept name = go (segment_named airport name) refl where
-    go : (o : Option Segment) → segment_named airport name ≡ o → IsKept (due_to_windows airport state name)
-    go None e = rw e (refused-kept refusal.UnknownSegment)
-    go (Some segment) e = rw e (record {
-      as_it_says = (windows_among-are airport state segment, refl);
-      stays_sound = sound;
-    })
+  -- a command that is refused nothing and is carried out keeps the state sound
+  pub carried_out-kept : (c : Command) (block : Block) (after : State) → IsInGrammar c → first_refusal airport state c ≡ None
+      → IsCarriedOut airport state c block after → IsKept block after
+  carried_out-kept (command.File flight class start steps) block after spoken none done =
+      file-kept flight class start steps block after (ltb-true 0 (length steps) (and_parts _ _ spoken.1).0) none done
+  carried_out-kept (command.Arrival flight class from to time hold) block after spoken none done =
+      routed-kept flight class (arrival_named airport from to time hold) block after (arrival-has_room airport state flight class from to time hold none) done
+  carried_out-kept (command.Departure flight class from to time queue) block after spoken none done =
+      routed-kept flight class (departure_named airport from to time queue) block after (departure-has_room airport state flight class from to time queue none) done
+  carried_out-kept (command.Cancel flight) block after spoken none done =
+      of-reply (cancelled_reply state flight) block after done (record {
+        as_it_says = (is-in_force state flight (none-first (not_in_force state flight) [] none), refl);
+        stays_sound = IsSound-without airport flight state sound;
+      })
+  carried_out-kept (command.Reroute flight time) block after spoken none done = again-kept flight time IsTarget block after done
+  carried_out-kept (command.Divert flight time node) block after spoken none done = again-kept flight time (λ asked target. node_named airport node ≡ Some target) block after done
+  carried_out-kept (command.Windows segment) block after spoken none done =
+      of-reply (windows_reply airport state done.segment) block after done.reply (record { as_it_says = (windows_among-are airport state done.segment, refl); stays_sound = sound })
+  carried_out-kept (command.Occupancy segment) block after spoken none done = absurd done
+  carried_out-kept command.Timetable block after spoken none done = absurd done
 
-  command-kept : (c : Command) → HasStepCount c → IsKept (due_to_command airport state c)
-  command-kept (command.File flight class start steps) count = file-kept flight class start steps (ltb-true 0 (length steps) (and_parts _ _ count).0)
-  command-kept (command.Arrival flight class from to time hold) count = refused-kept refusal.NotBuilt
-  command-kept (command.Departure flight class from to time queue) count = refused-kept refusal.NotBuilt
-  command-kept (command.Cancel flight) count = cancel-kept flight
-  command-kept (command.Reroute flight time) count = refused-kept refusal.NotBuilt
-  command-kept (command.Divert flight time node) count = refused-kept refusal.NotBuilt
-  command-kept (command.Windows segment) count = windows-kept segment
-  command-kept (command.Occupancy segment) count = refused-kept refusal.NotBuilt
-  command-kept command.Timetable count = refused-kept refusal.NotBuilt
+  of-refusal : (why : Refusal) (block : Block) (after : State) → IsOf (refused state why) block after → IsKept block after
+  of-refusal why block after of = of-reply (refused state why) block after of (refused-kept why)
 
-  -- the reply that is due keeps the flights sound
-  due-kept : (line : List ℕ) → IsKept (due airport state line)
-  unfolding due
-  due-kept line = go (command_of line) refl (command_of-count line) where
-    go : (o : Option Command) → command_of line ≡ o → IfSome (command_of line) HasStepCount
-        → IsKept (option_map_or (due_to_command airport state) (command_of line) (refused state refusal.BadLine))
-    go None e count = rw e (refused-kept refusal.BadLine)
-    go (Some c) e count = rw e (command-kept c (rw e at count))
+  -- what a command is due
+  due_to-kept : (c : Command) (block : Block) (after : State) → IsInGrammar c → IsDueTo airport state c block after → IsKept block after
+  due_to-kept c block after spoken due = go (is_built c) refl due where
+    go : (b : Bool) → is_built c ≡ b → MatchOption (cond b (first_refusal airport state c) (Some refusal.NotBuilt)) (IsCarriedOut airport state c block after) (λ why. IsOf (refused state why) block after)
+        → IsKept block after
+    go false e due = of-refusal refusal.NotBuilt block after due
+    go true e due = by (first_refusal airport state c) refl due where
+      by : (o : Option Refusal) → first_refusal airport state c ≡ o → MatchOption o (IsCarriedOut airport state c block after) (λ why. IsOf (refused state why) block after)
+          → IsKept block after
+      by None none done = carried_out-kept c block after spoken none done
+      by (Some why) some of = of-refusal why block after of
 
--- A reply to a line, where the flights are sound, answers it as is promised, and leaves them sound.
+  -- what a line is due
+  pub due-kept : (line : List ℕ) (block : Block) (after : State) → IsDue airport state line block after → IsKept block after
+  unfolding IsDue
+  due-kept line block after due = go (command_of line) (command_of-in_grammar line) due where
+    go : (o : Option Command) → IfSome o IsInGrammar
+        → MatchOption o (IsOf (refused state refusal.BadLine) block after) (λ c. IsDueTo airport state c block after) → IsKept block after
+    go None spoken due = of-refusal refusal.BadLine block after due
+    go (Some c) spoken due = due_to-kept c block after spoken due
+
+-- A reply to a line, where the state is sound, answers it as is promised, and leaves the state sound.
 pub IsAnswered-sound : (airport : Airport) (state : State) (line : List ℕ) (block : Block) (after : State) → IsSound airport state
-    → IsReply airport state line block after → IsAnswered airport state line block after × IsSound airport after
-IsAnswered-sound airport state line _ _ sound as_due =
-    let kept = due-kept airport state sound line in (
-      record { reply = as_due; as_it_says = kept.as_it_says; clash_free = IsClashFree-feasible airport (due airport state line).after kept.stays_sound.feasible },
-      kept.stays_sound,
-    )
+    → IsReply airport state line block after → IsAnswered airport state line block after
+IsAnswered-sound airport state line _ _ sound (as_due block after due) =
+    let kept = due-kept airport state sound line block after due in
+    record {
+      reply = as_due block after due;
+      as_it_says = kept.as_it_says;
+      sound = kept.stays_sound;
+      clash_free = IsClashFree-feasible airport after kept.stays_sound.feasible;
+      printable = λ well names. due-printable airport state well names sound line block after due;
+      named = λ well names. says-names airport state block after names kept.as_it_says (due-printable airport state well names sound line block after due);
+    }
 IsAnswered-sound airport state line _ _ sound (no_memory other) =
-    (record { reply = no_memory other; as_it_says = refl; clash_free = IsClashFree-feasible airport state sound.feasible }, sound)
+    record { reply = no_memory other; as_it_says = refl; sound = sound; clash_free = IsClashFree-feasible airport state sound.feasible; printable = λ well names. tt; named = λ well names. names }
 
 -- ---- the reply by what is read
 
 -- of a line that is a command
-pub due-command : (airport : Airport) (state : State) (line : List ℕ) (c : Command) → command_of line ≡ Some c → due airport state line ≡ due_to_command airport state c
-unfolding due
-due-command airport state line c e = rw e refl
+pub due-command : (airport : Airport) (state : State) (line : List ℕ) (c : Command) (block : Block) (after : State) → command_of line ≡ Some c
+    → IsDueTo airport state c block after → IsDue airport state line block after
+unfolding IsDue
+due-command airport state line c block after e due = rw e due
 
 -- and of one that is none
-pub due-bad_line : (airport : Airport) (state : State) (line : List ℕ) → command_of line ≡ None → due airport state line ≡ refused state refusal.BadLine
-unfolding due
-due-bad_line airport state line e = rw e refl
+pub due-bad_line : (airport : Airport) (state : State) (line : List ℕ) → command_of line ≡ None → IsDue airport state line (Refused refusal.BadLine) state
+unfolding IsDue
+due-bad_line airport state line e = rw e (refl, refl)
 
--- a line that files a route cancels none
-pub IsFile-IsCancel : (c : Command) → IsFile c → IsCancel (Some c) → ⊥
-IsFile-IsCancel (command.File flight class start steps) file cancel = cancel
-IsFile-IsCancel (command.Arrival flight class from to time hold) file cancel = file
-IsFile-IsCancel (command.Departure flight class from to time queue) file cancel = file
-IsFile-IsCancel (command.Cancel flight) file cancel = file
-IsFile-IsCancel (command.Reroute flight time) file cancel = file
-IsFile-IsCancel (command.Divert flight time node) file cancel = file
-IsFile-IsCancel (command.Windows segment) file cancel = file
-IsFile-IsCancel (command.Occupancy segment) file cancel = file
-IsFile-IsCancel command.Timetable file cancel = file
+-- ---- there is a reply
+
+-- whether a command needs no memory
+pub needs_no_memory-or : (o : Option Command) → NeedsNoMemory o ⊎ (NeedsNoMemory o → ⊥)
+needs_no_memory-or None = inr (λ needs. needs)
+needs_no_memory-or (Some (command.File flight class start steps)) = inr (λ needs. needs)
+needs_no_memory-or (Some (command.Arrival flight class from to time hold)) = inr (λ needs. needs)
+needs_no_memory-or (Some (command.Departure flight class from to time queue)) = inr (λ needs. needs)
+needs_no_memory-or (Some (command.Cancel flight)) = inl tt
+needs_no_memory-or (Some (command.Reroute flight time)) = inr (λ needs. needs)
+needs_no_memory-or (Some (command.Divert flight time node)) = inr (λ needs. needs)
+needs_no_memory-or (Some (command.Windows segment)) = inr (λ needs. needs)
+needs_no_memory-or (Some (command.Occupancy segment)) = inr (λ needs. needs)
+needs_no_memory-or (Some command.Timetable) = inr (λ needs. needs)
+
+cancel-due : (airport : Airport) (state : State) (name : List ℕ) → (reply : Reply) × IsDueTo airport state (command.Cancel name) reply.block reply.after
+cancel-due airport state name = go (is_in_force name state) refl where
+  go : (b : Bool) → is_in_force name state ≡ b → (reply : Reply) × IsDueTo airport state (command.Cancel name) reply.block reply.after
+  go true e = (cancelled_reply state name, rw e (refl, refl))
+  go false e = (refused state refusal.NotInForce, rw e (refl, refl))
+
+-- each line has a reply
+pub reply-is_there : (airport : Airport) (state : State) (line : List ℕ) → (reply : Reply) × IsReply airport state line reply.block reply.after
+reply-is_there airport state line = go (command_of line) refl where
+  by_memory : (NeedsNoMemory (command_of line) → ⊥) → (reply : Reply) × IsReply airport state line reply.block reply.after
+  by_memory needs = (refused state refusal.Memory, no_memory needs)
+
+  go : (o : Option Command) → command_of line ≡ o → (reply : Reply) × IsReply airport state line reply.block reply.after
+  go o e = elim (needs_no_memory-or o) [
+    | inl needs ↦ of_cancel o e needs
+    | inr not_so ↦ by_memory (λ needs. not_so (subst NeedsNoMemory e needs))
+  ] where
+    of_cancel : (o : Option Command) → command_of line ≡ o → NeedsNoMemory o → (reply : Reply) × IsReply airport state line reply.block reply.after
+    of_cancel None e needs = absurd needs
+    of_cancel (Some (command.File flight class start steps)) e needs = absurd needs
+    of_cancel (Some (command.Arrival flight class from to time hold)) e needs = absurd needs
+    of_cancel (Some (command.Departure flight class from to time queue)) e needs = absurd needs
+    of_cancel (Some (command.Cancel flight)) e needs =
+        let due = cancel-due airport state flight in
+        (due.0, as_due due.0.block due.0.after (due-command airport state line (command.Cancel flight) due.0.block due.0.after e due.1))
+    of_cancel (Some (command.Reroute flight time)) e needs = absurd needs
+    of_cancel (Some (command.Divert flight time node)) e needs = absurd needs
+    of_cancel (Some (command.Windows segment)) e needs = absurd needs
+    of_cancel (Some (command.Occupancy segment)) e needs = absurd needs
+    of_cancel (Some command.Timetable) e needs = absurd needs
+
+-- a line that files a route is none that needs no memory
+pub IsFile-memory : (c : Command) → IsFile c → NeedsNoMemory (Some c) → ⊥
+IsFile-memory (command.File flight class start steps) file needs = needs
+IsFile-memory (command.Arrival flight class from to time hold) file needs = file
+IsFile-memory (command.Departure flight class from to time queue) file needs = file
+IsFile-memory (command.Cancel flight) file needs = file
+IsFile-memory (command.Reroute flight time) file needs = file
+IsFile-memory (command.Divert flight time node) file needs = file
+IsFile-memory (command.Windows segment) file needs = file
+IsFile-memory (command.Occupancy segment) file needs = file
+IsFile-memory command.Timetable file needs = file

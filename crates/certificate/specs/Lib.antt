@@ -1,3 +1,10 @@
 pub mod Texts
+pub mod Printable
 pub mod Printed
+pub mod Asked
+pub mod Refusals
+pub mod CarriedOut
 pub mod Replies
+pub mod Sought
+pub mod TableRules
+pub mod Passes

@@ -1,15 +1,21 @@
--- What stands at the end of a text when a block is written there.
-use Rattle.std.specs.Prelude.{ℕ, ◌≡◌, ◌<◌, List, ◌++◌, length, ⊤}
+-- What stands at the end of a text when a block is written there?
+use Rattle.std.specs.Prelude.{ℕ, ◌≡◌, List, ◌++◌, map, All, ⊤}
 use Rattle.taxi_base.specs.Airport.{Airport}
+use Rattle.certificate.specs.Texts.{lines_text}
+use Rattle.certificate.specs.Printable.{HasArc, HasSegment}
 use Rattle.certificate.specs.declared.block.Block.{Block}
 use Rattle.certificate.specs.declared.block.Block.TheVariants.{Route, NoRoute, Windows}
 
--- A block that can be written: its segment is one of the airport's. Routes are not written yet.
-abbrev pub IsPrintable : Airport → Block → Type 0
-IsPrintable airport (Windows segment windows) = segment.0 < length airport.segments
-IsPrintable airport (Route flight second steps labels) = ⊥
-IsPrintable airport (NoRoute labels) = ⊥
-IsPrintable airport _ = ⊤
+-- A block can be written, however long its numbers are: its arcs and segments are the airport's.
+abbrev pub IsWritable : Airport → Block → Type 0
+IsWritable airport (Route flight second steps labels) = All (λ step. HasArc airport step.arc) steps × All (λ label. HasArc airport label.arc) labels
+IsWritable airport (NoRoute labels) = All (λ label. HasArc airport label.arc) labels
+IsWritable airport (Windows segment windows) = HasSegment airport segment
+IsWritable airport _ = ⊤
+
+-- the lines of rows
+abbrev pub rows_text : {X : Type 0} → (X → List (List ℕ)) → List X → List ℕ
+rows_text words rows = lines_text (map words rows)
 
 -- a first part of a text, perhaps none of it, has come to what was there
 pub record IsCutShort (text old new : List ℕ) : Type 0 where

@@ -1,11 +1,36 @@
 //! What replies promise, as laws that are proved of their definition. The functions do nothing: their clauses are the laws.
-ghost use Rattle.std.specs.Prelude.{ℕ, List};
-ghost use Rattle.taxi_base.specs.Airport.{Airport};
+ghost use Rattle.std.specs.Prelude.{◌≡◌, ℕ, List, None};
+ghost use Rattle.taxi_base.specs.Airport.{Airport, IsWellFormed};
 ghost use Rattle.taxi_base.specs.State.{State, IsSound};
+ghost use Rattle.taxi_text.specs.declared.command.Command.{Command};
 ghost use Rattle.certificate.specs.declared.block.Block.{Block};
-ghost use Rattle.certificate.specs.Replies.{IsReply, IsAnswered};
+ghost use Rattle.certificate.specs.Asked.{IsInGrammar};
+ghost use Rattle.certificate.specs.Refusals.{first_refusal};
+ghost use Rattle.certificate.specs.CarriedOut.{IsCarriedOut};
+ghost use Rattle.certificate.specs.Replies.{IsDue, IsReply, DoesAsItSays, IsAnswered};
+ghost use Rattle.certificate.specs.Passes.{IsPassed, TellsBest};
 
-/// Where the flights in force are sound, each reply answers its line as is promised, and leaves them sound.
+/// Where the state is sound, each reply answers its line as is promised, and leaves it sound. So does each command that is
+/// refused nothing and carried out, whether its form is answered yet or not.
 pub fn replies_keep_flights_sound()
-    ensures { (airport : Airport) (state : State) (line : List ℕ) (block : Block) (after : State) → IsSound airport state → IsReply airport state line block after → IsAnswered airport state line block after × IsSound airport after }
+    ensures replies { (airport : Airport) (state : State) (line : List ℕ) (block : Block) (after : State) → IsSound airport state → IsReply airport state line block after → IsAnswered airport state line block after × IsSound airport after }
+    ensures carried_out { (airport : Airport) (state : State) (command : Command) (block : Block) (after : State) → IsSound airport state → IsInGrammar command → first_refusal airport state command ≡ None → IsCarriedOut airport state command block after → DoesAsItSays airport state block after × IsSound airport after }
+{}
+
+/// Two due replies to one line in one state are equal. So are two ways to carry out one command.
+pub fn due_replies_are_one()
+    ensures due { (airport : Airport) (state : State) (line : List ℕ) (block other : Block) (after others : State) → IsWellFormed airport → IsDue airport state line block after → IsDue airport state line other others → (block ≡ other) × (after ≡ others) }
+    ensures carried_out { (airport : Airport) (state : State) (command : Command) (block other : Block) (after others : State) → IsWellFormed airport → IsCarriedOut airport state command block after → IsCarriedOut airport state command other others → (block ≡ other) × (after ≡ others) }
+{}
+
+/// Where the state is sound, each reply passes every rule by which blocks are checked.
+pub fn replies_pass()
+    ensures { (airport : Airport) (state : State) (line : List ℕ) (block : Block) (after : State) → IsWellFormed airport → IsSound airport state → IsReply airport state line block after → IsPassed airport state line block after }
+{}
+
+/// Where the state is sound, a route that passes is the best of the walks that are sought, a block that passes and tells of no
+/// route is right, and the state stays sound.
+pub fn what_passes_is_best()
+    ensures best { (airport : Airport) (state : State) (line : List ℕ) (block : Block) (after : State) → IsWellFormed airport → IsSound airport state → IsPassed airport state line block after → TellsBest airport state line block }
+    ensures sound { (airport : Airport) (state : State) (line : List ℕ) (block : Block) (after : State) → IsWellFormed airport → IsSound airport state → IsPassed airport state line block after → IsSound airport after }
 {}

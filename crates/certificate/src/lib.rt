@@ -4,10 +4,16 @@
 mod block;
 mod laws;
 mod line;
+mod line_buffer;
 mod print;
+mod rows;
+mod rule;
 mod short;
 
 pub use block::Block;
-pub use laws::replies_keep_flights_sound;
-pub use print::print_block;
+pub use laws::{
+    due_replies_are_one, replies_keep_flights_sound, replies_pass, what_passes_is_best,
+};
+pub use print::{print_block, print_route};
+pub use rule::Rule;
 pub use short::print_short;

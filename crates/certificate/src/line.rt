@@ -41,13 +41,3 @@ pub(crate) fn end_line(text: &mut ShortText)
 {
     text.push(b"\n");
 }
-
-/// A blank and a count, which has at most 20 digits.
-pub(crate) fn push_count(text: &mut ShortText, count: usize)
-    requires { length text.old + 21 ≤ 64 }
-    ensures text { text.new ≡ and_word text.old (decimal count) }
-    ensures length { length text.new ≤ length text.old + 21 }
-{
-    let mut digits = Buffer::new();
-    push_word(text, digits.format(count).as_bytes());
-}

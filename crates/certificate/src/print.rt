@@ -1,71 +1,119 @@
 //! Blocks, written at the end of a text.
-ghost use Rattle.std.specs.Prelude.{◌≡◌, ◌<◌, ◌∷◌, ◌++◌, [], length, map, decimal, codes, OnOk, OnErr};
+ghost use Rattle.std.specs.Prelude.{◌≡◌, ◌∷◌, ◌++◌, [], length, decimal, codes, All, OnOk, OnErr};
 ghost use Rattle.airport_file.specs.Words.{segment_word};
-ghost use Rattle.certificate.specs.Texts.{line_text, lines_text, segment_lines, window_words, block_text};
-ghost use Rattle.certificate.specs.Printed.{IsPrintable, IsCutShort};
+ghost use Rattle.certificate.specs.declared.block.Block.TheVariants.{Route};
+ghost use Rattle.certificate.specs.Texts.{line_text, step_words, label_words, block_text};
+ghost use Rattle.certificate.specs.Printable.{HasArc, HasSegment};
+ghost use Rattle.certificate.specs.Printed.{rows_text, IsWritable, IsCutShort};
 
 use crate::Block;
-use crate::line::{begin_line, end_line, push_count, push_decimal, push_word};
+use crate::line_buffer::LineBuffer;
+use crate::rows::print_rows;
 use crate::short::short_text;
 use airport_file::Airport;
-use taxi_base::{Memory, Segment, Span};
-use taxi_text::{ShortText, push_bytes};
+use taxi_base::{LabelRow, Memory, Name, Segment, Step, Time};
+use taxi_text::push_bytes;
 
 /// Writes the text of a block at the end of `out`. Where memory runs out a first part of it stands there.
 pub fn print_block(airport: &Airport, block: &Block, out: &mut Vec<u8>) -> Result<(), Memory>
-    requires { IsPrintable airport.now block.now }
+    requires { IsWritable airport.now block.now }
     ensures ok { OnOk result (out.new.items ≡ out.old.items ++ block_text airport.now block.now) }
     ensures err { OnErr result (IsCutShort (block_text airport.now block.now) out.old.items out.new.items) }
 {
     match block {
-        Block::Windows { segment, windows } => {
-            print_windows(airport, *segment, windows.as_slice(), out)
+        Block::Route {
+            flight,
+            second,
+            steps,
+            labels,
+        } => print_route(
+            airport,
+            flight,
+            *second,
+            steps.as_slice(),
+            labels.as_slice(),
+            out,
+        ),
+        Block::NoRoute { labels } => {
+            let mut line = LineBuffer::new();
+            write_no_route_head(labels.as_slice().len(), &mut line);
+            print_rows(airport, &mut line, labels.as_slice(), out)
         }
-        _ => push_text(&short_text(block).unwrap(), out),
+        Block::Windows { segment, windows } => {
+            let mut line = LineBuffer::new();
+            write_windows_head(airport, *segment, windows.as_slice().len(), &mut line);
+            print_rows(airport, &mut line, windows.as_slice(), out)
+        }
+        _ => push_bytes(out, short_text(block).unwrap().bytes()),
     }
 }
 
-fn print_windows(
+/// Writes the text of a route's block at the end of `out`. Where memory runs out a first part of it stands there.
+pub fn print_route(
     airport: &Airport,
-    segment: Segment,
-    windows: &[Span],
+    flight: &Name,
+    second: Time,
+    steps: &[Step],
+    labels: &[LabelRow],
     out: &mut Vec<u8>,
 ) -> Result<(), Memory>
-    requires { segment.0 < length airport.now.segments }
-    ensures ok { OnOk result (out.new.items ≡ out.old.items ++ lines_text (segment_lines airport.now segment windows.now)) }
-    ensures err { OnErr result (IsCutShort (lines_text (segment_lines airport.now segment windows.now)) out.old.items out.new.items) }
+    requires steps { All (λ step. HasArc airport.now step.arc) steps.now }
+    requires labels { All (λ label. HasArc airport.now label.arc) labels.now }
+    ensures ok { OnOk result (out.new.items ≡ out.old.items ++ block_text airport.now (Route flight.now second steps.now labels.now)) }
+    ensures err { OnErr result (IsCutShort (block_text airport.now (Route flight.now second steps.now labels.now)) out.old.items out.new.items) }
 {
-    push_text(&windows_head(airport, segment, windows.len()), out)?;
-    for window in windows {
-        push_text(&window_line(window), out)?;
-    }
-    Ok(())
+    let mut line = LineBuffer::new();
+    write_route_head(flight, second, steps.len(), labels.len(), &mut line);
+    print_line_and_rows(airport, &mut line, steps, labels, out)
 }
 
-fn windows_head(airport: &Airport, segment: Segment, count: usize) -> ShortText
-    requires { segment.0 < length airport.now.segments }
-    ensures { result ≡ line_text (codes "windows" ∷ segment_word airport.now segment ∷ decimal count ∷ []) }
+// Writes the line as it stands, the steps and the labels.
+fn print_line_and_rows(
+    airport: &Airport,
+    line: &mut LineBuffer,
+    steps: &[Step],
+    labels: &[LabelRow],
+    out: &mut Vec<u8>,
+) -> Result<(), Memory>
+    requires steps { All (λ step. HasArc airport.now step.arc) steps.now }
+    requires labels { All (λ label. HasArc airport.now label.arc) labels.now }
+    ensures ok { OnOk result (out.new.items ≡ out.old.items ++ (line.old ++ (rows_text (step_words airport.now) steps.now ++ rows_text (label_words airport.now) labels.now))) }
+    ensures err { OnErr result (IsCutShort (line.old ++ (rows_text (step_words airport.now) steps.now ++ rows_text (label_words airport.now) labels.now)) out.old.items out.new.items) }
 {
-    let mut text = begin_line(b"windows");
-    push_word(&mut text, airport.segment_name(segment).bytes());
-    push_count(&mut text, count);
-    end_line(&mut text);
-    text
+    print_rows(airport, line, steps, out)?;
+    line.clear();
+    print_rows(airport, line, labels, out)
 }
 
-fn window_line(window: &Span) -> ShortText
-    ensures { result ≡ line_text (window_words window.now) }
+fn write_route_head(flight: &Name, second: Time, steps: usize, labels: usize, line: &mut LineBuffer)
+    ensures { line.new ≡ line_text (codes "route" ∷ flight.now ∷ decimal second ∷ decimal steps ∷ decimal labels ∷ []) }
 {
-    let mut text = begin_line(b"window");
-    push_decimal(&mut text, window.from);
-    push_decimal(&mut text, window.until);
-    end_line(&mut text);
-    text
+    line.begin();
+    line.put_number(labels as u64);
+    line.put(b" ");
+    line.put_number(steps as u64);
+    line.put(b" ");
+    line.put_number(u64::from(second));
+    line.put(b" ");
+    line.put(flight.bytes());
+    line.put(b"route ");
 }
 
-fn push_text(text: &ShortText, out: &mut Vec<u8>) -> Result<(), Memory>
-    ensures ok { OnOk result (out.new.items ≡ out.old.items ++ text.now) }
-    ensures err { OnErr result (out.new.items ≡ out.old.items) }
+fn write_no_route_head(labels: usize, line: &mut LineBuffer)
+    ensures { line.new ≡ line_text (codes "no-route" ∷ decimal labels ∷ []) }
 {
-    push_bytes(out, text.bytes())
+    line.begin();
+    line.put_number(labels as u64);
+    line.put(b"no-route ");
+}
+
+fn write_windows_head(airport: &Airport, segment: Segment, windows: usize, line: &mut LineBuffer)
+    requires { HasSegment airport.now segment }
+    ensures { line.new ≡ line_text (codes "windows" ∷ segment_word airport.now segment ∷ decimal windows ∷ []) }
+{
+    line.begin();
+    line.put_number(windows as u64);
+    line.put(b" ");
+    line.put_segment(airport, segment);
+    line.put(b"windows ");
 }

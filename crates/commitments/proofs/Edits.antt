@@ -1,25 +1,45 @@
 -- What a place among the names says of the flights, and what they are after an edit there.
-use Rattle.std.proofs.Common.{◌≡◌, ◌≢◌, ℕ, zero, suc, ◌<◌, ◌≤◌, IsTrue, List, [], ◌∷◌, length, get_or, insert, take, drop, not, Some, None, refl, sym, ◌∙◌, arith}
+use Rattle.std.proofs.Common.{◌≡◌, ◌≢◌, ℕ, zero, suc, ◌+◌, add-one, ap, ◌<◌, ◌≤◌, IsTrue, List, [], ◌∷◌, length, get_or, insert, take, drop, not, Some, None, refl, sym, ◌∙◌, arith}
 use Rattle.std.specs.Prelude.{All, AllPairs, IsSome, Result, Ok, Err, IsErr, bytes_eq, slice_get}
 use Rattle.std.specs.List.{AllWithin, remove}
-use Rattle.std.proofs.lemmas.List.Elements.{All-cons, All-append, All-take, All-drop, All-filter}
-use Rattle.std.proofs.lemmas.List.Kept.{AllPairs-cons, AllPairs-filter}
+use Rattle.std.specs.Result.{result_ok}
+use Rattle.std.proofs.lemmas.List.Elements.{All-cons, All-append, All-take, All-drop}
+use Rattle.std.proofs.lemmas.List.Kept.{AllPairs-cons}
+use Rattle.std.proofs.lemmas.List.Quantifiers.{all_pairs_remove}
 use Rattle.std.proofs.lemmas.Option.{slice_get-get_or}
 use Rattle.slab.specs.Slab.{Slab, get, Updates}
 use Rattle.taxi_base.specs.declared.answers.Flight.{Flight}
-use Rattle.taxi_base.specs.State.{State, name_precedes, flight_named, without, with_flight}
+use Rattle.taxi_base.specs.State.{name_precedes, flight_named, flights_without, flights_with}
 use Rattle.taxi_base.proofs.ListLaws.{AllPairs-first, AllPairs-rest}
 use Rattle.commitments.specs.Book.{IsBook, flights_of, AreNamed}
-use Rattle.commitments.specs.Places.{AreInOrder, IsPlace}
+use Rattle.commitments.specs.Places.{AreInOrder, IsPlace, IsFlightPlace}
 use Rattle.commitments.proofs.Names.{Precedes, find-here, remove-here, absent-find, absent-without, gap-absent, insert-gap}
 use Rattle.commitments.proofs.Stored.{Names, AreStored, stored_from_named, view-stored, named_from_stored, length-stored, get-stored, some_flight, names-ordered, vacant-other, stored-insert, stored-remove}
 
+-- ---- one flight left out
+
+remove-nil : (place : ℕ) → remove {X = Flight} [] place ≡ []
+remove-nil zero = refl
+remove-nil (suc place) = refl
+
+pub left_out-before : (fs : List Flight) (place at : ℕ) → at < place → slice_get (remove fs place) at ≡ slice_get fs at
+left_out-before [] place at before = ap (λ (gs : List Flight). slice_get gs at) (remove-nil place)
+left_out-before (f ∷ fs) zero at before = absurd (omega arith)
+left_out-before (f ∷ fs) (suc place) zero before = refl
+left_out-before (f ∷ fs) (suc place) (suc at) before = left_out-before fs place at (omega arith)
+
+pub left_out-behind : (fs : List Flight) (place at : ℕ) → place ≤ at → slice_get (remove fs place) at ≡ slice_get fs (at + 1)
+left_out-behind [] place at behind = ap (λ (gs : List Flight). slice_get gs at) (remove-nil place)
+left_out-behind (f ∷ fs) zero at behind = rw add-one refl
+left_out-behind (f ∷ fs) (suc place) zero behind = absurd (omega arith)
+left_out-behind (f ∷ fs) (suc place) (suc at) behind = rw add-one (left_out-behind fs place at (omega arith) ∙ rw add-one refl)
+
 -- ---- one flight more
 
-All-insert : (P : Flight → Type 0) (fs : State) (place : ℕ) (x : Flight) → P x → All P fs → All P (insert fs place x)
+All-insert : (P : Flight → Type 0) (fs : List Flight) (place : ℕ) (x : Flight) → P x → All P fs → All P (insert fs place x)
 All-insert P fs place x here all = All-append P (take place fs) (x ∷ drop place fs) (All-take P place fs all) (All-cons P x (drop place fs) here (All-drop P place fs all))
 
-ordered-insert : (x : Flight) (fs : State) (place : ℕ) → place ≤ length fs → AllPairs Precedes fs → AllWithin (λ f. Precedes f x) fs 0 place
+ordered-insert : (x : Flight) (fs : List Flight) (place : ℕ) → place ≤ length fs → AllPairs Precedes fs → AllWithin (λ f. Precedes f x) fs 0 place
     → AllWithin (Precedes x) fs place (length fs) → AllPairs Precedes (insert fs place x)
 ordered-insert x fs zero low ordered before after = AllPairs-cons Precedes x fs (λ k d within. after k d (omega arith) within) ordered
 ordered-insert x [] (suc place) low ordered before after = absurd (omega arith)
@@ -92,16 +112,34 @@ module _ (s : Slab Flight) (ns : Names) (intact : IsKept s ns) where
     absent : All (λ f. f.name ≢ name) (flights_of s ns)
     absent = gap-absent name (flights_of s ns) place flights-before flights-after
 
-    pub gap-named : flight_named name (flights_of s ns) ≡ None
-    gap-named = absent-find name (flights_of s ns) absent
+    pub gap-place : IsFlightPlace (flights_of s ns) name None
+    gap-place = record {
+      here = tt;
+      named = tt;
+      others = tt;
+      none = absent-find name (flights_of s ns) absent;
+      all = absent-without name (flights_of s ns) absent;
+    }
 
-    pub gap-without : without name (flights_of s ns) ≡ flights_of s ns
-    gap-without = absent-without name (flights_of s ns) absent
+  -- the place of a name among the names is that of its flight
+  pub flight-place : (name : List ℕ) (place : Result ℕ ℕ) → IsPlace ns name place → IsFlightPlace (flights_of s ns) name (result_ok place)
+  flight-place name (Err k) is_place = gap-place name k is_place
+  flight-place name (Ok k) is_place =
+      let long = length-names in
+      let low : k < length ns = is_place.here in
+      let g : Flight = some_flight (flights_of s ns) (omega arith) in
+      record {
+        here = omega arith;
+        named = sym (flight-named name k is_place);
+        others = remove-here name (flights_of s ns) k g intact.1.ordered (omega arith) ((get-stored s ns (flights_of s ns) stored k ([], 0) g low).1 ∙ is_place.named ([], 0));
+        none = tt;
+        all = tt;
+      }
 
   module _ (new : Slab Flight) (key : ℕ) where
     -- the names and flights after a commit at the gap of a name
     pub record IsCommitted (x : Flight) (names : Names) : Type 0 where
-      pub flights : flights_of new names ≡ with_flight x (flights_of s ns)
+      pub flights : flights_of new names ≡ flights_with x (flights_of s ns)
       pub kept : IsKept new names
 
     pub committed : (x : Flight) (place : ℕ) → Updates s new key (Some x) → get s key ≡ None → 1 ≤ length x.steps → IsPlace ns x.name (Err place)
@@ -123,29 +161,25 @@ module _ (s : Slab Flight) (ns : Names) (intact : IsKept s ns) where
           );
         }
 
-    -- and after a cancel at the place of a name
-    pub record IsCancelled (name : List ℕ) (names : Names) : Type 0 where
-      pub flights : flights_of new names ≡ without name (flights_of s ns)
+    -- and after a cancel at a place
+    pub record IsCancelled (place : ℕ) (names : Names) : Type 0 where
+      pub flights : flights_of new names ≡ remove (flights_of s ns) place
       pub kept : IsKept new names
 
-    pub cancelled : (name : List ℕ) (place : ℕ) (d : List ℕ × ℕ) → Updates s new key None → (get_or ns place d).1 ≡ key
-        → IsPlace ns name (Ok place) → IsCancelled name (remove ns place)
-    cancelled name place d u here is_place =
+    pub cancelled : (place : ℕ) (d : List ℕ × ℕ) → Updates s new key None → (get_or ns place d).1 ≡ key → place < length ns → IsCancelled place (remove ns place)
+    cancelled place d u here low =
         let long = length-names in
-        let low : place < length ns = is_place.here in
-        let g : Flight = some_flight (flights_of s ns) (omega arith) in
         let left : AreStored new (remove ns place) (remove (flights_of s ns) place) =
         stored-remove s new key u ns (flights_of s ns) place d intact.1.ordered low here stored in
-        let view : flights_of new (remove ns place) ≡ without name (flights_of s ns) =
-        view-stored new (remove ns place) (remove (flights_of s ns) place) left
-        ∙ remove-here name (flights_of s ns) place g intact.1.ordered (omega arith) ((get-stored s ns (flights_of s ns) stored place ([], 0) g low).1 ∙ is_place.named ([], 0)) in
+        let view : flights_of new (remove ns place) ≡ remove (flights_of s ns) place = view-stored new (remove ns place) (remove (flights_of s ns) place) left in
         record {
           flights = view;
           kept = (
             named_from_stored new (remove ns place) (remove (flights_of s ns) place) left,
             rw view (record {
-              ordered = AllPairs-filter Precedes (λ (f : Flight). not (bytes_eq f.name name)) (flights_of s ns) intact.1.ordered;
-              routed = All-filter (λ (f : Flight). not (bytes_eq f.name name)) (λ f. 1 ≤ length f.steps) (flights_of s ns) intact.1.routed;
+              ordered = all_pairs_remove Precedes (flights_of s ns) place (omega arith) intact.1.ordered;
+              routed = All-append (λ f. 1 ≤ length f.steps) (take place (flights_of s ns)) (drop (suc place) (flights_of s ns))
+                  (All-take (λ f. 1 ≤ length f.steps) place (flights_of s ns) intact.1.routed) (All-drop (λ f. 1 ≤ length f.steps) (suc place) (flights_of s ns) intact.1.routed);
             }),
           );
         }

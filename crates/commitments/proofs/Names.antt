@@ -6,11 +6,11 @@ use Rattle.std.specs.Ordering.{nat_cmp, is_lt, is_eq}
 use Rattle.std.specs.declared.cmp.Ordering.{Ordering}
 use Rattle.std.specs.declared.cmp.Ordering.TheVariants.{Less, Equal, Greater}
 use Rattle.std.specs.Cmp.Lexicographic.{slice_cmp, bytes_decides}
-use Rattle.std.proofs.lemmas.Bool.{false_from_ne_true, cond_both, cases_lt}
+use Rattle.std.proofs.lemmas.Bool.{false_from_ne_true, cond_both, cases_lt, cases_Bool}
 use Rattle.std.proofs.lemmas.List.Elements.{All-nil, All-cons, All-head, All-tail}
 use Rattle.std.proofs.lemmas.Cmp.{nat_list_cmp_total, tied_itself}
 use Rattle.taxi_base.specs.declared.answers.Flight.{Flight}
-use Rattle.taxi_base.specs.State.{State, name_precedes, flight_named, without, with_flight}
+use Rattle.taxi_base.specs.State.{name_precedes, flight_named, flights_without, flights_with}
 use Rattle.std.specs.List.Sorted.{IsSearchInRange, IsBinarySearchResult, IsNonDecreasingBy}
 use Rattle.std.specs.Prelude.{Result, Ok, Err}
 use Rattle.std.specs.Ordering.{ordering_index, ordering_reverse}
@@ -50,34 +50,37 @@ same a b e = (bytes_decides a b).1 e
 
 -- ---- a name that no flight has
 
-pub absent-find : (name : List ℕ) (fs : State) → All (λ f. f.name ≢ name) fs → flight_named name fs ≡ None
+pub absent-find : (name : List ℕ) (fs : List Flight) → All (λ f. f.name ≢ name) fs → flight_named name fs ≡ None
 absent-find name [] none = refl
 absent-find name (f ∷ fs) none =
     rw (differ f.name name (none 0 f (omega arith))) (absent-find name fs (λ k d low. none (suc k) d (omega arith)))
 
-pub absent-without : (name : List ℕ) (fs : State) → All (λ f. f.name ≢ name) fs → without name fs ≡ fs
+pub absent-without : (name : List ℕ) (fs : List Flight) → All (λ f. f.name ≢ name) fs → flights_without name fs ≡ fs
 absent-without name [] none = refl
 absent-without name (f ∷ fs) none =
-    rw (differ f.name name (none 0 f (omega arith))) (ap (λ (gs : State). f ∷ gs) (absent-without name fs (λ k d low. none (suc k) d (omega arith))))
+    rw (differ f.name name (none 0 f (omega arith))) (ap (λ (gs : List Flight). f ∷ gs) (absent-without name fs (λ k d low. none (suc k) d (omega arith))))
 
--- where none of the flights has a name, each has another
-pub find-absent : (name : List ℕ) (fs : State) → flight_named name fs ≡ None → All (λ f. IsFalse (bytes_eq f.name name)) fs
-find-absent name [] none = All-nil (λ f. IsFalse (bytes_eq f.name name))
-find-absent name (f ∷ fs) none =
-    cond_both (bytes_eq f.name name) (Some f) (flight_named name fs) (λ o. o ≡ None → All (λ f. IsFalse (bytes_eq f.name name)) (f ∷ fs)) (λ _ h. absurd (cc h))
-    (λ other h. All-cons (λ f. IsFalse (bytes_eq f.name name)) f fs other (find-absent name fs h)) none
+-- none of the flights left without a name has it
+pub absent-left : (name : List ℕ) (fs : List Flight) → flight_named name (flights_without name fs) ≡ None
+absent-left name [] = refl
+absent-left name (f ∷ fs) =
+    elim (cases_Bool (bytes_eq f.name name)) [
+      | inl here ↦ rw here (absent-left name fs)
+      | inr other ↦ rw (other, other) (absent-left name fs)
+    ]
 
--- what holds of each of some flights holds of one that is found among them
-pub find-holds : (test : Flight → Bool) (P : Flight → Type 0) (fs : State) (x : Flight) → All P fs → find test fs ≡ Some x → P x
-find-holds test P [] x all found = absurd (cc found)
-find-holds test P (f ∷ fs) x all found =
-    cond_both (test f) (Some f) (find test fs) (λ o. o ≡ Some x → P x) (λ _ here. let same : f ≡ x = cc here in subst P same (All-head P f fs all))
-    (λ _ there. find-holds test P fs x (All-tail P f fs all) there) found
+-- a flight that is found by a name has it
+pub find-named : (name : List ℕ) (fs : List Flight) (x : Flight) → flight_named name fs ≡ Some x → x.name ≡ name
+find-named name [] x found = absurd (cc found)
+find-named name (f ∷ fs) x found =
+    cond_both (bytes_eq f.name name) (Some f) (flight_named name fs) (λ o. o ≡ Some x → x.name ≡ name)
+    (λ same here. let one : f ≡ x = cc here in subst (λ (g : Flight). g.name ≡ name) one ((bytes_decides f.name name).0 same))
+    (λ _ there. find-named name fs x there) found
 
 -- ---- the name at a place
 
 module _ (name : List ℕ) where
-  pub find-here : (fs : State) (place : ℕ) (d : Flight) → AllPairs Precedes fs → place < length fs → (get_or fs place d).name ≡ name
+  pub find-here : (fs : List Flight) (place : ℕ) (d : Flight) → AllPairs Precedes fs → place < length fs → (get_or fs place d).name ≡ name
       → flight_named name fs ≡ Some (get_or fs place d)
   find-here [] place d ordered low named = absurd (omega arith)
   find-here (f ∷ fs) zero d ordered low named = rw (same f.name name named) refl
@@ -85,20 +88,20 @@ module _ (name : List ℕ) where
       let other : f.name ≢ name = λ e. precedes_itself f.name (get_or fs place d).name (AllPairs-first Precedes f fs ordered place d (omega arith)) (e ∙ sym named) in
       rw (differ f.name name other) (find-here fs place d (AllPairs-rest Precedes f fs ordered) (omega arith) named)
 
-  pub remove-here : (fs : State) (place : ℕ) (d : Flight) → AllPairs Precedes fs → place < length fs → (get_or fs place d).name ≡ name
-      → remove fs place ≡ without name fs
+  pub remove-here : (fs : List Flight) (place : ℕ) (d : Flight) → AllPairs Precedes fs → place < length fs → (get_or fs place d).name ≡ name
+      → remove fs place ≡ flights_without name fs
   remove-here [] place d ordered low named = absurd (omega arith)
   remove-here (f ∷ fs) zero d ordered low named =
       rw (same f.name name named) (sym (absent-without name fs (λ k e within e'.
       precedes_itself f.name (get_or fs k e).name (AllPairs-first Precedes f fs ordered k e within) (named ∙ sym e'))))
   remove-here (f ∷ fs) (suc place) d ordered low named =
       let other : f.name ≢ name = λ e. precedes_itself f.name (get_or fs place d).name (AllPairs-first Precedes f fs ordered place d (omega arith)) (e ∙ sym named) in
-      rw (differ f.name name other) (ap (λ (gs : State). f ∷ gs) (remove-here fs place d (AllPairs-rest Precedes f fs ordered) (omega arith) named))
+      rw (differ f.name name other) (ap (λ (gs : List Flight). f ∷ gs) (remove-here fs place d (AllPairs-rest Precedes f fs ordered) (omega arith) named))
 
 -- ---- the place of a name that no flight has
 
 module _ (name : List ℕ) where
-  pub gap-absent : (fs : State) (place : ℕ) → AllWithin (λ f. IsTrue (name_precedes f.name name)) fs 0 place
+  pub gap-absent : (fs : List Flight) (place : ℕ) → AllWithin (λ f. IsTrue (name_precedes f.name name)) fs 0 place
       → AllWithin (λ f. IsTrue (name_precedes name f.name)) fs place (length fs) → All (λ f. f.name ≢ name) fs
   gap-absent fs place before after k d low e =
       elim (cases_lt k place) [
@@ -106,14 +109,14 @@ module _ (name : List ℕ) where
         | inr h ↦ precedes_itself name (get_or fs k d).name (after k d h low) (sym e)
       ]
 
-pub insert-gap : (x : Flight) (fs : State) (place : ℕ) → place ≤ length fs → AllWithin (λ f. IsTrue (name_precedes f.name x.name)) fs 0 place
-    → AllWithin (λ f. IsTrue (name_precedes x.name f.name)) fs place (length fs) → insert fs place x ≡ with_flight x fs
+pub insert-gap : (x : Flight) (fs : List Flight) (place : ℕ) → place ≤ length fs → AllWithin (λ f. IsTrue (name_precedes f.name x.name)) fs 0 place
+    → AllWithin (λ f. IsTrue (name_precedes x.name f.name)) fs place (length fs) → insert fs place x ≡ flights_with x fs
 insert-gap x [] zero low before after = refl
 insert-gap x [] (suc place) low before after = absurd (omega arith)
 insert-gap x (f ∷ fs) zero low before after = rw (after 0 f (omega arith) (omega arith)) refl
 insert-gap x (f ∷ fs) (suc place) low before after =
     rw (precedes_back f.name x.name (before 0 f (omega arith) (omega arith)))
-    (ap (λ (gs : State). f ∷ gs) (insert-gap x fs place (omega arith) (λ k d from until. before (suc k) d (omega arith) (omega arith)) (λ k d from until. after (suc k) d (omega arith) (omega arith))))
+    (ap (λ (gs : List Flight). f ∷ gs) (insert-gap x fs place (omega arith) (λ k d from until. before (suc k) d (omega arith) (omega arith)) (λ k d from until. after (suc k) d (omega arith) (omega arith))))
 
 -- ---- a search among names
 

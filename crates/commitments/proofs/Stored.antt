@@ -4,7 +4,6 @@ use Rattle.std.specs.Prelude.{IsSomeAnd, All, AllPairs, ⊤}
 use Rattle.std.specs.List.{remove}
 use Rattle.slab.specs.Slab.{Slab, get, Updates}
 use Rattle.taxi_base.specs.declared.answers.Flight.{Flight}
-use Rattle.taxi_base.specs.State.{State}
 use Rattle.taxi_base.proofs.ListLaws.{AllPairs-first, AllPairs-rest}
 use Rattle.commitments.specs.Book.{flights_of, AreNamed}
 use Rattle.commitments.specs.Places.{AreInOrder}
@@ -14,7 +13,7 @@ abbrev pub Names : Type 0
 Names = List (List ℕ × ℕ)
 
 -- each name in turn has a key, and the slab has the flight of that name there
-abbrev pub AreStored : Slab Flight → Names → State → Type 0
+abbrev pub AreStored : Slab Flight → Names → List Flight → Type 0
 AreStored s [] [] = ⊤
 AreStored s [] (f ∷ fs) = ⊥
 AreStored s (n ∷ ns) [] = ⊥
@@ -33,30 +32,30 @@ stored_from_named s (n ∷ ns) named =
     let first = named-first s n (get s n.1) refl (named 0 n (omega arith)) in
     rw first.1 (first.1, first.2, stored_from_named s ns (λ k d low. named (suc k) d (omega arith)))
 
-pub view-stored : (s : Slab Flight) (ns : Names) (fs : State) → AreStored s ns fs → flights_of s ns ≡ fs
+pub view-stored : (s : Slab Flight) (ns : Names) (fs : List Flight) → AreStored s ns fs → flights_of s ns ≡ fs
 view-stored s [] [] stored = refl
 view-stored s [] (f ∷ fs) stored = absurd stored
 view-stored s (n ∷ ns) [] stored = absurd stored
-view-stored s (n ∷ ns) (f ∷ fs) stored = rw stored.0 (ap (λ (gs : State). f ∷ gs) (view-stored s ns fs stored.2))
+view-stored s (n ∷ ns) (f ∷ fs) stored = rw stored.0 (ap (λ (gs : List Flight). f ∷ gs) (view-stored s ns fs stored.2))
 
-pub named_from_stored : (s : Slab Flight) (ns : Names) (fs : State) → AreStored s ns fs → AreNamed s ns
+pub named_from_stored : (s : Slab Flight) (ns : Names) (fs : List Flight) → AreStored s ns fs → AreNamed s ns
 named_from_stored s [] fs stored k d low = absurd (omega arith)
 named_from_stored s (n ∷ ns) [] stored k d low = absurd stored
 named_from_stored s (n ∷ ns) (f ∷ fs) stored zero d low = rw stored.0 stored.1
 named_from_stored s (n ∷ ns) (f ∷ fs) stored (suc k) d low = named_from_stored s ns fs stored.2 k d (omega arith)
 
-pub length-stored : (s : Slab Flight) (ns : Names) (fs : State) → AreStored s ns fs → length ns ≡ length fs
+pub length-stored : (s : Slab Flight) (ns : Names) (fs : List Flight) → AreStored s ns fs → length ns ≡ length fs
 length-stored s [] [] stored = refl
 length-stored s [] (f ∷ fs) stored = absurd stored
 length-stored s (n ∷ ns) [] stored = absurd stored
 length-stored s (n ∷ ns) (f ∷ fs) stored = ap suc (length-stored s ns fs stored.2)
 
-pub some_flight : (fs : State) → 0 < length fs → Flight
+pub some_flight : (fs : List Flight) → 0 < length fs → Flight
 some_flight [] h = absurd (omega arith)
 some_flight (f ∷ fs) h = f
 
 -- the flight and the name at a place
-pub get-stored : (s : Slab Flight) (ns : Names) (fs : State) → AreStored s ns fs → (k : ℕ) (d : List ℕ × ℕ) (e : Flight) → k < length ns
+pub get-stored : (s : Slab Flight) (ns : Names) (fs : List Flight) → AreStored s ns fs → (k : ℕ) (d : List ℕ × ℕ) (e : Flight) → k < length ns
     → (get s (get_or ns k d).1 ≡ Some (get_or fs k e)) × ((get_or fs k e).name ≡ (get_or ns k d).0)
 get-stored s [] fs stored k d e low = absurd (omega arith)
 get-stored s (n ∷ ns) [] stored k d e low = absurd stored
@@ -64,7 +63,7 @@ get-stored s (n ∷ ns) (f ∷ fs) stored zero d e low = (stored.0, stored.1)
 get-stored s (n ∷ ns) (f ∷ fs) stored (suc k) d e low = get-stored s ns fs stored.2 k d e (omega arith)
 
 -- the names rise as the flights do
-pub names-ordered : (s : Slab Flight) (ns : Names) (fs : State) → AllPairs Precedes fs → AreStored s ns fs → AreInOrder ns
+pub names-ordered : (s : Slab Flight) (ns : Names) (fs : List Flight) → AllPairs Precedes fs → AreStored s ns fs → AreInOrder ns
 names-ordered s ns fs ordered stored i j d low high =
     let long = length-stored s ns fs stored in
     let g : Flight = some_flight fs (omega arith) in
@@ -75,7 +74,7 @@ names-ordered s ns fs ordered stored i j d low high =
 -- ---- a key that comes or goes
 
 -- an update at another key leaves what is stored
-pub stored-kept : (old new : Slab Flight) (key : ℕ) (o : Option Flight) → Updates old new key o → (ns : Names) (fs : State) → All (λ n. n.1 ≢ key) ns
+pub stored-kept : (old new : Slab Flight) (key : ℕ) (o : Option Flight) → Updates old new key o → (ns : Names) (fs : List Flight) → All (λ n. n.1 ≢ key) ns
     → AreStored old ns fs → AreStored new ns fs
 stored-kept old new key o u [] [] others stored = tt
 stored-kept old new key o u [] (f ∷ fs) others stored = absurd stored
@@ -84,7 +83,7 @@ stored-kept old new key o u (n ∷ ns) (f ∷ fs) others stored =
     (u.others n.1 (others 0 n (omega arith)) ∙ stored.0, stored.1, stored-kept old new key o u ns fs (λ k d low. others (suc k) d (omega arith)) stored.2)
 
 -- a key with no flight is no name's
-pub vacant-other : (s : Slab Flight) (key : ℕ) (ns : Names) (fs : State) → get s key ≡ None → AreStored s ns fs → All (λ n. n.1 ≢ key) ns
+pub vacant-other : (s : Slab Flight) (key : ℕ) (ns : Names) (fs : List Flight) → get s key ≡ None → AreStored s ns fs → All (λ n. n.1 ≢ key) ns
 vacant-other s key ns fs vacant stored k d low e =
     let long = length-stored s ns fs stored in
     let g : Flight = some_flight fs (omega arith) in
@@ -92,7 +91,7 @@ vacant-other s key ns fs vacant stored k d low e =
     let there' : get s key ≡ Some (get_or fs k g) = subst (λ x. get s x ≡ Some (get_or fs k g)) e there in
     cc
 
-pub stored-insert : (old new : Slab Flight) (key : ℕ) (x : Flight) → Updates old new key (Some x) → (ns : Names) (fs : State) (place : ℕ) → All (λ n. n.1 ≢ key) ns
+pub stored-insert : (old new : Slab Flight) (key : ℕ) (x : Flight) → Updates old new key (Some x) → (ns : Names) (fs : List Flight) (place : ℕ) → All (λ n. n.1 ≢ key) ns
     → place ≤ length ns → AreStored old ns fs → AreStored new (insert ns place (x.name, key)) (insert fs place x)
 stored-insert old new key x u ns fs zero others low stored = (u.changed, refl, stored-kept old new key (Some x) u ns fs others stored)
 stored-insert old new key x u [] fs (suc place) others low stored = absurd (omega arith)
@@ -104,7 +103,7 @@ stored-insert old new key x u (n ∷ ns) (f ∷ fs) (suc place) others low store
 )
 
 -- the keys of flights in order differ
-pub later-other : (s : Slab Flight) (key : ℕ) (f : Flight) (ns : Names) (fs : State) → get s key ≡ Some f → All (Precedes f) fs → AreStored s ns fs → All (λ n. n.1 ≢ key) ns
+pub later-other : (s : Slab Flight) (key : ℕ) (f : Flight) (ns : Names) (fs : List Flight) → get s key ≡ Some f → All (Precedes f) fs → AreStored s ns fs → All (λ n. n.1 ≢ key) ns
 later-other s key f ns fs here after stored k d low e =
     let long = length-stored s ns fs stored in
     let there = (get-stored s ns fs stored k d f low).0 in
@@ -112,7 +111,7 @@ later-other s key f ns fs here after stored k d low e =
     let one : f ≡ get_or fs k f = cc in
     precedes_itself f.name (get_or fs k f).name (after k f (omega arith)) (ap (λ (x : Flight). x.name) one)
 
-pub stored-remove : (old new : Slab Flight) (key : ℕ) → Updates old new key None → (ns : Names) (fs : State) (place : ℕ) (d : List ℕ × ℕ) → AllPairs Precedes fs
+pub stored-remove : (old new : Slab Flight) (key : ℕ) → Updates old new key None → (ns : Names) (fs : List Flight) (place : ℕ) (d : List ℕ × ℕ) → AllPairs Precedes fs
     → place < length ns → (get_or ns place d).1 ≡ key → AreStored old ns fs → AreStored new (remove ns place) (remove fs place)
 stored-remove old new key u [] fs place d ordered low here stored = absurd (omega arith)
 stored-remove old new key u (n ∷ ns) [] place d ordered low here stored = absurd stored

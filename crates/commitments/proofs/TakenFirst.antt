@@ -4,14 +4,15 @@ use Rattle.std.specs.Prelude.{option_map, find, nat_lt, slice_get}
 use Rattle.std.specs.Option.{option_or}
 use Rattle.std.proofs.lemmas.Bool.{cases_lt, cond_both, ltb-true, ltb-false, or_left, or_right}
 use Rattle.std.proofs.lemmas.List.Folds.{find-append, list_any-append}
-use Rattle.std.proofs.lemmas.List.{map-append, take_more}
+use Rattle.std.proofs.lemmas.List.{map_more, take_more}
 use Rattle.std.proofs.lemmas.Option.{get_or_from_slice_get}
 use Rattle.taxi_base.specs.declared.numbers.Segment.{Segment}
 use Rattle.taxi_base.specs.declared.rows.Span.{Span}
 use Rattle.taxi_base.specs.declared.rows.Step.{Step}
 use Rattle.taxi_base.specs.declared.answers.Flight.{Flight}
-use Rattle.taxi_base.specs.Windows.{blocks, hold_of, holds_of}
-use Rattle.taxi_base.specs.State.{State}
+use Rattle.taxi_base.specs.Airport.{Airport}
+use Rattle.taxi_base.specs.Windows.{Hold, blocks, hold_of, holds_of}
+use Rattle.taxi_base.specs.State.{flight_holds}
 use Rattle.commitments.specs.Taken.{IsFirst, earlier, sooner, takes, holder, IsFirstTaken}
 
 -- ---- several tests
@@ -41,20 +42,22 @@ module _ (p q : ℕ → Bool) (span : Span) where
 IsFirst-same : (p q : ℕ → Bool) (span : Span) (r : Option ℕ) → ((t : ℕ) → p t ≡ q t) → IsFirst p span r → IsFirst q span r
 IsFirst-same p q span r agree first = subst (λ (f : ℕ → Bool). IsFirst f span r) (λ i t. agree t i) first
 
--- one step more of a route
-takes-more : (sets : List (List Segment)) (s : Segment) (steps : List Step) (step : Step) (t : ℕ)
-    → (takes sets s steps t || blocks sets s t (hold_of step)) ≡ takes sets s (steps ++ step ∷ []) t
-takes-more sets s steps step t =
-    sym (rw map-append (list_any-append (blocks sets s t) (holds_of steps) (holds_of (step ∷ [])) ∙ ap (λ b. takes sets s steps t || b) (or-false (blocks sets s t (hold_of step)))))
+-- one hold more
+takes-more : (sets : List (List Segment)) (s : Segment) (holds : List Hold) (hold : Hold) (t : ℕ)
+    → (takes sets s holds t || blocks sets s t hold) ≡ takes sets s (holds ++ hold ∷ []) t
+takes-more sets s holds hold t =
+    sym (list_any-append (blocks sets s t) holds (hold ∷ []) ∙ ap (λ b. takes sets s holds t || b) (or-false (blocks sets s t hold)))
 
-pub route-more : (sets : List (List Segment)) (s : Segment) (span : Span) (route : List Step) (k : ℕ) (d : Step) (r q : Option ℕ) → k < length route
-    → IsFirst (takes sets s (take k route)) span r → IsFirst (λ t. blocks sets s t (hold_of (get_or route k d))) span q
-    → IsFirst (takes sets s (take (k + 1) route)) span (earlier r q)
-route-more sets s span route k d r q low first further =
-    rw (take_more route k d low)
-    (IsFirst-same (λ t. takes sets s (take k route) t || blocks sets s t (hold_of (get_or route k d))) (takes sets s (take k route ++ get_or route k d ∷ [])) span (earlier r q)
-    (takes-more sets s (take k route) (get_or route k d))
-    (first-either (takes sets s (take k route)) (λ t. blocks sets s t (hold_of (get_or route k d))) span r q first further))
+-- one step more of a route
+pub route-more : (sets : List (List Segment)) (s : Segment) (span : Span) (horizon clearance : ℕ) (route : List Step) (k : ℕ) (d : Step) (r q : Option ℕ) → k < length route
+    → IsFirst (takes sets s (holds_of horizon clearance (take k route))) span r → IsFirst (λ t. blocks sets s t (hold_of horizon clearance (get_or route k d))) span q
+    → IsFirst (takes sets s (holds_of horizon clearance (take (k + 1) route))) span (earlier r q)
+route-more sets s span horizon clearance route k d r q low first further =
+    let before : List Hold = holds_of horizon clearance (take k route) in
+    let hold : Hold = hold_of horizon clearance (get_or route k d) in
+    rw (map_more (hold_of horizon clearance) route k d low)
+    (IsFirst-same (λ t. takes sets s before t || blocks sets s t hold) (takes sets s (before ++ hold ∷ [])) span (earlier r q)
+    (takes-more sets s before hold) (first-either (takes sets s before) (λ t. blocks sets s t hold) span r q first further))
 
 -- ---- one flight more
 
@@ -66,28 +69,28 @@ or-first : (name_of : Flight → List ℕ) (o p : Option Flight) (name : List �
 or-first name_of None p name h = absurd (cc h)
 or-first name_of (Some f) p name h = h
 
-module _ (sets : List (List Segment)) (s : Segment) (span : Span) (fs : State) (f : Flight) where
+module _ (airport : Airport) (s : Segment) (span : Span) (fs : List Flight) (f : Flight) where
   -- a flight that holds nothing then leaves the holder
-  keeps : (u : ℕ) → IsFalse (takes sets s f.steps u) → holder sets s (fs ++ f ∷ []) u ≡ holder sets s fs u
-  keeps u unheld = find-append (λ f. takes sets s f.steps u) fs (f ∷ []) ∙ rw unheld (or-none (holder sets s fs u))
+  keeps : (u : ℕ) → IsFalse (takes airport.conflicts s (flight_holds airport f) u) → holder airport s (fs ++ f ∷ []) u ≡ holder airport s fs u
+  keeps u unheld = find-append (λ f. takes airport.conflicts s (flight_holds airport f) u) fs (f ∷ []) ∙ rw unheld (or-none (holder airport s fs u))
 
   -- a flight that holds is the holder where there was none
-  is-holder : (u : ℕ) → holder sets s fs u ≡ None → IsTrue (takes sets s f.steps u) → holder sets s (fs ++ f ∷ []) u ≡ Some f
-  is-holder u none held = find-append (λ f. takes sets s f.steps u) fs (f ∷ []) ∙ rw (none, held) refl
+  is-holder : (u : ℕ) → holder airport s fs u ≡ None → IsTrue (takes airport.conflicts s (flight_holds airport f) u) → holder airport s (fs ++ f ∷ []) u ≡ Some f
+  is-holder u none held = find-append (λ f. takes airport.conflicts s (flight_holds airport f) u) fs (f ∷ []) ∙ rw (none, held) refl
 
-  still-holder : (u : ℕ) (name : List ℕ) → option_map (λ f. f.name) (holder sets s fs u) ≡ Some name → option_map (λ f. f.name) (holder sets s (fs ++ f ∷ []) u) ≡ Some name
+  still-holder : (u : ℕ) (name : List ℕ) → option_map (λ f. f.name) (holder airport s fs u) ≡ Some name → option_map (λ f. f.name) (holder airport s (fs ++ f ∷ []) u) ≡ Some name
   still-holder u name h =
-      rw (find-append (λ f. takes sets s f.steps u) fs (f ∷ [])) (or-first (λ f. f.name) (holder sets s fs u) (find (λ f. takes sets s f.steps u) (f ∷ [])) name h)
+      rw (find-append (λ f. takes airport.conflicts s (flight_holds airport f) u) fs (f ∷ [])) (or-first (λ f. f.name) (holder airport s fs u) (find (λ f. takes airport.conflicts s (flight_holds airport f) u) (f ∷ [])) name h)
 
   -- what is found first is kept where the flight holds nothing before it
-  kept-first : (e : ℕ) (name : List ℕ) → ((u : ℕ) → span.from ≤ u → u < e → IsFalse (takes sets s f.steps u)) → IsFirstTaken sets s span fs (Some (e, name))
-      → IsFirstTaken sets s span (fs ++ f ∷ []) (Some (e, name))
+  kept-first : (e : ℕ) (name : List ℕ) → ((u : ℕ) → span.from ≤ u → u < e → IsFalse (takes airport.conflicts s (flight_holds airport f) u)) → IsFirstTaken airport s span fs (Some (e, name))
+      → IsFirstTaken airport s span (fs ++ f ∷ []) (Some (e, name))
   kept-first e name unheld taken =
       (taken.0, taken.1, still-holder e name taken.2, λ u low high. keeps u (unheld u low high) ∙ taken.3 u low high)
 
   -- a flight is found first where it holds from a second on up to which none does
-  found-first : (t : ℕ) → IsFirst (takes sets s f.steps) span (Some t) → ((u : ℕ) → span.from ≤ u → u ≤ t → holder sets s fs u ≡ None)
-      → IsFirstTaken sets s span (fs ++ f ∷ []) (Some (t, f.name))
+  found-first : (t : ℕ) → IsFirst (takes airport.conflicts s (flight_holds airport f)) span (Some t) → ((u : ℕ) → span.from ≤ u → u ≤ t → holder airport s fs u ≡ None)
+      → IsFirstTaken airport s span (fs ++ f ∷ []) (Some (t, f.name))
   found-first t first none = (
     first.0,
     first.1,
@@ -96,18 +99,18 @@ module _ (sets : List (List Segment)) (s : Segment) (span : Span) (fs : State) (
   )
 
   -- one flight more
-  pub taken-more : (r : Option (ℕ × List ℕ)) (at : Option ℕ) → IsFirstTaken sets s span fs r → IsFirst (takes sets s f.steps) span at
-      → IsFirstTaken sets s span (fs ++ f ∷ []) (sooner r at f.name)
+  pub taken-more : (r : Option (ℕ × List ℕ)) (at : Option ℕ) → IsFirstTaken airport s span fs r → IsFirst (takes airport.conflicts s (flight_holds airport f)) span at
+      → IsFirstTaken airport s span (fs ++ f ∷ []) (sooner r at f.name)
   taken-more None None taken first = λ u low high. keeps u (first u low high) ∙ taken u low high
   taken-more (Some (e, n)) None taken first = kept-first e n (λ u low high. first u low (omega (arith, taken.1))) taken
   taken-more None (Some t) taken first = found-first t first (λ u low high. taken u low (omega (arith, first.1)))
   taken-more (Some (e, n)) (Some t) taken first =
-      cond_both (nat_lt t e) (Some (t, f.name)) (Some (e, n)) (IsFirstTaken sets s span (fs ++ f ∷ []))
+      cond_both (nat_lt t e) (Some (t, f.name)) (Some (e, n)) (IsFirstTaken airport s span (fs ++ f ∷ []))
       (λ before. let lt : t < e = ltb-true t e before in found-first t first (λ u low high. taken.3 u low (omega arith)))
       (λ after. let le : e ≤ t = omega (arith, ltb-false t e after) in kept-first e n (λ u low high. first.3 u low (omega arith)) taken)
 
-pub flights-more : (sets : List (List Segment)) (s : Segment) (span : Span) (fs : State) (k : ℕ) (f : Flight) (r : Option (ℕ × List ℕ)) (at : Option ℕ) → k < length fs
-    → slice_get fs k ≡ Some f → IsFirstTaken sets s span (take k fs) r → IsFirst (takes sets s f.steps) span at
-    → IsFirstTaken sets s span (take (k + 1) fs) (sooner r at f.name)
-flights-more sets s span fs k f r at low here taken first =
-    rw (take_more fs k f low, get_or_from_slice_get fs k f f here) (taken-more sets s span (take k fs) f r at taken first)
+pub flights-more : (airport : Airport) (s : Segment) (span : Span) (fs : List Flight) (k : ℕ) (f : Flight) (r : Option (ℕ × List ℕ)) (at : Option ℕ) → k < length fs
+    → slice_get fs k ≡ Some f → IsFirstTaken airport s span (take k fs) r → IsFirst (takes airport.conflicts s (flight_holds airport f)) span at
+    → IsFirstTaken airport s span (take (k + 1) fs) (sooner r at f.name)
+flights-more airport s span fs k f r at low here taken first =
+    rw (take_more fs k f low, get_or_from_slice_get fs k f f here) (taken-more airport s span (take k fs) f r at taken first)

@@ -1,13 +1,14 @@
 //! Flights in a slab, and their names in rising order with the keys.
-ghost use Rattle.std.specs.Prelude.{◌≡◌, ◌+◌, ◌<◌, ◌≤◌, [], Some, None, length, map, slice_get, IfNone, IfSome, OnOk, option_copied};
+ghost use Rattle.std.specs.Prelude.{◌≡◌, ◌+◌, ◌<◌, ◌≤◌, [], Some, None, length, map, remove, slice_get, OnOk, option_copied};
 ghost use Rattle.commitments.specs.Book.{IsBook};
-ghost use Rattle.commitments.specs.Places.{AreInOrder, IsPlace};
-ghost use Rattle.taxi_base.specs.State.{flight_named, with_flight, without};
+ghost use Rattle.commitments.specs.Places.{AreInOrder, IsPlace, IsFlightPlace};
+ghost use Rattle.taxi_base.specs.State.{flight_named, flights_with};
 
+use airport_file::Airport;
 use slab::Slab;
 use std::alloc::Global;
 use std::marker::Model;
-use taxi_base::{Flight, Memory, Name, Routes, Step};
+use taxi_base::{Flight, Memory, Name, Routes, Step, Time};
 
 /// The flights in force, by rising names, each with at least one step.
 #[derive(Drop)]
@@ -59,13 +60,18 @@ impl FlightList {
         &self.flights[key]
     }
 
+    /// The place of the flight of a name.
+    pub(crate) fn place(&self, name: &Name) -> Option<usize>
+        ensures { IsFlightPlace self.now.flights name.now result }
+    {
+        place_of(&self.names, name).ok()
+    }
+
     /// The flight of a name.
     pub(crate) fn flight(&self, name: &Name) -> Option<&Flight>
         ensures { option_copied result ≡ flight_named name.now self.now.flights }
     {
-        let Ok(place) = place_of(&self.names, name) else {
-            return None;
-        };
+        let place = self.place(name)?;
         Some(self.at(place))
     }
 
@@ -85,7 +91,7 @@ impl FlightList {
         requires room { 1 ≤ self.old.room }
         requires absent { flight_named flight.name self.old.flights ≡ None }
         requires routed { 1 ≤ length flight.steps }
-        ensures flights { self.new.flights ≡ with_flight flight self.old.flights }
+        ensures flights { self.new.flights ≡ flights_with flight self.old.flights }
         ensures room { self.new.room + 1 ≡ self.old.room }
     {
         let name = flight.name;
@@ -94,30 +100,57 @@ impl FlightList {
         self.names.insert(place, (name, key)).unwrap();
     }
 
-    /// Takes the flight of a name out. It needs no memory, and leaves room for one flight more.
-    pub(crate) fn remove(&mut self, name: &Name) -> Option<Flight>
-        ensures flight { result ≡ flight_named name.now self.old.flights }
-        ensures flights { self.new.flights ≡ without name.now self.old.flights }
-        ensures unchanged { IfNone result (self.new ≡ self.old) }
-        ensures room { IfSome result (λ _. self.new.room ≡ self.old.room + 1) }
+    /// Takes the flight at a place out. It needs no memory, and leaves room for one flight more.
+    pub(crate) fn remove(&mut self, place: usize) -> Flight
+        requires { place < length self.old.flights }
+        ensures flight { slice_get self.old.flights place ≡ Some result }
+        ensures flights { self.new.flights ≡ remove self.old.flights place }
+        ensures room { self.new.room ≡ self.old.room + 1 }
     {
-        let Ok(place) = place_of(&self.names, name) else {
-            return None;
-        };
         let (_, key) = self.names.remove(place);
-        Some(self.flights.remove(key))
+        self.flights.remove(key)
     }
 }
 
-impl Routes for FlightList {
-    ghost listed = { λ l. map (λ f. f.steps) l.flights };
+/// The flights of a list but the one at a place, as routes, each with the clearance of its class.
+#[derive(Drop)]
+pub(crate) struct Others<'a> {
+    pub(crate) flights: &'a FlightList,
+    pub(crate) place: usize,
+    pub(crate) airport: &'a Airport,
+    ghost among: { place < length flights.now.flights },
+    ghost few: { length flights.now.flights ≤ 4096 },
+}
+
+impl<'a> Routes for Others<'a> {
+    ghost use Rattle.commitments.specs.Book.{route_of};
+
+    ghost listed = { λ r. map (route_of r.airport.now) (remove r.flights.now.flights r.place) };
 
     fn routes(&self) -> usize {
-        self.count()
+        self.flights.count() - 1
     }
 
     fn steps(&self, at: usize) -> &[Step] {
-        self.at(at).steps.as_slice()
+        self.flight(at).steps.as_slice()
+    }
+
+    fn clearance(&self, at: usize) -> Time {
+        self.airport.clearance(self.flight(at).class)
+    }
+}
+
+impl<'a> Others<'a> {
+    // The flight at a place among these. Behind the one left out each stands a place later in the list.
+    fn flight(&self, at: usize) -> &Flight
+        requires { at + 1 < length self.now.flights.now.flights }
+        ensures { slice_get (remove self.now.flights.now.flights self.now.place) at ≡ Some result.now }
+    {
+        if at < self.place {
+            self.flights.at(at)
+        } else {
+            self.flights.at(at + 1)
+        }
     }
 }
 

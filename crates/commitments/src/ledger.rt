@@ -1,25 +1,29 @@
 //! The flights in force, and the free windows that they leave.
-ghost use Rattle.std.specs.Prelude.{◌≡◌, ◌+◌, ◌<◌, ◌≤◌, ◌^◌, [], Some, None, length, slice_get, All, IsTrue, IfOk, IfNone, IfSome, OnOk, option_copied};
-ghost use Rattle.taxi_base.specs.Airport.{IsWellFormed, arc_exists, layout_of};
-ghost use Rattle.taxi_base.specs.Windows.{holds_of};
+ghost use Rattle.std.specs.Prelude.{◌≡◌, ◌+◌, ◌<◌, ◌≤◌, ◌^◌, List, [], Some, None, length, slice_get, All, IsTrue, IsSome, IfOk, IfNone, IfSome, OnOk, option_copied};
+ghost use Rattle.std.specs.Option.{ForSome};
+ghost use Rattle.taxi_base.specs.declared.rows.Step.{Step as StepRow};
+ghost use Rattle.taxi_base.specs.Airport.{arc_exists, layout_of};
 ghost use Rattle.taxi_base.specs.Walks.{IsFeasibleWalk};
-ghost use Rattle.taxi_base.specs.State.{flight_named, with_flight, without, holds_in};
+ghost use Rattle.taxi_base.specs.State.{flight_named, flights_with, flights_without, flight_holds, conditions_of, with_route};
 ghost use Rattle.taxi_base.specs.Faults.{conditions_in};
+ghost use Rattle.window_store.specs.Stands.{HasRoomFor};
 ghost use Rattle.window_store.specs.Kept.{IsApartFrom, IsClearOf, KeepsWindows, KeepsNodes, GainsRoom};
-ghost use Rattle.commitments.specs.Book.{Book, Fits, IsPrepared, IsBook};
+ghost use Rattle.commitments.specs.Book.{Book, Fits, IsPrepared, IsBook, state_of, lifted_flight};
 
 use crate::flight_list::FlightList;
+use crate::holds::{free_flight, hold_flight, ruled_conflicts};
 use airport_file::Airport;
-use conflict_sets::Conflicts;
 use std::alloc::Global;
 use std::marker::Model;
-use taxi_base::{Flight, Memory, Name, Step};
+use taxi_base::{Flight, List, Memory, Name, Request, Step};
 use window_store::WindowStore;
 
-/// The flights in force, by rising names, each with at least one step, and the free windows of each segment.
+/// The flights in force, by rising names, each with at least one step, and the free windows of each segment. One of the
+/// flights may be lifted: it is in force still, and the windows are those that the others leave.
 #[derive(Drop)]
 pub struct Ledger {
     pub(crate) flights: FlightList,
+    pub(crate) lifted: Option<Name>,
     pub(crate) store: WindowStore,
 }
 
@@ -28,19 +32,21 @@ impl Model for Ledger {
 
     ghost Value = { Book };
 
-    ghost view = { λ l. record { flights = l.flights.flights; room = l.flights.room; store = l.store } };
+    ghost view = { λ l. record { flights = l.flights.flights; lifted = l.lifted; room = l.flights.room; store = l.store } };
 }
 
 impl Ledger {
     /// No flight over an airport: all seconds are free.
     pub fn new(alloc: Global, airport: &Airport) -> Result<Ledger, Memory>
         ensures flights { IfOk result (λ l. l.flights ≡ []) }
+        ensures unlifted { IfOk result (λ l. l.lifted ≡ None) }
         ensures fits { IfOk result (Fits airport.now) }
     {
         let segments = airport.graph().segments();
         let store = WindowStore::new(alloc, segments, airport.horizon())?;
         Ok(Ledger {
             flights: FlightList::new(alloc),
+            lifted: None,
             store,
         })
     }
@@ -82,6 +88,7 @@ impl Ledger {
         requires few { length steps.now < 2 ^ 32 }
         ensures room { OnOk result (IsPrepared airport.now steps.now self.new) }
         ensures flights { self.new.flights ≡ self.old.flights }
+        ensures lifted { self.new.lifted ≡ self.old.lifted }
         ensures kept { self.old.room ≤ self.new.room }
         ensures windows { GainsRoom self.old.store self.new.store }
         ensures fits { Fits airport.now self.new }
@@ -94,18 +101,19 @@ impl Ledger {
     /// Puts a flight in force. It needs no memory. A window that has no second of its route stays as it is.
     pub fn commit(&mut self, airport: &Airport, flight: Flight)
         requires fits { Fits airport.now self.old }
+        requires unlifted { self.old.lifted ≡ None }
         requires prepared { IsPrepared airport.now flight.steps self.old }
         requires absent { flight_named flight.name self.old.flights ≡ None }
         requires few { length self.old.flights < 4096 }
-        requires feasible { IsFeasibleWalk (conditions_in airport.now flight.class self.old.flights) flight.steps }
-        ensures flights { self.new.flights ≡ with_flight flight self.old.flights }
+        requires feasible { IsFeasibleWalk (conditions_in airport.now flight.class (state_of self.old)) flight.steps }
+        ensures flights { self.new.flights ≡ flights_with flight self.old.flights }
+        ensures unlifted { self.new.lifted ≡ None }
         ensures room { self.new.room + 1 ≡ self.old.room }
-        ensures kept { KeepsWindows IsApartFrom airport.now.conflicts (holds_of flight.steps) self.old.store self.new.store }
+        ensures kept { KeepsWindows IsApartFrom airport.now.conflicts (flight_holds airport.now flight) self.old.store self.new.store }
         ensures nodes { KeepsNodes self.old.store self.new.store }
         ensures fits { Fits airport.now self.new }
     {
-        self.store
-            .occupy(ruled_conflicts(airport), flight.steps.as_slice());
+        hold_flight(&mut self.store, airport, &flight);
         self.flights.insert(flight);
     }
 
@@ -113,31 +121,74 @@ impl Ledger {
     /// neither meets nor touches its route stays as it is.
     pub fn cancel(&mut self, airport: &Airport, name: &Name) -> Option<Flight>
         requires fits { Fits airport.now self.old }
+        requires unlifted { self.old.lifted ≡ None }
         ensures flight { result ≡ flight_named name.now self.old.flights }
-        ensures flights { self.new.flights ≡ without name.now self.old.flights }
+        ensures flights { self.new.flights ≡ flights_without name.now self.old.flights }
+        ensures unlifted { self.new.lifted ≡ None }
         ensures unchanged { IfNone result (self.new ≡ self.old) }
         ensures prepared { IfSome result (λ flight. IsPrepared airport.now flight.steps self.new) }
         ensures room { self.old.room ≤ self.new.room }
-        ensures kept { IfSome result (λ flight. KeepsWindows IsClearOf airport.now.conflicts (holds_of flight.steps) self.old.store self.new.store) }
+        ensures kept { IfSome result (λ flight. KeepsWindows IsClearOf airport.now.conflicts (flight_holds airport.now flight) self.old.store self.new.store) }
         ensures nodes { KeepsNodes self.old.store self.new.store }
         ensures fits { Fits airport.now self.new }
     {
-        let flight = self.flights.remove(name)?;
-        // The flight is out of the list by now, so that what it held is not held by the others.
-        self.store.release(
-            ruled_conflicts(airport),
-            &self.flights,
-            flight.steps.as_slice(),
-        );
-        Some(flight)
+        let place = self.flights.place(name)?;
+        free_flight(&mut self.store, airport, &self.flights, place);
+        Some(self.flights.remove(place))
     }
-}
 
-// The conflicts of an airport, with the rules that it keeps: so its horizon is near, and each step takes time.
-fn ruled_conflicts(airport: &Airport) -> &Conflicts
-    ensures conflicts { result.now ≡ record { segments = length airport.now.segments; sets = airport.now.conflicts } }
-    ensures rules { IsWellFormed airport.now }
-{
-    let _horizon = airport.horizon();
-    airport.conflicts()
+    /// Lifts the flight of a name: the windows are from now on those that the others leave, and there is room for its
+    /// steps. It needs no memory, and what there was room for before there is room for still.
+    pub fn lift(&mut self, airport: &Airport, name: &Name)
+        requires fits { Fits airport.now self.old }
+        requires unlifted { self.old.lifted ≡ None }
+        requires in_force { IsSome (flight_named name.now self.old.flights) }
+        ensures flights { self.new.flights ≡ self.old.flights }
+        ensures lifted { self.new.lifted ≡ Some name.now }
+        ensures prepared { (steps : List StepRow) → IsPrepared airport.now steps self.old → IsPrepared airport.now steps self.new }
+        ensures room { self.new.room ≡ self.old.room }
+        ensures nodes { KeepsNodes self.old.store self.new.store }
+        ensures fits { Fits airport.now self.new }
+    {
+        let place = self.flights.place(name).unwrap();
+        free_flight(&mut self.store, airport, &self.flights, place);
+        self.lifted = Some(*name);
+    }
+
+    /// Puts the lifted flight back: the windows are again those that all flights leave. It needs no memory.
+    pub fn lower(&mut self, airport: &Airport)
+        requires fits { Fits airport.now self.old }
+        requires lifted { IsSome self.old.lifted }
+        ensures flights { self.new.flights ≡ self.old.flights }
+        ensures unlifted { self.new.lifted ≡ None }
+        ensures room { self.new.room ≡ self.old.room }
+        ensures nodes { KeepsNodes self.old.store self.new.store }
+        ensures fits { Fits airport.now self.new }
+    {
+        let name = self.lifted.take().unwrap();
+        let place = self.flights.place(&name).unwrap();
+        let flight = self.flights.at(place);
+        hold_flight(&mut self.store, airport, flight);
+    }
+
+    /// Puts the lifted flight back with another request and other steps. It needs no memory.
+    pub fn replace(&mut self, airport: &Airport, request: Request, steps: List<Step>)
+        requires fits { Fits airport.now self.old }
+        requires lifted { IsSome self.old.lifted }
+        requires prepared { HasRoomFor airport.now.conflicts steps self.old.store }
+        requires feasible { ForSome (lifted_flight self.old) (λ flight. IsFeasibleWalk (conditions_of airport.now (state_of self.old) flight) steps) }
+        ensures flights { IfSome (lifted_flight self.old) (λ flight. state_of self.new ≡ with_route flight request steps (state_of self.old)) }
+        ensures unlifted { self.new.lifted ≡ None }
+        ensures room { self.new.room ≡ self.old.room }
+        ensures nodes { KeepsNodes self.old.store self.new.store }
+        ensures fits { Fits airport.now self.new }
+    {
+        let name = self.lifted.take().unwrap();
+        let place = self.flights.place(&name).unwrap();
+        let mut flight = self.flights.remove(place);
+        flight.request = request;
+        flight.steps = steps;
+        hold_flight(&mut self.store, airport, &flight);
+        self.flights.insert(flight);
+    }
 }

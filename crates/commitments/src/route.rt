@@ -1,24 +1,24 @@
 //! Why a route that is given by hand fails.
 ghost use Rattle.std.specs.Prelude.{◌≡◌, ◌↔◌, ◌+◌, ◌<◌, ◌≤◌, ◌^◌, ℕ, None, IsTrue, All, length, nat_lt};
-ghost use Rattle.taxi_base.specs.declared.numbers.Class.{Class};
 ghost use Rattle.taxi_base.specs.Airport.{arc_exists, layout_of};
 ghost use Rattle.taxi_base.specs.Walks.{AreJoined, IsFeasibleWalk};
-ghost use Rattle.commitments.specs.Book.{Fits};
-ghost use Rattle.taxi_base.specs.Faults.{conditions_in, may_follow, taken_cause, cause_of, route_fault};
+ghost use Rattle.commitments.specs.Book.{Fits, state_of};
+ghost use Rattle.taxi_base.specs.Faults.{conditions_in, may_follow, taken_by, taken_cause, cause_of, route_fault};
 
 use crate::Ledger;
 use airport_file::Airport;
 use segment_graph::segment_of;
-use taxi_base::{Arc, Class, Step, StepCause, StepFault, Time};
+use taxi_base::{Arc, Class, Segment, Span, Step, StepCause, StepFault, Time};
 
 impl Ledger {
     /// The first step of a route that fails among the flights in force, and the first of its causes. It needs no memory.
     pub fn check_route(&self, airport: &Airport, class: Class, steps: &[Step]) -> Option<StepFault>
         requires fits { Fits airport.now self.now }
+        requires unlifted { self.now.lifted ≡ None }
         requires arcs { All (λ s. IsTrue (arc_exists (layout_of airport.now) s.arc)) steps.now }
         requires few { length steps.now < 2 ^ 32 }
-        ensures fault { result ≡ route_fault airport.now class self.now.flights steps.now }
-        ensures feasible { 0 < length steps.now → AreJoined steps.now → (result ≡ None) ↔ IsFeasibleWalk (conditions_in airport.now class self.now.flights) steps.now }
+        ensures fault { result ≡ route_fault airport.now class (state_of self.now) steps.now }
+        ensures feasible { 0 < length steps.now → AreJoined steps.now → (result ≡ None) ↔ IsFeasibleWalk (conditions_in airport.now class (state_of self.now)) steps.now }
     {
         let mut before = None;
         for (place, step) in steps.iter().enumerate() {
@@ -40,8 +40,9 @@ impl Ledger {
         step: &Step,
     ) -> Option<StepCause>
         requires fits { Fits airport.now self.now }
+        requires unlifted { self.now.lifted ≡ None }
         requires arc { IsTrue (arc_exists (layout_of airport.now) step.now.arc) }
-        ensures { result ≡ cause_of airport.now class self.now.flights before step.now }
+        ensures { result ≡ cause_of airport.now class (state_of self.now) before step.now }
     {
         let Some(seconds) = airport.classes().seconds(class, segment_of(step.arc)) else {
             return Some(StepCause::ClassBarred);
@@ -53,28 +54,41 @@ impl Ledger {
         } else if airport.horizon() < step.leave {
             Some(StepCause::PastHorizon)
         } else {
-            self.taken_cause(airport, step)
+            self.taken_cause(airport, class, step)
         }
     }
 
     // The first second at which the step's segment is taken, and by whom.
-    fn taken_cause(&self, airport: &Airport, step: &Step) -> Option<StepCause>
+    fn taken_cause(&self, airport: &Airport, class: Class, step: &Step) -> Option<StepCause>
         requires fits { Fits airport.now self.now }
+        requires unlifted { self.now.lifted ≡ None }
         requires arc { IsTrue (arc_exists (layout_of airport.now) step.now.arc) }
         requires some { step.now.enter < step.now.leave }
         requires in_time { step.now.leave ≤ airport.now.horizon }
-        ensures { (class : Class) → result ≡ taken_cause airport.now class self.now.flights step.now }
+        ensures { result ≡ taken_cause airport.now class (state_of self.now) step.now }
     {
-        // Where the step lies in a free window, no flight needs to be looked at.
-        let segment = segment_of(step.arc);
+        let held = step.held(airport.horizon(), airport.clearance(class));
+        self.taken_by(airport, segment_of(step.arc), held)
+    }
+
+    // The first second of a span at which a segment is taken, and by whom.
+    fn taken_by(&self, airport: &Airport, segment: Segment, span: Span) -> Option<StepCause>
+        requires fits { Fits airport.now self.now }
+        requires unlifted { self.now.lifted ≡ None }
+        requires segment { segment.0 < length airport.now.segments }
+        requires some { span.from < span.until }
+        requires in_time { span.until ≤ airport.now.horizon }
+        ensures { result ≡ taken_by airport.now (state_of self.now) (record { segment = segment; span = span }) }
+    {
+        // Where the span lies in a free window, no flight needs to be looked at.
         if self
             .store
-            .window_at(segment, step.enter, step.leave)
+            .window_at(segment, span.from, span.until)
             .is_some()
         {
             return None;
         }
-        let (at, by) = self.flights.first_taken(airport.conflicts(), step)?;
+        let (at, by) = self.flights.first_taken(airport, segment, span)?;
         Some(StepCause::Taken { at, by })
     }
 }

@@ -1,14 +1,19 @@
-//! Flights over a small airport, filed, looked up and cancelled.
-ghost use Rattle.std.specs.Prelude.{◌≡◌, [], ◌∷◌, IfOk};
+//! Flights over a small airport, filed, looked up, lifted and cancelled.
+ghost use Rattle.std.specs.Prelude.{◌≡◌, ◌<◌, ◌^◌, [], ◌∷◌, None, length, All, IsTrue, IfOk};
+ghost use Rattle.taxi_base.specs.declared.answers.Flight.{Flight as FlightRow};
+ghost use Rattle.taxi_base.specs.Airport.{arc_exists, layout_of};
+ghost use Rattle.taxi_base.specs.Walks.{IsFeasibleWalk};
+ghost use Rattle.taxi_base.specs.State.{no_holder, flights_with};
+ghost use Rattle.taxi_base.specs.Faults.{conditions_in};
 ghost use Rattle.commitments.specs.Book.{Fits};
 
-use crate::Ledger;
+use crate::{Flight, Ledger};
 use airport_file::{Airport, read_airport};
 use std::alloc::Global;
 use std::process::Abort;
 use std::test::Fail;
 use taxi_base::{
-    Arc, Class, Flight, List, Memory, Name, Request, Segment, Step, StepCause, StepFault,
+    Arc, Class, List, Memory, Name, Node, Request, Segment, Step, StepCause, StepFault, Time,
 };
 
 const SMALL: &[u8] =
@@ -21,32 +26,29 @@ fn small_airport(alloc: Global) -> Result<Airport, Fail> {
     }
 }
 
-// The step from second 100 to 130 on an arc.
-fn step_on(alloc: Global, arc: Arc) -> Result<List<Step>, Memory>
-    ensures { IfOk result (λ steps. steps ≡ record { arc = arc; enter = 100; leave = 130 } ∷ []) }
+// A step on an arc.
+fn step_on(alloc: Global, arc: Arc, enter: Time, leave: Time) -> Result<List<Step>, Memory>
+    ensures { IfOk result (λ steps. steps ≡ record { arc = arc; enter = enter; leave = leave } ∷ []) }
 {
     let mut steps = List::new(alloc);
-    steps.push(Step {
-        arc,
-        enter: 100,
-        leave: 130,
-    })?;
+    steps.push(Step { arc, enter, leave })?;
     Ok(steps)
 }
 
-// What is in the way of that step.
+// What is in the way of a step on an arc from second 100 to 130.
 fn fault_on(
     alloc: Global,
     ledger: &Ledger,
     airport: &Airport,
     arc: Arc,
 ) -> Result<Option<StepFault>, Fail>
-    requires { Fits airport.now ledger.now }
+    requires fits { Fits airport.now ledger.now }
+    requires unlifted { ledger.now.lifted ≡ None }
 {
     if !airport.graph().exists(arc) {
         return Err(Fail::from("there is no such arc"));
     }
-    let steps = step_on(alloc, arc)?;
+    let steps = step_on(alloc, arc, 100, 130)?;
     Ok(ledger.check_route(airport, Class(0), steps.as_slice()))
 }
 
@@ -58,13 +60,16 @@ fn file(
     name: Name,
     arc: Arc,
 ) -> Result<(), Fail>
-    requires { Fits airport.now ledger.old }
-    ensures { Fits airport.now ledger.new }
+    requires fits { Fits airport.now ledger.old }
+    requires unlifted { ledger.old.lifted ≡ None }
+    ensures flights { IfOk result (λ _. (flight : FlightRow) × (flight.class ≡ record { 0 = 0 }) × (ledger.new.flights ≡ flights_with flight ledger.old.flights)) }
+    ensures unlifted { ledger.new.lifted ≡ None }
+    ensures fits { Fits airport.now ledger.new }
 {
     if ledger.count() >= 4096 || ledger.flight(&name).is_some() || !airport.graph().exists(arc) {
         return Err(Fail::from("there is no such arc, or no room for the flight"));
     }
-    let steps = step_on(alloc, arc)?;
+    let steps = step_on(alloc, arc, 100, 130)?;
     if ledger
         .check_route(airport, Class(0), steps.as_slice())
         .is_some()
@@ -86,7 +91,8 @@ fn file(
 
 // The ledger with such a flight on each of some arcs.
 fn filed(alloc: Global, airport: &Airport, flights: &[(Name, Arc)]) -> Result<Ledger, Fail>
-    ensures { IfOk result (Fits airport.now) }
+    ensures fits { IfOk result (Fits airport.now) }
+    ensures unlifted { IfOk result (λ ledger. ledger.lifted ≡ None) }
 {
     let mut ledger = Ledger::new(alloc, airport)?;
     for (name, arc) in flights {
@@ -128,7 +134,8 @@ fn hold_until_cancelled(
     airport: &Airport,
     name: Name,
 ) -> Result<(), Fail>
-    requires { Fits airport.now ledger.old }
+    requires fits { Fits airport.now ledger.old }
+    requires unlifted { ledger.old.lifted ≡ None }
 {
     let cause = StepCause::Taken { at: 100, by: name };
     assert!(rt; are_free(alloc, ledger, airport, Segment(0), &[(0, 100), (130, 3600)])?);
@@ -144,17 +151,147 @@ fn hold_until_cancelled(
     Ok(())
 }
 
+// The flight of the name is on segment A, and so holds C too, with which A is in conflict.
+fn lift_and_lower(
+    rt: &impl Abort,
+    alloc: Global,
+    ledger: &mut Ledger,
+    airport: &Airport,
+    name: &Name,
+) -> Result<(), Fail>
+    requires fits { Fits airport.now ledger.old }
+    requires unlifted { ledger.old.lifted ≡ None }
+    ensures flights { ledger.new.flights ≡ ledger.old.flights }
+    ensures unlifted { IfOk result (λ _. ledger.new.lifted ≡ None) }
+    ensures fits { Fits airport.now ledger.new }
+{
+    if ledger.flight(name).is_none() {
+        return Err(Fail::from("the flight is in force"));
+    }
+    assert!(rt; are_free(alloc, ledger, airport, Segment(2), &[(0, 100), (130, 3600)])?);
+    ledger.lift(airport, name);
+    assert!(rt; are_free(alloc, ledger, airport, Segment(2), &[(0, 3600)])?);
+    assert!(rt; ledger.flight(name).is_some());
+    assert_eq!(rt; ledger.count(), 1);
+    ledger.lower(airport);
+    assert!(rt; are_free(alloc, ledger, airport, Segment(2), &[(0, 100), (130, 3600)])?);
+    Ok(())
+}
+
+// A ledger in which only this flight is in force, from second 100 to 130 on the first arc.
+fn alone(alloc: Global, airport: &Airport, name: Name) -> Result<Ledger, Fail>
+    ensures fits { IfOk result (Fits airport.now) }
+    ensures unlifted { IfOk result (λ ledger. ledger.lifted ≡ None) }
+    ensures alone { IfOk result (λ ledger. (flight : FlightRow) × (flight.class ≡ record { 0 = 0 }) × (ledger.flights ≡ flight ∷ [])) }
+{
+    let mut ledger = Ledger::new(alloc, airport)?;
+    file(alloc, &mut ledger, airport, name, Arc(0))?;
+    Ok(ledger)
+}
+
+// A later step on the same arc, which is feasible where no flight is in force.
+fn later_step(alloc: Global, airport: &Airport) -> Result<List<Step>, Fail>
+    ensures arcs { IfOk result (All (λ s. IsTrue (arc_exists (layout_of airport.now) s.arc))) }
+    ensures few { IfOk result (λ steps. length steps < 2 ^ 32) }
+    ensures feasible { IfOk result (IsFeasibleWalk (conditions_in airport.now (record { 0 = 0 }) no_holder)) }
+{
+    let ledger = Ledger::new(alloc, airport)?;
+    let steps = step_on(alloc, Arc(0), 200, 230)?;
+    if !airport.graph().exists(Arc(0)) {
+        return Err(Fail::from("there is no such arc"));
+    }
+    if ledger
+        .check_route(airport, Class(0), steps.as_slice())
+        .is_some()
+    {
+        return Err(Fail::from("nothing is in the way yet"));
+    }
+    Ok(steps)
+}
+
+// The only flight in force gets another request and other steps.
+fn replace(
+    ledger: &mut Ledger,
+    airport: &Airport,
+    name: &Name,
+    request: Request,
+    steps: List<Step>,
+) -> Result<(), Fail>
+    requires fits { Fits airport.now ledger.old }
+    requires unlifted { ledger.old.lifted ≡ None }
+    requires alone { (flight : FlightRow) × (flight.class ≡ record { 0 = 0 }) × (ledger.old.flights ≡ flight ∷ []) }
+    requires arcs { All (λ s. IsTrue (arc_exists (layout_of airport.now) s.arc)) steps }
+    requires few { length steps < 2 ^ 32 }
+    requires feasible { IsFeasibleWalk (conditions_in airport.now (record { 0 = 0 }) no_holder) steps }
+    ensures fits { Fits airport.now ledger.new }
+{
+    ledger.prepare(airport, steps.as_slice())?;
+    if ledger.flight(name).is_none() {
+        return Err(Fail::from("the flight is in force"));
+    }
+    ledger.lift(airport, name);
+    ledger.replace(airport, request, steps);
+    Ok(())
+}
+
+// The same flight on a later step, with what it asked for now.
+fn lift_and_replace(
+    rt: &impl Abort,
+    alloc: Global,
+    ledger: &mut Ledger,
+    airport: &Airport,
+    name: &Name,
+) -> Result<(), Fail>
+    requires fits { Fits airport.now ledger.old }
+    requires unlifted { ledger.old.lifted ≡ None }
+    requires alone { (flight : FlightRow) × (flight.class ≡ record { 0 = 0 }) × (ledger.old.flights ≡ flight ∷ []) }
+{
+    let steps = later_step(alloc, airport)?;
+    let request = Request::Arrival {
+        from: Node(0),
+        to: Node(3),
+        time: 200,
+        hold: 0,
+    };
+    replace(ledger, airport, name, request, steps)?;
+    assert!(rt; are_free(alloc, ledger, airport, Segment(2), &[(0, 200), (230, 3600)])?);
+    match ledger.flight(name) {
+        Some(flight) => assert_eq!(rt; flight.request, request),
+        None => return Err(Fail::from("the flight is in force still")),
+    }
+    Ok(())
+}
+
 fn names() -> Result<(Name, Name), Fail> {
     let early = Name::read(b"F1").ok_or("F1 is a name")?;
     let late = Name::read(b"F2").ok_or("so is F2")?;
     Ok((early, late))
 }
 
+// Two flights, the later name first, and one of them cancelled.
+fn file_and_cancel(rt: &impl Abort, alloc: Global, airport: &Airport) -> Result<(), Fail> {
+    let (early, late) = names()?;
+    let mut ledger = filed(alloc, airport, &[(late, Arc(2)), (early, Arc(4))])?;
+    stand_by_name(rt, &ledger, early, late);
+    hold_until_cancelled(rt, alloc, &mut ledger, airport, early)
+}
+
+// One flight, lifted and lowered, and then replaced.
+fn lift_and_put_back(rt: &impl Abort, alloc: Global, airport: &Airport) -> Result<(), Fail> {
+    let (name, _) = names()?;
+    let mut ledger = alone(alloc, airport, name)?;
+    lift_and_lower(rt, alloc, &mut ledger, airport, &name)?;
+    lift_and_replace(rt, alloc, &mut ledger, airport, &name)
+}
+
 #[test]
 fn flights_stand_by_name_and_give_their_windows_back(rt: HostRuntime) -> Result<(), Fail> {
-    let (early, late) = names()?;
     let airport = small_airport(rt.alloc())?;
-    let mut ledger = filed(rt.alloc(), &airport, &[(late, Arc(2)), (early, Arc(4))])?;
-    stand_by_name(&rt, &ledger, early, late);
-    hold_until_cancelled(&rt, rt.alloc(), &mut ledger, &airport, early)
+    file_and_cancel(&rt, rt.alloc(), &airport)
+}
+
+#[test]
+fn a_lifted_flight_holds_nothing_until_it_is_put_back(rt: HostRuntime) -> Result<(), Fail> {
+    let airport = small_airport(rt.alloc())?;
+    lift_and_put_back(&rt, rt.alloc(), &airport)
 }

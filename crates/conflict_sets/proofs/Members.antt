@@ -1,6 +1,6 @@
 -- Membership in a list of segments by number, and conflict as one more set is counted.
-use Rattle.std.proofs.Common.{◌≡◌, ℕ, ◌+◌, ◌<◌, Bool, true, false, ◌&&◌, ◌||◌, List, [], ◌∷◌, ◌++◌, length, get_or, ◌⊎◌, inl, inr, IsTrue, refl, sym, ◌∙◌, ap, subst, arith, eqb}
-use Rattle.std.specs.Prelude.{Contains, All, AllPairs, ◌==◌}
+use Rattle.std.proofs.Common.{◌≡◌, ℕ, ◌<◌, Bool, true, false, ◌&&◌, ◌||◌, List, [], ◌∷◌, ◌++◌, inl, inr, IsTrue, refl, sym, ◌∙◌, ap, arith}
+use Rattle.std.specs.Prelude.{Contains, All, ◌==◌}
 use Rattle.std.specs.List.{list_any}
 use Rattle.std.proofs.lemmas.Bool.{or_cases}
 use Rattle.std.proofs.lemmas.Bool.Decides.{nat_tests}
@@ -8,10 +8,9 @@ use Rattle.std.proofs.lemmas.List.Folds.{list_any-append}
 use Rattle.std.proofs.lemmas.List.Elements.{All-contains}
 use Rattle.taxi_base.specs.declared.numbers.Segment.{Segment}
 use Rattle.taxi_base.specs.Airport.{has_member, conflict}
-use Rattle.packed_rows.specs.Lists.{AreAll}
-use Rattle.packed_rows.proofs.InOrder.{same_answer, test-Contains, Contains-test}
+use Rattle.taxi_base.proofs.InOrder.{same_answer, test-Contains, Contains-test}
 use Rattle.conflict_sets.specs.Conflicts.{AreConflicts}
-use Rattle.taxi_base.proofs.ListLaws.{list_any-true, list_any-member}
+use Rattle.taxi_base.proofs.ListLaws.{list_any-true}
 
 pub same_segment : (s t : Segment) → s.0 ≡ t.0 → s ≡ t
 same_segment s t e = ap (λ n. let r : Segment = record { 0 = n } in r) e

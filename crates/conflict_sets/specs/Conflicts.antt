@@ -1,6 +1,6 @@
 -- Which segments conflict by the sets of an airport.
 use Rattle.std.specs.Prelude.{ℕ, ◌<◌, List, [], length, IsTrue, slice_index_or}
-use Rattle.packed_rows.specs.Lists.{AreAll}
+use Rattle.taxi_base.specs.Lists.{AreAll}
 use Rattle.taxi_base.specs.declared.numbers.Segment.{Segment}
 use Rattle.taxi_base.specs.Airport.{conflict}
 

@@ -150,6 +150,7 @@ impl IntervalList {
         ensures below { All (λ id. id < ids.new.next) (owned self.new) }
         ensures normal { IsNormal self.new }
     {
+        // As many nodes as a `usize` counts fit into no memory, so that many count as want of memory.
         if self.windows.len() >= usize::MAX - self.spares.len() {
             return Err(Memory);
         }

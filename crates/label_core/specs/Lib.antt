@@ -9,5 +9,4 @@ pub mod BackwardTables
 pub mod BackwardPicked
 pub mod Mirror
 pub mod Settling
-pub mod Ground
 pub mod BackwardBest

@@ -32,7 +32,7 @@ impl Model for LabelQueue {
 }
 
 impl LabelQueue {
-    /// An empty queue for the labels below `limit`. `Memory` comes only where memory runs out.
+    /// An empty queue for the labels below `limit`, with room for all of them.
     pub fn new(alloc: Global, limit: usize) -> Result<LabelQueue, Memory>
         ensures { IfOk result (λ q. q ≡ replicate limit None) }
     {

@@ -5,7 +5,8 @@ pub mod Traced
 pub mod Steps
 pub mod Begins
 pub mod Picking
-pub mod Cutting
+pub mod MarkLaws
+pub mod ValueLaws
 pub mod Ends
 pub mod Mirroring
 pub mod Lists

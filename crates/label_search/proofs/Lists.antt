@@ -2,6 +2,7 @@
 use Rattle.std.proofs.Common.{◌≡◌, ℕ, zero, suc, ◌<◌, ◌^◌, Bool, true, false, ◌&&◌, ◌||◌, nat_le, nat_lt, List, length, get_or, Option, Some, None, option_map, IfSome, All, refl, sym, ap, ◌∙◌, subst, ◌⊎◌, inl, inr, arith}
 use Rattle.std.proofs.lemmas.Bool.{cases_lt, false≢true, leb-true, ltb-true, le-leb, lt-ltb}
 use Rattle.std.proofs.lemmas.List.{get_or_past, get_or_default}
+use Rattle.label_core.specs.Walks.{Start}
 use Rattle.label_core.specs.BackwardWalks.{Finish}
 use Rattle.label_core.proofs.MirroredWalks.{option_map_some}
 use Rattle.label_search.specs.declared.cells.Run.{Run}
@@ -64,7 +65,7 @@ module _ (cells : List ListedCell) where
       nothing zero is = omega (arith, is.until_end)
       nothing (suc k) is = omega (arith, is.until_end)
 
-  module _ (fit : All (IsFit (length cells)) cells) (small : length cells < 2 ^ 32) where
+  module _ (fit : All (IsFit (length cells)) cells) where
     fit_at : (c : ℕ) → IsFit (length cells) (cell_at cells c)
     fit_at c = elim (cases_lt c (length cells)) [
       | inl lt ↦ fit c no_cell lt
@@ -94,14 +95,18 @@ module _ (cells : List ListedCell) where
       takes = λ c. (fit_at c).takes;
       small_seconds = λ c. (fit_at c).small_seconds;
       small_last = λ c. (fit_at c).small_last;
-      small_count = small;
       turns_in_runs = λ c d turn. beside_in (cell_at cells c) d turn;
       turns_inside = λ c d turn. (beside_inside c d turn, beside_below c d turn);
-      starts_inside = λ c s is. some_inside c (λ empty. (
-          let o = option_map_some start_of (cell_at cells c).opening s is in
-          let e : None ≡ Some o.0 = sym (ap (λ (x : ListedCell). x.opening) empty) ∙ o.1 in
-          absurd cc));
+      starts_inside = started_inside;
+      starts_in_runs = λ c s is. (0, omega arith, record { from_first = omega arith; until_end = started_inside c s is });
+      first_runs_inside = λ k below. omega arith;
     }
+      where
+        started_inside : (c : ℕ) (s : Start) → option_map start_of (cell_at cells c).opening ≡ Some s → c < length cells
+        started_inside c s is = some_inside c (λ empty. (
+            let o = option_map_some start_of (cell_at cells c).opening s is in
+            let e : None ≡ Some o.0 = sym (ap (λ (x : ListedCell). x.opening) empty) ∙ o.1 in
+            absurd cc))
 
     pub list_is_backward_problem : IsBackwardProblem (listed_backward cells)
     list_is_backward_problem = record {
@@ -110,15 +115,19 @@ module _ (cells : List ListedCell) where
       small_from = λ c. (fit_at c).small_from;
       small_last = λ c. (fit_at c).small_last;
       small_finishes = λ c f is. finish_small (cell_at cells c).closing f (fit_at c).small_closing is;
-      small_count = small;
       turns_in_runs = λ c d turn. beside_in (cell_at cells d) c turn;
       turns_inside = λ c d turn. (beside_below d c turn, beside_inside d c turn);
-      finishes_inside = λ c f is. some_inside c (λ empty. (
-          let o = option_map_some finish_of (cell_at cells c).closing f is in
-          let e : None ≡ Some o.0 = sym (ap (λ (x : ListedCell). x.closing) empty) ∙ o.1 in
-          absurd cc));
+      finishes_inside = finished_inside;
+      finishes_in_runs = λ c f is. (0, omega arith, record { from_first = omega arith; until_end = finished_inside c f is });
+      last_runs_inside = λ k below. omega arith;
     }
       where
+        finished_inside : (c : ℕ) (f : Finish) → option_map finish_of (cell_at cells c).closing ≡ Some f → c < length cells
+        finished_inside c f is = some_inside c (λ empty. (
+            let o = option_map_some finish_of (cell_at cells c).closing f is in
+            let e : None ≡ Some o.0 = sym (ap (λ (x : ListedCell). x.closing) empty) ∙ o.1 in
+            absurd cc))
+
         finish_small : (o : Option Closing) (f : Finish) → IfSome o (λ x. x.earliest_out < 2 ^ 31) → option_map finish_of o ≡ Some f → f.earliest_out < 2 ^ 31
         finish_small None f h is = absurd (let e : None ≡ Some f = is in cc)
         finish_small (Some x) f h is =

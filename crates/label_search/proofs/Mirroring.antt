@@ -1,6 +1,7 @@
 -- A problem backward in time and its mirror: what is found in the one is found in the other.
-use Rattle.std.proofs.Common.{◌≡◌, ℕ, zero, suc, ◌-◌, ◌≤◌, ◌↔◌, List, [], ◌∷◌, map, reverse, Option, Some, None, option_map, IfSome, IfNone, refl, sym, ap, ◌∙◌, subst, arith}
+use Rattle.std.proofs.Common.{◌≡◌, ℕ, zero, suc, ◌-◌, ◌≤◌, ◌↔◌, List, [], ◌∷◌, get_or, map, reverse, Option, Some, None, option_map, IfSome, IfNone, refl, sym, ap, ◌∙◌, subst, arith}
 use mathlib.Core.List.{reverse_aux}
+use Rattle.std.proofs.lemmas.List.{length-map}
 use Rattle.label_core.specs.Walks.{Step, IsEarliestExit}
 use Rattle.label_core.specs.Tables.{IsBelow}
 use Rattle.label_core.specs.Best.{IsBestEnd, HasNoWalk, IsPickedRoute}
@@ -11,19 +12,14 @@ use Rattle.label_core.specs.Mirror.{mirror_start, mirror_starts, mirror_network,
 use Rattle.label_core.proofs.MirroredWalks.{option_map_some, leads_by, reaches_by, latest_in_mirror, latest_from_mirror, expansion_from_mirror}
 use Rattle.label_core.proofs.MirroredBest.{best_begin, no_walk_from, route_on}
 use Rattle.label_search.specs.declared.cells.Run.{Run}
-use Rattle.label_search.specs.declared.labels.Label.{Label}
+use Rattle.label_search.specs.declared.values.CellValue.{CellValue}
 use Rattle.label_search.specs.declared.pick.CellStep.{CellStep}
 use Rattle.label_search.specs.declared.forward.Route.{Route}
 use Rattle.label_search.specs.Problem.{IsProblem, IsPartOf}
-use Rattle.label_search.specs.Labels.{label_of, HasValue}
+use Rattle.label_search.specs.Values.{AreExits, AreEntries}
 use Rattle.label_search.specs.Answer.{step_of, best_of, ComesBefore}
-use Rattle.label_search.specs.Backward.{BackwardProblem, IsBackwardProblem, IsBackwardPartOf, mirror_second, mirror_problem, mirror_label, mirror_cell_step}
-
--- the label of a cell, once all are seen in the mirror
-label_of-map : (known : List (Option Label)) (c : ℕ) → label_of (map (option_map mirror_label) known) c ≡ option_map mirror_label (label_of known c)
-label_of-map [] c = refl
-label_of-map (x ∷ known) zero = refl
-label_of-map (x ∷ known) (suc c) = label_of-map known c
+use Rattle.label_search.specs.Backward.{BackwardProblem, IsBackwardProblem, IsBackwardPartOf, mirror_second, mirror_problem, mirror_value, mirror_cell_step}
+use Rattle.label_search.proofs.ValueLaws.{rows_from-map, get_or-option_map}
 
 -- steps, turned and seen in the mirror
 map-reverse_onto : (steps done : List CellStep) (turned : List (Step ℕ)) → map step_of (map mirror_cell_step done) ≡ map (mirror_step mirror_second) turned
@@ -55,10 +51,11 @@ module _ (b : BackwardProblem) (sound : IsBackwardProblem b) where
     takes = sound.takes;
     small_seconds = sound.small_seconds;
     small_last = λ c. omega arith;
-    small_count = sound.small_count;
     turns_in_runs = λ c d turn. sound.turns_in_runs d c turn;
     turns_inside = λ c d turn. (let inside = sound.turns_inside d c turn in (inside.1, inside.0));
     starts_inside = λ c s is. (let f = option_map_some (mirror_start mirror_second) (b.finishes c) s is in sound.finishes_inside c f.0 f.1);
+    starts_in_runs = λ c s is. (let f = option_map_some (mirror_start mirror_second) (b.finishes c) s is in sound.finishes_in_runs c f.0 f.1);
+    first_runs_inside = sound.last_runs_inside;
   }
 
   above_of_below : (best : Option ℕ) (v : ℕ) → IfSome best (λ n. n ≤ mirror_second) → IsBelow best v → IsAbove (option_map (λ n. mirror_second - n) best) (mirror_second - v)
@@ -74,25 +71,30 @@ module _ (b : BackwardProblem) (sound : IsBackwardProblem b) where
   best_by (Some n) is_best = reaches_by b.network b.finishes mirror_second up_to is_best.cell n is_best.attained
 
   -- the table
-  pub table_in_mirror : (known : List (Option Label)) (best : Option ℕ) → IfSome best (IsBestEnd (mirror_network mirror_second b.network) (mirror_starts mirror_second b.finishes) b.source)
-      → ((c v : ℕ) → HasValue known c v ↔ (IsEarliestExit (mirror_network mirror_second b.network) (mirror_starts mirror_second b.finishes) c v × IsBelow best v))
-      → (c v : ℕ) → HasValue (map (option_map mirror_label) known) c v ↔ (IsLatestEntry b.network b.finishes c v × IsAbove (option_map (λ n. mirror_second - n) best) v)
-  table_in_mirror known best is_best table c v = (there, back)
+  pub values_in_mirror : (rows : List CellValue) (best : Option ℕ) → IfSome best (IsBestEnd (mirror_network mirror_second b.network) (mirror_starts mirror_second b.finishes) b.source)
+      → AreExits (mirror_network mirror_second b.network) (mirror_starts mirror_second b.finishes) b.count best rows
+      → AreEntries b.network b.finishes b.count (option_map (λ n. mirror_second - n) best) (map mirror_value rows)
+  values_in_mirror rows best is_best exits = record {
+    known = map (option_map (λ n. mirror_second - n)) exits.known;
+    as_many = length-map exits.known (option_map (λ n. mirror_second - n)) ∙ exits.as_many;
+    are_rows = ap (map mirror_value) exits.are_rows ∙ rows_from-map (λ n. mirror_second - n) 0 exits.known;
+    exact = λ c v. (there c v, back c v);
+  }
     where
-      there : HasValue (map (option_map mirror_label) known) c v → IsLatestEntry b.network b.finishes c v × IsAbove (option_map (λ n. mirror_second - n) best) v
-      there has =
-          let label = option_map_some mirror_label (label_of known c) has.0 (sym (label_of-map known c) ∙ has.1) in
-          let value : mirror_second - label.0.value ≡ v = ap (λ (l : Label). l.value) label.2 ∙ has.2 in
-          let row = (table c label.0.value).0 (label.0, label.1, refl) in (
-            subst (λ n. IsLatestEntry b.network b.finishes c n) value (latest_from_mirror b.network b.finishes mirror_second up_to c label.0.value row.0),
-            subst (λ n. IsAbove (option_map (λ n. mirror_second - n) best) n) value (above_of_below best label.0.value (best_by best is_best) row.1),
+      there : (c v : ℕ) → get_or (map (option_map (λ n. mirror_second - n)) exits.known) c None ≡ Some v → IsLatestEntry b.network b.finishes c v × IsAbove (option_map (λ n. mirror_second - n) best) v
+      there c v has =
+          let value = option_map_some (λ n. mirror_second - n) (get_or exits.known c None) v (sym (get_or-option_map (λ n. mirror_second - n) exits.known c) ∙ has) in
+          let row = (exits.exact c value.0).0 value.1 in (
+            subst (λ n. IsLatestEntry b.network b.finishes c n) value.2 (latest_from_mirror b.network b.finishes mirror_second up_to c value.0 row.0),
+            subst (λ n. IsAbove (option_map (λ n. mirror_second - n) best) n) value.2 (above_of_below best value.0 (best_by best is_best) row.1),
           )
 
-      back : IsLatestEntry b.network b.finishes c v × IsAbove (option_map (λ n. mirror_second - n) best) v → HasValue (map (option_map mirror_label) known) c v
-      back h =
+      back : (c v : ℕ) → IsLatestEntry b.network b.finishes c v × IsAbove (option_map (λ n. mirror_second - n) best) v → get_or (map (option_map (λ n. mirror_second - n)) exits.known) c None ≡ Some v
+      back c v h =
           let by : v ≤ mirror_second = leads_by b.network b.finishes mirror_second up_to c v h.0.attained in
-          let has = (table c (mirror_second - v)).1 (latest_in_mirror b.network b.finishes mirror_second up_to c v h.0, below_of_above best v by (best_by best is_best) h.1) in
-          (mirror_label has.0, label_of-map known c ∙ ap (option_map mirror_label) has.1, omega (arith, has.2))
+          let has = (exits.exact c (mirror_second - v)).1 (latest_in_mirror b.network b.finishes mirror_second up_to c v h.0, below_of_above best v by (best_by best is_best) h.1) in
+          let same : mirror_second - (mirror_second - v) ≡ v = omega arith in
+          get_or-option_map (λ n. mirror_second - n) exits.known c ∙ ap (option_map (λ n. mirror_second - n)) has ∙ ap Some same
 
   pub best_in_mirror : (best : Option ℕ) → IfSome best (IsBestEnd (mirror_network mirror_second b.network) (mirror_starts mirror_second b.finishes) b.source)
       → IfSome (option_map (λ n. mirror_second - n) best) (IsBestBegin b.network b.finishes b.source)

@@ -13,7 +13,7 @@ use Rattle.label_search.specs.Labels.{Standing, label_of, HasValue, IsOffered, S
 use Rattle.label_search.specs.Labels.IsOffered.{first, lower, tied, kept}
 use Rattle.label_search.specs.Expanding.{WasExpandedTo, IsExpanded}
 use Rattle.label_search.specs.Standing.{is_settled, SettledValue, IsTraced, AreTraced, IsUnderway, IsAtEnd}
-use Rattle.label_search.proofs.Settling.{HasValue-single, taken, least_known, least_not_settled, key_of_left, least_left, key_inside, settling_new, queued_new, search_new, settled_value_back, settled_value_on}
+use Rattle.label_search.proofs.Settling.{HasValue-single, taken, least_known, least_not_settled, key_of_left, least_left, settling_new, queued_new, search_new, settled_value_back, settled_value_on}
 use Rattle.label_search.proofs.Traced.{traced_still, traced_offered}
 
 -- 1 for a cell that isn't settled
@@ -62,9 +62,14 @@ stays (kept old key by tie) x was is at =
     let same : old ≡ x = cc in
     omega (arith, tie, at, ap (λ y. y.value) same, ap (λ y. y.via) same)
 
+-- a cell with a label that says why is below the count
+pub traced_inside : (p : Problem) → IsProblem p → (Row : ℕ → ℕ → Type 0) (d : ℕ) (label : Label) → IsTraced p Row d label → d < p.count
+traced_inside p sound Row d label (inl start) = sound.starts_inside d start.start start.here
+traced_inside p sound Row d label (inr before) = (sound.turns_inside label.via d before.1.expands.by_turn).1
+
 module _ (p : Problem) (sound : IsProblem p) (s : Standing) (under : IsUnderway p s) (c k : ℕ) (least : IsLeast s.keys c k) where
   pub cell_inside : c < p.count
-  cell_inside = omega (arith, key_inside p sound s under c k least, under.room.keys)
+  cell_inside = let known = least_known p sound s under c k least in traced_inside p sound _ c known.0 (under.traced c known.0 known.1)
 
   module _ (new : Standing) (expanded : IsExpanded p.network c k (λ d. ⊤) (taken p sound s under c k least) new) where
     settling : IsSettling (is_settled s) (is_settled new) c
@@ -108,7 +113,7 @@ module _ (p : Problem) (sound : IsProblem p) (s : Standing) (under : IsUnderway 
     -- the search goes on
     pub underway_new : p.target c ≡ false → IsUnderway p new
     underway_new no_target = record {
-      room = record { known = expanded.lengths.known ∙ under.room.known; keys = expanded.lengths.keys ∙ length-set s.keys c None ∙ under.room.keys };
+      room = record { known = omega (arith, expanded.lengths.known, under.room.known); keys = omega (arith, expanded.lengths.keys, length-set s.keys c None, under.room.keys) };
       search = search_new p sound s under c k least new expanded;
       queued = queued_new p sound s under c k least new expanded;
       traced = traced_new;
@@ -122,7 +127,7 @@ module _ (p : Problem) (sound : IsProblem p) (s : Standing) (under : IsUnderway 
   -- the cell is a target
   pub at_goal : p.target c ≡ true → IsAtEnd p (taken p sound s under c k least) (Some (record { cell = c; end = k }))
   at_goal is_target = record {
-    room = record { known = under.room.known; keys = length-set s.keys c None ∙ under.room.keys };
+    room = record { known = under.room.known; keys = omega (arith, length-set s.keys c None, under.room.keys) };
     settled = is_settled s;
     search = under.search;
     traced = under.traced;

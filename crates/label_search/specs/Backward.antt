@@ -6,11 +6,12 @@ use Rattle.label_core.specs.BackwardLabels.{IsExpansionBack}
 use Rattle.label_core.specs.Mirror.{mirror_network, mirror_starts}
 use Rattle.label_search.specs.declared.cells.Closing.{Closing}
 use Rattle.label_search.specs.declared.cells.Run.{Run}
-use Rattle.label_search.specs.declared.labels.Label.{Label}
+use Rattle.label_search.specs.declared.values.CellValue.{CellValue}
 use Rattle.label_search.specs.declared.pick.CellStep.{CellStep}
 use Rattle.label_search.specs.Problem.{Problem, IsIn}
 
--- cells are numbered below the count; those that may come before a cell lie in its runs, of which it has so many
+-- Cells are numbered below the count. Those that may come before a cell lie in its runs, of which it has so many, and those
+-- in which walks may end in the last runs.
 pub record BackwardProblem : Type 0 where
   pub network : Network ℕ
   pub finishes : ℕ → Option Finish
@@ -18,6 +19,8 @@ pub record BackwardProblem : Type 0 where
   pub count : ℕ
   pub runs : ℕ → ℕ
   pub run : ℕ → ℕ → Run
+  pub last_runs : ℕ
+  pub last_run : ℕ → Run
 
 -- each cell takes a second or longer, times are small enough to be mirrored and added, and turns and finishes are at cells
 -- below the count
@@ -27,10 +30,11 @@ pub record IsBackwardProblem (b : BackwardProblem) : Type 0 where
   pub small_from : (c : ℕ) → b.network.from c < 2 ^ 31
   pub small_last : (c : ℕ) → b.network.last c < 2 ^ 31
   pub small_finishes : (c : ℕ) (f : Finish) → b.finishes c ≡ Some f → f.earliest_out < 2 ^ 31
-  pub small_count : b.count < 2 ^ 32
   pub turns_in_runs : (c d : ℕ) → IsTrue (b.network.turn c d) → (k : ℕ) × (k < b.runs d) × IsIn (b.run d k) c
   pub turns_inside : (c d : ℕ) → IsTrue (b.network.turn c d) → (c < b.count) × (d < b.count)
   pub finishes_inside : (c : ℕ) (f : Finish) → b.finishes c ≡ Some f → c < b.count
+  pub finishes_in_runs : (c : ℕ) (f : Finish) → b.finishes c ≡ Some f → (k : ℕ) × (k < b.last_runs) × IsIn (b.last_run k) c
+  pub last_runs_inside : (k : ℕ) → k < b.last_runs → (b.last_run k).until ≤ b.count
 
 abbrev pub finish_of : Closing → Finish
 finish_of o = record { earliest_out = o.earliest_out; latest_out = o.latest_out }
@@ -56,11 +60,13 @@ mirror_problem b = record {
   count = b.count;
   runs = b.runs;
   run = b.run;
+  first_runs = b.last_runs;
+  first_run = b.last_run;
 }
 
--- a label, and a step, in the mirror
-abbrev pub mirror_label : Label → Label
-mirror_label label = record { value = mirror_second - label.value; via = label.via }
+-- a value, and a step, in the mirror
+abbrev pub mirror_value : CellValue → CellValue
+mirror_value row = record { cell = row.cell; value = mirror_second - row.value }
 
 abbrev pub mirror_cell_step : CellStep → CellStep
 mirror_cell_step s = record { cell = s.cell; enter = mirror_second - s.leave; leave = mirror_second - s.enter }

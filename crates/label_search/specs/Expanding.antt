@@ -1,5 +1,5 @@
 -- What does it do to the labels that a cell is expanded?
-use Rattle.std.specs.Prelude.{◌≡◌, ◌<◌, ℕ, ◌⊎◌, length}
+use Rattle.std.specs.Prelude.{◌≡◌, ◌<◌, ◌≤◌, ℕ, ◌⊎◌, length}
 use Rattle.label_core.specs.Walks.{Network}
 use Rattle.label_core.specs.Labels.{IsExpansion}
 use Rattle.label_search.specs.declared.labels.Label.{Label}
@@ -23,10 +23,10 @@ pub record IsExpanded (network : Network ℕ) (c v : ℕ) (IsDone : ℕ → Type
   pub each : (d : ℕ) → Same old new d ⊎ WasExpandedTo network c v old new d
   pub done : (d t : ℕ) → IsDone d → IsExpansion network c v d t → WasOffered old new d (label_by c t)
 
--- there are a place and a key for each of so many cells
+-- there are a place and a key for each of so many cells, or for more
 pub record HasRoom (count : ℕ) (s : Standing) : Type 0 where
-  pub known : length s.known ≡ count
-  pub keys : length s.keys ≡ count
+  pub known : count ≤ length s.known
+  pub keys : count ≤ length s.keys
 
 -- the cell is one of the problem, and its last second is told
 pub record IsReady (p : Problem) (from : Ready) : Type 0 where

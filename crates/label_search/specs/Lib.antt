@@ -5,3 +5,6 @@ pub mod Standing
 pub mod Answer
 pub mod Backward
 pub mod Listed
+pub mod Values
+pub mod Marks
+pub mod Begun

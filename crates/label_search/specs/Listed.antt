@@ -46,6 +46,8 @@ listed_problem cells = record {
   count = length cells;
   runs = λ c. 2;
   run = λ c k. run_of (cell_at cells c) k;
+  first_runs = 1;
+  first_run = λ k. record { first = 0; until = length cells };
 }
 
 -- the cells in the runs may come before
@@ -62,6 +64,8 @@ listed_backward cells = record {
   count = length cells;
   runs = λ c. 2;
   run = λ c k. run_of (cell_at cells c) k;
+  last_runs = 1;
+  last_run = λ k. record { first = 0; until = length cells };
 }
 
 -- the cell takes a second or longer, its times are small, and its runs are of the first n cells

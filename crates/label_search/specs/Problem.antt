@@ -6,7 +6,8 @@ use Rattle.label_search.specs.declared.cells.Cell.{Cell}
 use Rattle.label_search.specs.declared.cells.Opening.{Opening}
 use Rattle.label_search.specs.declared.cells.Run.{Run}
 
--- cells are numbered below the count; those that may follow a cell lie in its runs, of which it has so many
+-- Cells are numbered below the count. Those that may follow a cell lie in its runs, of which it has so many, and those in
+-- which walks may begin in the first runs.
 pub record Problem : Type 0 where
   pub network : Network ℕ
   pub starts : ℕ → Option Start
@@ -14,6 +15,8 @@ pub record Problem : Type 0 where
   pub count : ℕ
   pub runs : ℕ → ℕ
   pub run : ℕ → ℕ → Run
+  pub first_runs : ℕ
+  pub first_run : ℕ → Run
 
 -- the cell is in the run
 pub record IsIn (run : Run) (cell : ℕ) : Type 0 where
@@ -25,10 +28,11 @@ pub record IsProblem (p : Problem) : Type 0 where
   pub takes : (c : ℕ) → 1 ≤ p.network.seconds c
   pub small_seconds : (c : ℕ) → p.network.seconds c < 2 ^ 31
   pub small_last : (c : ℕ) → p.network.last c < 2 ^ 31
-  pub small_count : p.count < 2 ^ 32
   pub turns_in_runs : (c d : ℕ) → IsTrue (p.network.turn c d) → (k : ℕ) × (k < p.runs c) × IsIn (p.run c k) d
   pub turns_inside : (c d : ℕ) → IsTrue (p.network.turn c d) → (c < p.count) × (d < p.count)
   pub starts_inside : (c : ℕ) (s : Start) → p.starts c ≡ Some s → c < p.count
+  pub starts_in_runs : (c : ℕ) (s : Start) → p.starts c ≡ Some s → (k : ℕ) × (k < p.first_runs) × IsIn (p.first_run k) c
+  pub first_runs_inside : (k : ℕ) → k < p.first_runs → (p.first_run k).until ≤ p.count
 
 -- the cell as the network has it
 abbrev pub cell_of : Network ℕ → ℕ → Cell

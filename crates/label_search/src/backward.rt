@@ -1,19 +1,17 @@
 //! The search backward in time: latest entries, and the route with the latest begin. It is the search forward in a mirror
 //! of time, with the same order of cells.
-ghost use Rattle.std.specs.Prelude.{◌≡◌, ℕ, ◌<◌, ◌-◌, ◌↔◌, option_map, map, reverse, vec_len, IfSome, IfNone, IfOk};
-ghost use Rattle.label_core.specs.BackwardWalks.{IsLatestEntry};
+ghost use Rattle.std.specs.Prelude.{◌≡◌, ◌<◌, ◌-◌, option_map, map, reverse, IfSome, IfNone, IfOk};
 ghost use Rattle.label_core.specs.BackwardBest.{IsBestBegin, HasNoWalkFrom, IsPickedRouteOn};
-ghost use Rattle.label_core.specs.BackwardTables.{IsAbove};
 ghost use Rattle.label_core.specs.Mirror.{mirror_start, IsUpTo};
 ghost use Rattle.label_search.specs.Problem.{start_of};
-ghost use Rattle.label_search.specs.Backward.{IsBackwardProblem, mirror_problem, mirror_second, mirror_label, mirror_cell_step, finish_of};
-ghost use Rattle.label_search.specs.Labels.{HasValue};
+ghost use Rattle.label_search.specs.Backward.{IsBackwardProblem, mirror_problem, mirror_second, mirror_value, mirror_cell_step, finish_of};
+ghost use Rattle.label_search.specs.Values.{AreEntries};
 ghost use Rattle.label_search.specs.Answer.{step_of, best_of, ComesBefore};
 
 use crate::cells::{BackwardCells, Cell, Closing, ForwardCells, Opening, Run};
-use crate::forward::{Found, Route, earliest_exits};
-use crate::labels::Label;
+use crate::forward::{Found, LabelRoom, Route, earliest_exits};
 use crate::pick::CellStep;
+use crate::values::CellValue;
 use std::alloc::Global;
 use taxi_base::Memory;
 
@@ -54,6 +52,14 @@ impl<C: BackwardCells> ForwardCells for Mirror<'_, C> {
         self.cells.is_source(cell)
     }
 
+    fn first_runs(&self) -> usize {
+        self.cells.last_runs()
+    }
+
+    fn first_run(&self, run: usize) -> Run {
+        self.cells.last_run(run)
+    }
+
     fn runs(&self, cell: usize) -> usize {
         self.cells.runs_before(cell)
     }
@@ -86,29 +92,25 @@ fn mirror_step(step: CellStep) -> CellStep
     }
 }
 
-/// The label, if there is one, in the mirror.
-fn mirror_known(known: Option<Label>) -> Option<Label>
-    ensures { result ≡ option_map mirror_label known }
+/// The value in the mirror.
+fn mirror_value(row: CellValue) -> CellValue
+    ensures { result ≡ mirror_value row }
 {
-    match known {
-        None => None,
-        Some(label) => Some(Label {
-            value: MIRROR.saturating_sub(label.value),
-            via: label.via,
-        }),
+    CellValue {
+        cell: row.cell,
+        value: MIRROR.saturating_sub(row.value),
     }
 }
 
-/// The labels in the mirror.
-fn mirror_labels(labels: Vec<Option<Label>>) -> Vec<Option<Label>>
-    ensures length { vec_len result ≡ vec_len labels }
-    ensures items { result.items ≡ map (option_map mirror_label) labels.items }
+/// The values in the mirror.
+fn mirror_values(values: Vec<CellValue>) -> Vec<CellValue>
+    ensures { result.items ≡ map mirror_value values.items }
 {
-    let mut labels = labels;
-    for cell in 0..labels.len() {
-        labels[cell] = mirror_known(labels[cell]);
+    let mut values = values;
+    for at in 0..values.len() {
+        values[at] = mirror_value(values[at]);
     }
-    labels
+    values
 }
 
 /// The steps in the mirror, the last one first.
@@ -139,11 +141,14 @@ fn mirror_route(route: Option<Route>) -> Option<Route>
 
 /// The picked one of the walks that begin latest, if there is a walk, and all latest entries after its begin. Where there
 /// is no walk the table has all latest entries.
-pub fn latest_entries<C: BackwardCells>(alloc: Global, cells: &C) -> Result<Found, Memory>
+pub fn latest_entries<C: BackwardCells>(
+    alloc: Global,
+    room: &mut LabelRoom,
+    cells: &C,
+) -> Result<Found, Memory>
     requires sound { IsBackwardProblem (C.backward cells.now) }
-    ensures length { IfOk result (λ found. vec_len found.labels ≡ (C.backward cells.now).count) }
-    ensures table { IfOk result (λ found. (c v : ℕ) → HasValue found.labels.items c v
-        ↔ (IsLatestEntry (C.backward cells.now).network (C.backward cells.now).finishes c v × IsAbove (best_of found.route) v)) }
+    ensures table { IfOk result (λ found. AreEntries (C.backward cells.now).network (C.backward cells.now).finishes (C.backward cells.now).count
+        (best_of found.route) found.values.items) }
     ensures best { IfOk result (λ found. IfSome (best_of found.route)
         (IsBestBegin (C.backward cells.now).network (C.backward cells.now).finishes (C.backward cells.now).source)) }
     ensures picked { IfOk result (λ found. IfSome found.route (λ r. IsPickedRouteOn (C.backward cells.now).network (C.backward cells.now).finishes ComesBefore
@@ -151,9 +156,9 @@ pub fn latest_entries<C: BackwardCells>(alloc: Global, cells: &C) -> Result<Foun
     ensures none { IfOk result (λ found. IfNone (best_of found.route)
         (HasNoWalkFrom (C.backward cells.now).network (C.backward cells.now).finishes (C.backward cells.now).source)) }
 {
-    let found = earliest_exits(alloc, &Mirror { cells })?;
+    let found = earliest_exits(alloc, room, &Mirror { cells })?;
     Ok(Found {
-        labels: mirror_labels(found.labels),
+        values: mirror_values(found.values),
         route: mirror_route(found.route),
     })
 }

@@ -55,6 +55,15 @@ pub trait ForwardCells {
         requires { cell < (problem self.now).count }
         ensures { result ≡ (problem self.now).target cell };
 
+    /// How many runs of cells there are in which walks may begin.
+    fn first_runs(&self) -> usize
+        ensures { result ≡ (problem self.now).first_runs };
+
+    /// Cells in which walks may begin.
+    fn first_run(&self, run: usize) -> Run
+        requires { run < (problem self.now).first_runs }
+        ensures { result ≡ (problem self.now).first_run run };
+
     /// How many runs of cells may follow the cell.
     fn runs(&self, cell: usize) -> usize
         requires { cell < (problem self.now).count }
@@ -88,6 +97,15 @@ pub trait BackwardCells {
     fn is_source(&self, cell: usize) -> bool
         requires { cell < (backward self.now).count }
         ensures { result ≡ (backward self.now).source cell };
+
+    /// How many runs of cells there are in which walks may end.
+    fn last_runs(&self) -> usize
+        ensures { result ≡ (backward self.now).last_runs };
+
+    /// Cells in which walks may end.
+    fn last_run(&self, run: usize) -> Run
+        requires { run < (backward self.now).last_runs }
+        ensures { result ≡ (backward self.now).last_run run };
 
     /// How many runs of cells may come before the cell.
     fn runs_before(&self, cell: usize) -> usize

@@ -59,7 +59,7 @@ fn expand_to<C: ForwardCells>(cells: &C, from: Ready, next: usize, labels: &mut 
             next,
             Label {
                 value,
-                via: from.cell as u32,
+                via: from.cell,
             },
         );
     }

@@ -1,18 +1,19 @@
 //! The search forward in time: earliest exits, and the route with the earliest end.
-ghost use Rattle.std.specs.Prelude.{◌≡◌, ℕ, ◌↔◌, map, reverse, vec_len, IfSome, IfNone, IfOk};
+ghost use Rattle.std.specs.Prelude.{◌≡◌, map, reverse, IfSome, IfNone, IfOk};
 ghost use Rattle.label_core.specs.Walks.{IsEarliestExit};
 ghost use Rattle.label_core.specs.Picked.{IsPicked};
 ghost use Rattle.label_core.specs.Best.{IsBestEnd, HasNoWalk, IsPickedRoute};
-ghost use Rattle.label_core.specs.Tables.{IsBelow};
 ghost use Rattle.label_search.specs.Problem.{IsProblem};
-ghost use Rattle.label_search.specs.Labels.{standing, HasValue};
+ghost use Rattle.label_search.specs.Labels.{standing};
+ghost use Rattle.label_search.specs.Values.{AreExits};
 ghost use Rattle.label_search.specs.Standing.{IsAtEnd};
 ghost use Rattle.label_search.specs.Answer.{step_of, best_of, end_of_goal, ComesBefore};
 
 use crate::cells::ForwardCells;
-use crate::labels::{Label, Labels};
+use crate::labels::Labels;
 use crate::pick::{CellStep, pick_back};
 use crate::settle::{Goal, begin, settle};
+use crate::values::CellValue;
 use std::alloc::Global;
 use taxi_base::Memory;
 
@@ -23,20 +24,38 @@ pub struct Route {
     pub best: u32,
 }
 
-/// The label of each cell that has one, and the picked route, if there is a walk to a target.
+/// The values of cells, by cell, and the picked route, if there is a walk to a target.
 #[derive(Drop)]
 pub struct Found {
-    pub labels: Vec<Option<Label>>,
+    pub values: Vec<CellValue>,
     pub route: Option<Route>,
+}
+
+/// What searches use up, kept from one to the next so that none makes it anew.
+#[derive(Drop)]
+pub struct LabelRoom {
+    labels: Labels,
+}
+
+impl LabelRoom {
+    /// Room for no search yet. It grows with the searches.
+    pub fn new(alloc: Global) -> Result<LabelRoom, Memory> {
+        Ok(LabelRoom {
+            labels: Labels::new(alloc, 0)?,
+        })
+    }
 }
 
 /// The picked one of the walks that end earliest, if there is a walk, and all earliest exits before its end. Where there
 /// is no walk the table has all earliest exits.
-pub fn earliest_exits<C: ForwardCells>(alloc: Global, cells: &C) -> Result<Found, Memory>
+pub fn earliest_exits<C: ForwardCells>(
+    alloc: Global,
+    room: &mut LabelRoom,
+    cells: &C,
+) -> Result<Found, Memory>
     requires sound { IsProblem (C.problem cells.now) }
-    ensures length { IfOk result (λ found. vec_len found.labels ≡ (C.problem cells.now).count) }
-    ensures table { IfOk result (λ found. (c v : ℕ) → HasValue found.labels.items c v
-        ↔ (IsEarliestExit (C.problem cells.now).network (C.problem cells.now).starts c v × IsBelow (best_of found.route) v)) }
+    ensures table { IfOk result (λ found. AreExits (C.problem cells.now).network (C.problem cells.now).starts (C.problem cells.now).count
+        (best_of found.route) found.values.items) }
     ensures best { IfOk result (λ found. IfSome (best_of found.route)
         (IsBestEnd (C.problem cells.now).network (C.problem cells.now).starts (C.problem cells.now).target)) }
     ensures picked { IfOk result (λ found. IfSome found.route (λ r. IsPickedRoute (C.problem cells.now).network (C.problem cells.now).starts ComesBefore
@@ -44,12 +63,13 @@ pub fn earliest_exits<C: ForwardCells>(alloc: Global, cells: &C) -> Result<Found
     ensures none { IfOk result (λ found. IfNone (best_of found.route)
         (HasNoWalk (C.problem cells.now).network (C.problem cells.now).starts (C.problem cells.now).target)) }
 {
-    let mut labels = Labels::new(alloc, cells.count())?;
-    begin(cells, &mut labels);
-    let goal = settle(cells, &mut labels);
-    let route = route_to(alloc, cells, &labels, goal)?;
-    let labels = labels.cut(end_of_goal(goal));
-    Ok(Found { labels, route })
+    let labels = &mut room.labels;
+    labels.renew(alloc, cells.count())?;
+    begin(cells, labels);
+    let goal = settle(cells, labels);
+    let route = route_to(alloc, cells, labels, goal)?;
+    let values = labels.values_below(alloc, end_of_goal(goal))?;
+    Ok(Found { values, route })
 }
 
 /// The goal's value.

@@ -7,15 +7,18 @@ mod expand;
 mod forward;
 mod labels;
 mod list;
+mod marks;
+mod offering;
 mod pick;
 mod settle;
+mod values;
 
 pub use backward::latest_entries;
 pub use cells::{BackwardCells, Cell, Closing, ForwardCells, Opening, Run};
-pub use forward::{Found, Route, earliest_exits};
-pub use labels::Label;
+pub use forward::{Found, LabelRoom, Route, earliest_exits};
 pub use list::{BackwardList, ForwardList, ListedCell, are_fit};
 pub use pick::CellStep;
+pub use values::CellValue;
 
 #[cfg(test)]
 mod tests;

@@ -37,14 +37,14 @@ fn is_fit(cell: &ListedCell, count: usize) -> bool
 pub fn are_fit(cells: &[ListedCell]) -> bool
     ensures forward { IsTrue result → IsProblem (listed_problem cells.now) }
     ensures backward { IsTrue result → IsBackwardProblem (listed_backward cells.now) }
-    ensures exact { IsTrue result ↔ (All (IsFit (length cells.now)) cells.now × (length cells.now < 2 ^ 32)) }
+    ensures exact { IsTrue result ↔ All (IsFit (length cells.now)) cells.now }
 {
     for cell in cells {
         if !is_fit(cell, cells.len()) {
             return false;
         }
     }
-    cells.len() < 4294967296
+    true
 }
 
 /// Cells whose runs are of those that may follow.
@@ -70,6 +70,17 @@ impl ForwardCells for ForwardList<'_> {
 
     fn is_target(&self, cell: usize) -> bool {
         self.cells[cell].is_goal
+    }
+
+    fn first_runs(&self) -> usize {
+        1
+    }
+
+    fn first_run(&self, _run: usize) -> Run {
+        Run {
+            first: 0,
+            until: self.cells.len(),
+        }
     }
 
     fn runs(&self, _cell: usize) -> usize {
@@ -108,6 +119,17 @@ impl BackwardCells for BackwardList<'_> {
 
     fn is_source(&self, cell: usize) -> bool {
         self.cells[cell].is_goal
+    }
+
+    fn last_runs(&self) -> usize {
+        1
+    }
+
+    fn last_run(&self, _run: usize) -> Run {
+        Run {
+            first: 0,
+            until: self.cells.len(),
+        }
     }
 
     fn runs_before(&self, _cell: usize) -> usize {

@@ -70,7 +70,7 @@ pub(crate) fn pick_back<C: ForwardCells>(
         }
         let enter = label.value - cells.cell(cell).seconds;
         steps.push(CellStep { cell, enter, leave })?;
-        cell = label.via as usize;
+        cell = label.via;
         label = label_at(labels, cell);
         leave = enter;
     }

@@ -5,6 +5,7 @@ ghost use Rattle.label_queue.specs.Keys.{key_of};
 ghost use Rattle.label_search.specs.Problem.{IsProblem};
 ghost use Rattle.label_search.specs.Labels.{standing, label_of};
 ghost use Rattle.label_search.specs.Expanding.{HasRoom};
+ghost use Rattle.label_search.specs.Begun.{IsBegun, InRuns};
 ghost use Rattle.label_search.specs.Standing.{IsUnderway, IsAtEnd};
 
 use crate::cells::{Cell, ForwardCells, Opening};
@@ -57,15 +58,22 @@ pub(crate) fn begin<C: ForwardCells>(cells: &C, labels: &mut Labels)
     requires unqueued { (c : ℕ) → key_of labels.old.queue c ≡ None }
     ensures { IsUnderway (C.problem cells.now) (standing labels.new) }
 {
-    for cell in 0..cells.count() {
+    for run in 0..cells.first_runs() {
+        begin_run(cells, run, labels);
+    }
+}
+
+/// Labels those of one more run.
+fn begin_run<C: ForwardCells>(cells: &C, run: usize, labels: &mut Labels)
+    requires sound { IsProblem (C.problem cells.now) }
+    requires is_run { run < (C.problem cells.now).first_runs }
+    requires begun { IsBegun (C.problem cells.now) (InRuns (C.problem cells.now) run) (standing labels.old) }
+    ensures { IsBegun (C.problem cells.now) (InRuns (C.problem cells.now) (run + 1)) (standing labels.new) }
+{
+    let part = cells.first_run(run);
+    for cell in part.first..part.until {
         if let Some(value) = start_entry(cells, cell) {
-            labels.offer(
-                cell,
-                Label {
-                    value,
-                    via: cell as u32,
-                },
-            );
+            labels.offer(cell, Label { value, via: cell });
         }
     }
 }

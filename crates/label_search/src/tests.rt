@@ -1,7 +1,7 @@
 //! A taxiway from a runway R over J to a stand S1, and over J and K to a stand S2, with the windows that two holds leave.
 use crate::{
-    BackwardList, Cell, CellStep, Closing, ForwardList, Found, Label, ListedCell, Opening, Run,
-    are_fit, earliest_exits, latest_entries,
+    BackwardList, Cell, CellStep, CellValue, Closing, ForwardList, Found, LabelRoom, ListedCell,
+    Opening, Run, are_fit, earliest_exits, latest_entries,
 };
 use std::test::Fail;
 
@@ -66,11 +66,8 @@ fn windows_backward() -> [ListedCell; 14] {
     ]
 }
 
-fn value_at(labels: &[Option<Label>], cell: usize) -> Option<u32> {
-    match labels.get(cell) {
-        Some(Some(label)) => Some(label.value),
-        _ => None,
-    }
+fn value(cell: usize, value: u32) -> CellValue {
+    CellValue { cell, value }
 }
 
 fn step(cell: usize, enter: u32, leave: u32) -> CellStep {
@@ -94,13 +91,15 @@ fn arrival(earliest: u32, latest: u32) -> [ListedCell; 14] {
 
 #[test]
 fn arrivals_between_two_holds(rt: HostRuntime) -> Result<(), Fail> {
+    let mut room = LabelRoom::new(rt.alloc())?;
     let waits = arrival(100, 160);
     assert!(rt; are_fit(&waits));
-    let Found { labels, route } = earliest_exits(rt.alloc(), &ForwardList { cells: &waits })?;
-    for cell in 0..14 {
-        let want = if cell == 1 { Some(170) } else { None };
-        assert_eq!(rt; value_at(&labels, cell), want, "at cell {cell}");
-    }
+    let Found { values, route } = earliest_exits(
+        rt.alloc(),
+        &mut room,
+        &ForwardList { cells: &waits },
+    )?;
+    assert_eq!(rt; values.as_slice(), [value(1, 170)].as_slice());
     let route = route.ok_or("a route")?;
     assert_eq!(rt; route.best, 190);
     assert_eq!(rt;
@@ -110,11 +109,12 @@ fn arrivals_between_two_holds(rt: HostRuntime) -> Result<(), Fail> {
 
     let just = arrival(60, 60);
     assert!(rt; are_fit(&just));
-    let Found { labels, route } = earliest_exits(rt.alloc(), &ForwardList { cells: &just })?;
-    for cell in 0..14 {
-        let want = if cell == 0 { Some(90) } else { None };
-        assert_eq!(rt; value_at(&labels, cell), want, "at cell {cell}");
-    }
+    let Found { values, route } = earliest_exits(
+        rt.alloc(),
+        &mut room,
+        &ForwardList { cells: &just },
+    )?;
+    assert_eq!(rt; values.as_slice(), [value(0, 90)].as_slice());
     let route = route.ok_or("a route")?;
     assert_eq!(rt;
         route.steps.as_slice(),
@@ -123,11 +123,13 @@ fn arrivals_between_two_holds(rt: HostRuntime) -> Result<(), Fail> {
 
     let late = arrival(61, 61);
     assert!(rt; are_fit(&late));
-    let Found { labels, route } = earliest_exits(rt.alloc(), &ForwardList { cells: &late })?;
+    let Found { values, route } = earliest_exits(
+        rt.alloc(),
+        &mut room,
+        &ForwardList { cells: &late },
+    )?;
     assert!(rt; route.is_none());
-    for cell in 0..14 {
-        assert_eq!(rt; value_at(&labels, cell), None, "at cell {cell}");
-    }
+    assert!(rt; values.is_empty());
     Ok(())
 }
 
@@ -142,15 +144,16 @@ fn a_departure_between_two_holds(rt: HostRuntime) -> Result<(), Fail> {
     cells[3].closing = Some(closing);
     cells[13].is_goal = true;
     assert!(rt; are_fit(&cells));
-    let Found { labels, route } = latest_entries(rt.alloc(), &BackwardList { cells: &cells })?;
-    for cell in 0..14 {
-        let want = match cell {
-            3 => Some(170),
-            11 => Some(145),
-            _ => None,
-        };
-        assert_eq!(rt; value_at(&labels, cell), want, "at cell {cell}");
-    }
+    let mut room = LabelRoom::new(rt.alloc())?;
+    let Found { values, route } = latest_entries(
+        rt.alloc(),
+        &mut room,
+        &BackwardList { cells: &cells },
+    )?;
+    assert_eq!(rt;
+        values.as_slice(),
+        [value(3, 170), value(11, 145)].as_slice()
+    );
     let route = route.ok_or("a route")?;
     assert_eq!(rt; route.best, 130);
     assert_eq!(rt;

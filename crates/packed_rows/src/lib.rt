@@ -4,9 +4,8 @@
 ghost use Rattle.std.specs.Prelude.{◌≡◌, ◌<◌, ◌≤◌, ◌++◌, ◌∷◌, [], Some, length, slice_get, slice_index, OnOk, OnErr};
 ghost use Rattle.packed_rows.specs.Rows.{rows_from, CutUpTo};
 
-use std::alloc::Global;
+use std::alloc::{AllocError, Global};
 use std::marker::Model;
-use taxi_base::Memory;
 
 /// Rows of any lengths in one array, seen by contracts as the list of the rows.
 #[derive(Drop)]
@@ -39,7 +38,7 @@ impl<T: Copy> PackedRows<T> {
     }
 
     /// Adds a row behind the others.
-    pub fn push_row(&mut self, row: &[T]) -> Result<(), Memory>
+    pub fn push_row(&mut self, row: &[T]) -> Result<(), AllocError>
         ensures ok { OnOk result (self.new ≡ self.old ++ row.now ∷ []) }
         ensures err { OnErr result (self.new ≡ self.old) }
     {

@@ -1,17 +1,17 @@
 -- What the groups of arcs hold as arcs and forbidden turns are gone through.
-use Rattle.std.proofs.Common.{◌≡◌, ℕ, ◌+◌, ◌<◌, ◌≤◌, Bool, true, false, ◌&&◌, ◌||◌, List, [], ◌∷◌, ◌++◌, length, get_or, set, map, Option, Some, None, ◌⊎◌, inl, inr, IsTrue, refl, sym, ◌∙◌, ap, subst, arith, length-set, Vec, Global, Result, Ok, Err}
+use Rattle.std.proofs.Common.{◌≡◌, ℕ, ◌+◌, ◌<◌, Bool, true, false, ◌&&◌, ◌||◌, List, [], ◌∷◌, ◌++◌, length, get_or, set, Option, Some, None, inl, inr, refl, sym, ◌∙◌, ap, subst, arith, length-set, Vec, Global, Result, Ok, Err}
 use Rattle.std.specs.Prelude.{All, IfOk, ◌==◌}
 use Rattle.std.proofs.lemmas.Bool.{cases_eq, cases_lt, eq-eqb, ne_eqb}
 use Rattle.std.proofs.lemmas.List.{get_or-set_same, get_or-set_other, get_or-map, map-set, get_or_past, length-map, length_push, get_or_append_left, get_or_push}
 use Rattle.std.proofs.lemmas.List.Folds.{list_any-append}
 use Rattle.std.proofs.lemmas.Option.{none-some, same_Some}
-use Rattle.packed_rows.proofs.InOrder.{AreAll-none, AreAll-same, AreAll-push}
+use Rattle.taxi_base.proofs.InOrder.{AreAll-none, AreAll-same, AreAll-push}
 use Rattle.taxi_base.specs.declared.numbers.Node.{Node}
 use Rattle.taxi_base.specs.declared.numbers.Arc.{Arc}
 use Rattle.taxi_base.specs.Airport.{Link}
 use Rattle.segment_graph.specs.declared.links.Side.{Side}
 use Rattle.segment_graph.specs.Graphs.{AreArcRows}
-use Rattle.segment_graph.specs.Groups.{groups_of, end_in, AreEndRows, AreGrouped, AreBarred, has_arc, is_forbidden}
+use Rattle.segment_graph.specs.Groups.{groups_of, end_in, AreEndRows, AreGrouped, AreBarred, has_arc}
 use Rattle.segment_graph.proofs.Ends.{same_node, same_arc, end_in-low}
 
 abbrev arc_number : Arc → ℕ

@@ -1,14 +1,14 @@
 -- The turns from and to an arc, as a part of the arcs at its end.
-use Rattle.std.proofs.Common.{◌≡◌, ℕ, ◌+◌, ◌/◌, ◌<◌, Bool, true, false, ◌&&◌, List, [], length, get_or, Option, Some, None, IsTrue, refl, sym, ◌∙◌, ap, subst, arith}
+use Rattle.std.proofs.Common.{◌≡◌, ℕ, ◌/◌, Bool, true, false, ◌&&◌, List, [], get_or, Option, Some, None, IsTrue, refl, sym, ◌∙◌, ap}
 use Rattle.std.specs.Prelude.{◌==◌, not, filter, is_some}
 use Rattle.std.proofs.lemmas.Bool.{and_parts, and_from, eqb-true, eq-eqb}
-use Rattle.packed_rows.proofs.InOrder.{same_answer, Contains-test, test-Contains, AreAll-none, AreAll-same, AreAll-filter}
+use Rattle.taxi_base.proofs.InOrder.{same_answer, Contains-test, test-Contains, AreAll-none, AreAll-same, AreAll-filter}
 use Rattle.taxi_base.specs.declared.numbers.Node.{Node}
 use Rattle.taxi_base.specs.declared.numbers.Arc.{Arc}
-use Rattle.taxi_base.specs.Airport.{Link, Layout, meet, ends, head, arc_exists, permits}
+use Rattle.taxi_base.specs.Airport.{Link, Layout, meet, ends, head, arc_exists, is_forbidden, permits}
 use Rattle.segment_graph.specs.declared.links.Side.TheVariants.{Tail, Head}
 use Rattle.segment_graph.specs.Graphs.{AreArcs, AreLeaving, AreEntering, AreNext, ArePrevious, AreNodeRows, AreArcRows}
-use Rattle.segment_graph.specs.Groups.{tail_in, head_in, AreBarred, has_arc, is_forbidden, may_turn, turn_in, AreEndRows, AreTurnsFrom, AreTurnsTo}
+use Rattle.segment_graph.specs.Groups.{tail_in, head_in, AreBarred, has_arc, may_turn, turn_in, AreEndRows, AreTurnsFrom, AreTurnsTo}
 use Rattle.segment_graph.proofs.Ends.{same_node, same_arc, head-is, arc_exists-head}
 
 abbrev arc_number : Arc → ℕ

@@ -1,6 +1,6 @@
 -- Which arcs meet at a node, and which turns there are.
 use Rattle.std.specs.Prelude.{ℕ, ◌≡◌, ◌+◌, ◌<◌, List, [], length, IsTrue, Some, slice_index_or}
-use Rattle.packed_rows.specs.Lists.{AreAll}
+use Rattle.taxi_base.specs.Lists.{AreAll}
 use Rattle.taxi_base.specs.declared.numbers.Node.{Node}
 use Rattle.taxi_base.specs.declared.numbers.Arc.{Arc}
 use Rattle.taxi_base.specs.Airport.{Layout, tail, head, permits}

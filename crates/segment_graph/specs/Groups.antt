@@ -1,13 +1,13 @@
 -- What stands in groups of arcs while they are gathered. No public clause cites these.
-use Rattle.std.specs.Prelude.{ℕ, ◌≡◌, ◌+◌, ◌/◌, ◌%◌, ◌<◌, ◌&&◌, ◌==◌, not, Bool, Vec, List, [], length, map, Option, Some, None, IsTrue, slice_get, slice_index_or, option_map, option_and_then}
+use Rattle.std.specs.Prelude.{ℕ, ◌≡◌, ◌/◌, ◌%◌, ◌<◌, ◌&&◌, ◌==◌, not, Bool, Vec, List, [], length, map, Option, Some, IsTrue, slice_get, slice_index_or, option_map, option_and_then}
 use Rattle.std.specs.List.{list_any}
 use Rattle.std.specs.declared.alloc.Global.{Global}
 use Rattle.taxi_base.specs.declared.numbers.Node.{Node}
 use Rattle.taxi_base.specs.declared.numbers.Arc.{Arc}
-use Rattle.taxi_base.specs.Airport.{Link, ends_of_link, meet}
+use Rattle.taxi_base.specs.Airport.{Link, ends_of_link, meet, is_forbidden}
 use Rattle.segment_graph.specs.declared.links.Side.{Side}
 use Rattle.segment_graph.specs.declared.links.Side.TheVariants.{Tail, Head}
-use Rattle.segment_graph.specs.Graphs.{AreArcs, AreNodeRows, AreArcRows}
+use Rattle.segment_graph.specs.Graphs.{AreArcs, AreNodeRows}
 
 -- the groups as lists
 abbrev pub groups_of : List (Vec Arc Global) → List (List Arc)
@@ -30,9 +30,6 @@ pub record AreGrouped (End : Arc → Option Node) (below : ℕ) (groups : List (
 
 abbrev pub has_arc : List Arc → Arc → Bool
 has_arc arcs y = list_any (λ a. a.0 == y.0) arcs
-
-abbrev pub is_forbidden : List (Arc × Arc) → Arc → Arc → Bool
-is_forbidden forbidden x y = list_any (λ p. p.0.0 == x.0 && p.1.0 == y.0) forbidden
 
 -- each arc's group has those to which a turn from it is forbidden
 pub record AreBarred (forbidden : List (Arc × Arc)) (groups : List (List Arc)) : Type 0 where

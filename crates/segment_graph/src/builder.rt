@@ -1,7 +1,6 @@
 //! A graph in the making.
 ghost use Rattle.std.specs.Prelude.{◌≡◌, ◌+◌, ◌<◌, ◌≤◌, ◌++◌, ◌∷◌, [], length, IsTrue, IfOk, OnOk, OnErr};
-ghost use Rattle.taxi_base.specs.Airport.{Layout, arc_exists};
-ghost use Rattle.segment_graph.specs.Layouts.{ends_at_node};
+ghost use Rattle.taxi_base.specs.Airport.{Layout, arc_exists, link_ends};
 
 use crate::graph::Graph;
 use crate::links::Link;
@@ -57,8 +56,8 @@ impl GraphBuilder {
         requires few { length self.old.links < 10000 }
         requires first { a.0 < self.old.nodes }
         requires second { b.0 < self.old.nodes }
-        requires degree_first { ends_at_node a (self.old.links ++ record { from = a; to = b; both = both } ∷ []) ≤ 32 }
-        requires degree_second { ends_at_node b (self.old.links ++ record { from = a; to = b; both = both } ∷ []) ≤ 32 }
+        requires degree_first { link_ends a (self.old.links ++ record { from = a; to = b; both = both } ∷ []) ≤ 32 }
+        requires degree_second { link_ends b (self.old.links ++ record { from = a; to = b; both = both } ∷ []) ≤ 32 }
         ensures number { IfOk result (λ s. s.0 ≡ length self.old.links) }
         ensures ok { OnOk result (self.new ≡ record self.old { links = self.old.links ++ record { from = a; to = b; both = both } ∷ [] }) }
         ensures err { OnErr result (self.new ≡ self.old) }

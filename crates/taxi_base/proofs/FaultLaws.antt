@@ -1,25 +1,26 @@
--- The first fault of a route: there is none just where the route is a feasible walk.
-use Rattle.std.proofs.Common.{◌≡◌, ℕ, zero, suc, ◌+◌, ◌-◌, ◌<◌, ◌≤◌, Bool, not, List, [], ◌∷◌, length, inl, inr, IsTrue, IsFalse, Option, Some, None, refl, sym, subst, arith, ◌↔◌}
-use Rattle.std.specs.Prelude.{All}
+-- The first fault of a route: there is none just where the route is a feasible walk. The same of shutting a segment.
+use Rattle.std.proofs.Common.{◌≡◌, ℕ, zero, suc, ◌+◌, ◌-◌, ◌<◌, ◌≤◌, Bool, not, List, [], ◌∷◌, length, map, inl, inr, IsTrue, IsFalse, Option, Some, None, refl, sym, subst, arith, ◌↔◌}
+use Rattle.std.specs.Prelude.{All, flat_map, option_map}
 use Rattle.std.specs.List.{list_any, find, range_with_len}
 use Rattle.std.specs.Option.{option_map_or}
-use Rattle.std.proofs.lemmas.Bool.{cases_Bool, cases_lt, and_from, lt-ltb, le-ltb, both_ways}
+use Rattle.std.proofs.lemmas.Bool.{cases_Bool, cases_lt, and_from, lt-ltb, le-ltb, le-leb, lt-leb, both_ways}
 use Rattle.std.proofs.lemmas.Option.{none-some}
-use Rattle.std.proofs.lemmas.List.Elements.{All-head, All-tail}
+use Rattle.std.proofs.lemmas.List.Elements.{All-head, All-tail, Contains-append_cases}
 use Rattle.taxi_base.specs.declared.numbers.Segment.{Segment}
 use Rattle.taxi_base.specs.declared.numbers.Arc.{Arc}
 use Rattle.taxi_base.specs.declared.numbers.Class.{Class}
 use Rattle.taxi_base.specs.declared.rows.Step.{Step}
 use Rattle.taxi_base.specs.declared.rows.Span.{Span}
 use Rattle.taxi_base.specs.declared.answers.Flight.{Flight}
+use Rattle.taxi_base.specs.declared.answers.Party.{Party}
 use Rattle.taxi_base.specs.declared.answers.StepCause.{StepCause}
 use Rattle.taxi_base.specs.declared.answers.StepFault.{StepFault}
 use Rattle.taxi_base.specs.Airport.{Airport, layout_of, segment_of, arc_exists, seconds}
-use Rattle.taxi_base.specs.Windows.{AllFree, blocks}
-use Rattle.taxi_base.specs.Walks.{hold_under, IsFree, IsFeasibleStep, IsFeasibleWalk, AreJoined}
-use Rattle.taxi_base.specs.State.{State, holds_in, flight_holds}
-use Rattle.taxi_base.specs.Faults.{first_taken, holder_at, conditions_in, taken_cause, may_follow, cause_of, fault_after, route_fault}
-use Rattle.taxi_base.proofs.ListLaws.{list_any-true, list_any-member, flat_map-Contains}
+use Rattle.taxi_base.specs.Windows.{Hold, AllFree, blocks}
+use Rattle.taxi_base.specs.Walks.{free_among, hold_under, IsFreeAmong, IsFeasibleStep, IsFeasibleWalk, AreJoined}
+use Rattle.taxi_base.specs.State.{State, name_precedes, holds_in, flight_holds, party_hold, IsFeasibleHold}
+use Rattle.taxi_base.specs.Faults.{first_taken, first_name, party_at, flight_at, holder_at, taken_by, conditions_in, may_follow, cause_of, fault_after, route_fault, hold_cause, hold_fault}
+use Rattle.taxi_base.proofs.ListLaws.{list_any-true, list_any-member, map-Contains, flat_map-Contains}
 use Rattle.taxi_base.proofs.AirportLaws.{arc_exists-segment}
 use Rattle.taxi_base.proofs.HoldLaws.{is_free-from}
 use Rattle.taxi_base.proofs.WalkLaws.{IsSomeAnd-value}
@@ -76,12 +77,34 @@ find-some p (x ∷ xs) h =
       | inr not_here ↦ let r = find-some p xs (rw not_here at h) in (r.0, rw not_here r.1)
     ]
 
-module _ (airport : Airport) (class : Class) (state : State) where
+-- a holder of either kind suffices
+first_name-party : (a b : Option (List ℕ)) (x : List ℕ) → a ≡ Some x → (name : List ℕ) × (first_name a b ≡ Some name)
+first_name-party _ None x e = (x, rw e refl)
+first_name-party _ (Some y) x e = elim (cases_Bool (name_precedes y x)) [ inl before ↦ (y, rw (e, before) refl) | inr not_before ↦ (x, rw (e, not_before) refl) ]
+
+first_name-flight : (a b : Option (List ℕ)) (y : List ℕ) → b ≡ Some y → (name : List ℕ) × (first_name a b ≡ Some name)
+first_name-flight None b y e = (y, e)
+first_name-flight (Some x) b y e = first_name-party (Some x) b x refl
+
+module _ (airport : Airport) (state : State) where
   -- a second before the horizon that is not free has a holder
-  pub holder_at-some : (s : Segment) (t : ℕ) → s.0 < length airport.segments → t < airport.horizon → IsFalse ((conditions_in airport class state).free s t)
-      → (f : Flight) × (holder_at airport state s t ≡ Some f)
+  pub holder_at-some : (s : Segment) (t : ℕ) → s.0 < length airport.segments → t < airport.horizon → IsFalse (free_among airport (holds_in airport state) s t)
+      → (name : List ℕ) × (holder_at airport state s t ≡ Some name)
   holder_at-some s t on_segment in_time shut =
-      find-some (λ f. list_any (blocks airport.conflicts s t) (flight_holds airport f)) state held
+      let hold = list_any-true (blocks airport.conflicts s t) (holds_in airport state) held_by_some in
+      elim (Contains-append_cases (map party_hold state.parties) (flat_map (flight_holds airport) state.flights) hold.0 hold.1) [
+        | inl by_party ↦
+            let found = map-Contains party_hold state.parties hold.0 by_party in
+            let first = find-some (λ (p : Party). blocks airport.conflicts s t (party_hold p)) state.parties
+            (list_any-member (λ (p : Party). blocks airport.conflicts s t (party_hold p)) state.parties found.0 found.1 (subst (λ h. IsTrue (blocks airport.conflicts s t h)) (sym found.2) hold.2)) in
+            first_name-party (party_at airport state s t) (flight_at airport state s t) first.0.name (rw first.1 refl)
+        | inr by_flight ↦
+            let found = flat_map-Contains (flight_holds airport) state.flights hold.0 by_flight in
+            let first = find-some (λ (f : Flight). list_any (blocks airport.conflicts s t) (flight_holds airport f)) state.flights
+            (list_any-member (λ (f : Flight). list_any (blocks airport.conflicts s t) (flight_holds airport f)) state.flights found.0 found.1
+            (list_any-member (blocks airport.conflicts s t) (flight_holds airport found.0) hold.0 found.2 hold.2)) in
+            first_name-flight (party_at airport state s t) (flight_at airport state s t) first.0.name (rw first.1 refl)
+      ]
     where
       held_by_some : IsTrue (list_any (blocks airport.conflicts s t) (holds_in airport state))
       held_by_some = elim (cases_Bool (list_any (blocks airport.conflicts s t) (holds_in airport state))) [
@@ -89,33 +112,54 @@ module _ (airport : Airport) (class : Class) (state : State) where
         | inr none ↦ absurd (both_ways _ shut (and_from _ _ (lt-ltb _ _ on_segment) (is_free-from airport.conflicts airport.horizon (holds_in airport state) s t in_time none)))
       ]
 
-      held : IsTrue (list_any (λ (f : Flight). list_any (blocks airport.conflicts s t) (flight_holds airport f)) state)
-      held =
-          let hold = list_any-true (blocks airport.conflicts s t) (holds_in airport state) held_by_some in
-          let found = flat_map-Contains (flight_holds airport) state hold.0 hold.1 in
-          list_any-member (λ (f : Flight). list_any (blocks airport.conflicts s t) (flight_holds airport f)) state found.0 found.1
-          (list_any-member (blocks airport.conflicts s t) (flight_holds airport found.0) hold.0 found.2 hold.2)
-
-  abbrev span_held : Step → Span
-  span_held step = (hold_under (conditions_in airport class state) step).span
-
-  abbrev free_there : Step → ℕ → Bool
-  free_there step = (conditions_in airport class state).free (segment_of step.arc)
-
-  -- none is taken just where the step's hold is free
-  taken_cause-None : (step : Step) → (segment_of step.arc).0 < length airport.segments → (span_held step).until ≤ airport.horizon
-      → (taken_cause airport class state step ≡ None) ↔ IsFree (conditions_in airport class state) (hold_under (conditions_in airport class state) step)
-  taken_cause-None step on_segment in_time = (
-    λ h. forward (first_taken (free_there step) (span_held step)) refl h,
-    λ all. rw ((first_taken-None (free_there step) (span_held step)).1 all) refl,
+  -- none is taken just where the hold is free
+  pub taken_by-None : (hold : Hold) → hold.segment.0 < length airport.segments → hold.span.until ≤ airport.horizon
+      → (taken_by airport state hold ≡ None) ↔ IsFreeAmong airport (holds_in airport state) hold
+  taken_by-None hold on_segment in_time = (
+    λ h. forward (first_taken (free_among airport (holds_in airport state) hold.segment) hold.span) refl h,
+    λ all. rw ((first_taken-None (free_among airport (holds_in airport state) hold.segment) hold.span).1 all) refl,
   ) where
-    forward : (o : Option ℕ) → first_taken (free_there step) (span_held step) ≡ o → taken_cause airport class state step ≡ None → AllFree (free_there step) (span_held step)
-    forward None e h = (first_taken-None (free_there step) (span_held step)).0 e
+    forward : (o : Option ℕ) → first_taken (free_among airport (holds_in airport state) hold.segment) hold.span ≡ o → taken_by airport state hold ≡ None
+        → AllFree (free_among airport (holds_in airport state) hold.segment) hold.span
+    forward None e h = (first_taken-None (free_among airport (holds_in airport state) hold.segment) hold.span).0 e
     forward (Some t) e h =
-        let at = first_taken-Some (free_there step) (span_held step) t e in
-        let holder = holder_at-some (segment_of step.arc) t on_segment (omega arith) at.2 in
+        let at = first_taken-Some (free_among airport (holds_in airport state) hold.segment) hold.span t e in
+        let holder = holder_at-some hold.segment t on_segment (omega arith) at.2 in
         absurd (cc (rw (e, holder.1) at h))
 
+  -- ---- why a segment may not be shut
+
+  hold_cause-None : (hold : Hold) → hold.segment.0 < length airport.segments → (hold_cause airport state hold ≡ None) ↔ IsFeasibleHold airport state hold
+  hold_cause-None hold on_segment = (forward, backward) where
+    forward : hold_cause airport state hold ≡ None → IsFeasibleHold airport state hold
+    forward h =
+        elim (cases_lt hold.span.from hold.span.until) [
+          | inr empty ↦ absurd (cc (rw (le-leb _ _ empty) at h))
+          | inl some ↦
+              let h₁ = rw (lt-leb _ _ some) at h in
+              elim (cases_lt airport.horizon hold.span.until) [
+                | inl past ↦ absurd (cc (rw (lt-ltb _ _ past) at h₁))
+                | inr in_time ↦
+                    record { on_segment = on_segment; some = some; in_time = in_time; free = (taken_by-None hold on_segment in_time).0 (rw (le-ltb _ _ in_time) at h₁) }
+              ]
+        ]
+
+    backward : IsFeasibleHold airport state hold → hold_cause airport state hold ≡ None
+    backward feasible =
+        rw (lt-leb hold.span.until hold.span.from feasible.some, le-ltb airport.horizon hold.span.until feasible.in_time) ((taken_by-None hold on_segment feasible.in_time).1 feasible.free)
+
+  -- A span has no fault just where a segment of the airport may be shut for it.
+  pub hold_fault-None : (hold : Hold) → hold.segment.0 < length airport.segments → (hold_fault airport state hold ≡ None) ↔ IsFeasibleHold airport state hold
+  unfolding hold_fault
+  hold_fault-None hold on_segment = (
+    λ h. (hold_cause-None hold on_segment).0 (no_cause (hold_cause airport state hold) h),
+    λ feasible. rw ((hold_cause-None hold on_segment).1 feasible) refl,
+  ) where
+    no_cause : (o : Option StepCause) → option_map (λ cause. fault 1 cause) o ≡ None → o ≡ None
+    no_cause None h = refl
+    no_cause (Some cause) h = absurd (none-some (fault 1 cause) (sym h))
+
+module _ (airport : Airport) (class : Class) (state : State) where
   -- ---- why a step fails
 
   -- No cause stands just where the class can make the step, and the turn is permitted.
@@ -142,7 +186,7 @@ module _ (airport : Airport) (class : Class) (state : State) where
                       | inl past ↦ absurd (cc (rw (lt-ltb _ _ past) at h₃))
                       | inr in_time ↦
                           let none = rw (le-ltb _ _ in_time) at h₃ in (
-                            record { on_arc = on_arc; lasts = rw e lasts; in_time = in_time; free = (taken_cause-None step on_segment (omega arith)).0 none },
+                            record { on_arc = on_arc; lasts = rw e lasts; in_time = in_time; free = (taken_by-None airport state (hold_under (conditions_in airport class state) step) on_segment (omega arith)).0 none },
                             allowed,
                           )
                     ]
@@ -152,7 +196,7 @@ module _ (airport : Airport) (class : Class) (state : State) where
     backward : IsFeasibleStep (conditions_in airport class state) step → IsTrue (may_follow airport before step.arc) → cause_of airport class state before step ≡ None
     backward made allowed =
         let known = IsSomeAnd-value (seconds airport class (segment_of step.arc)) (λ n. step.enter + n ≤ step.leave) made.lasts in
-        let none = (taken_cause-None step on_segment (omega (arith, made.in_time))).1 made.free in
+        let none = (taken_by-None airport state (hold_under (conditions_in airport class state) step) on_segment (omega arith)).1 made.free in
         rw (known.1, allowed, le-ltb step.leave (step.enter + known.0) known.2, le-ltb airport.horizon step.leave made.in_time) none
 
   -- ---- the first step that fails

@@ -1,5 +1,5 @@
 //! What a flight asks for, and what is answered.
-use crate::{Class, LabelRow, List, Name, Node, Step, Time};
+use crate::{Class, LabelRow, List, Name, Node, Segment, Step, Time};
 
 /// What a flight asked for.
 #[derive(Clone, Copy, Debug, PartialEq, Eq)]
@@ -26,6 +26,15 @@ pub struct Flight {
     pub class: Class,
     pub request: Request,
     pub steps: List<Step>,
+}
+
+/// A work party: it shuts a segment for a time.
+#[derive(Clone, Copy, Debug, PartialEq, Eq)]
+pub struct Party {
+    pub name: Name,
+    pub segment: Segment,
+    pub from: Time,
+    pub until: Time,
 }
 
 /// What a search answers.

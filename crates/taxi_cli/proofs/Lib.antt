@@ -2,3 +2,4 @@ pub mod RunLaws
 pub mod SoFar
 pub mod EndingLaws
 pub mod InputLaws
+pub mod DueLaws

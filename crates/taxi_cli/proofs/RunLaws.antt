@@ -1,19 +1,15 @@
 -- Runs: they begin, go on, keep the flights sound, and always come to an end.
 use Rattle.std.proofs.Common.{◌≡◌, ◌++◌, ◌∷◌, [], ℕ, List, length, refl, arith}
-use Rattle.std.proofs.lemmas.List.Elements.{All-nil}
 use Rattle.taxi_base.specs.Airport.{Airport}
-use Rattle.taxi_base.specs.State.{State, IsSound}
+use Rattle.taxi_base.specs.State.{State, no_holder, IsSound}
+use Rattle.taxi_base.proofs.StateLaws.{IsSound-nil}
 use Rattle.certificate.specs.declared.block.Block.{Block}
-use Rattle.certificate.specs.Replies.{due, as_due}
-use Rattle.certificate.proofs.ReplyLaws.{IsAnswered-sound}
+use Rattle.certificate.proofs.ReplyLaws.{IsAnswered-sound, reply-is_there}
 use Rattle.taxi_cli.specs.Runs.{IsRun}
 
--- an airport without flights is sound
-pub none-sound : (airport : Airport) → IsSound airport []
-none-sound airport = record {
-  feasible = record { few = omega arith; ordered = λ i j d before within. absurd (omega (arith, within)); walks = All-nil _ };
-  requests = All-nil _;
-}
+-- an airport without holders is sound
+pub none-sound : (airport : Airport) → IsSound airport no_holder
+none-sound airport = IsSound-nil airport
 
 -- a run and one that goes on from it make one run
 pub IsRun-append : (airport : Airport) (before between after : State) (lines more : List (List ℕ)) (blocks others : List Block)
@@ -31,17 +27,17 @@ IsRun-sound airport before after [] [] run sound = rw run sound
 IsRun-sound airport before after [] (block ∷ blocks) run sound = absurd run
 IsRun-sound airport before after (line ∷ lines) [] run sound = absurd run
 IsRun-sound airport before after (line ∷ lines) (block ∷ blocks) run sound =
-    IsRun-sound airport run.0 after lines blocks run.2 (IsAnswered-sound airport before line block run.0 sound run.1.reply).1
+    IsRun-sound airport run.0 after lines blocks run.2 run.1.sound
 
 -- from sound flights there is a run over any lines
 pub run-over : (airport : Airport) (before : State) (lines : List (List ℕ)) → IsSound airport before
     → (blocks : List Block) × (after : State) × IsRun airport before lines blocks after
 run-over airport before [] sound = ([], before, refl)
 run-over airport before (line ∷ lines) sound =
-    let reply = due airport before line in
-    let answered = IsAnswered-sound airport before line reply.block reply.after sound as_due in
-    let rest = run-over airport reply.after lines answered.1 in
-    (reply.block ∷ rest.0, rest.1, (reply.after, answered.0, rest.2))
+    let reply = reply-is_there airport before line in
+    let answered = IsAnswered-sound airport before line reply.0.block reply.0.after sound reply.1 in
+    let rest = run-over airport reply.0.after lines answered.sound in
+    (reply.0.block ∷ rest.0, rest.1, (reply.0.after, answered, rest.2))
 
 -- a run has a block for each line
 pub IsRun-length : (airport : Airport) (before after : State) (lines : List (List ℕ)) (blocks : List Block)

@@ -7,7 +7,7 @@ use Rattle.std.proofs.lemmas.List.Sums.{count_by-le-length}
 use Rattle.std.proofs.lemmas.List.Splits.{length-slice_split}
 use Rattle.std.proofs.lemmas.Grind.{flat_map-append}
 use Rattle.taxi_base.specs.Airport.{Airport}
-use Rattle.taxi_base.specs.State.{State}
+use Rattle.taxi_base.specs.State.{State, no_holder}
 use Rattle.taxi_text.specs.Lines.{lines_of, lines_of_parts, is_skipped}
 use Rattle.taxi_io.specs.Written.{Grew, GrewInPart}
 use Rattle.taxi_io.specs.declared.trouble.Trouble.{Trouble}
@@ -29,11 +29,11 @@ pub record IsSoFar (airport : Airport) (all left : List (List ℕ)) (flights : S
   pub read : List (List ℕ)
   pub blocks : List Block
   pub split : read ++ left ≡ all
-  pub run : IsRun airport [] (commands_in read) blocks flights
+  pub run : IsRun airport no_holder (commands_in read) blocks flights
   pub written : Grew before now (blocks_text airport blocks)
   pub counted : count ≡ length blocks
 
-pub nothing-so-far : (airport : Airport) (all : List (List ℕ)) (flights : State) (now : Option (List ℕ)) → flights ≡ [] → IsSoFar airport all all flights now now 0
+pub nothing-so-far : (airport : Airport) (all : List (List ℕ)) (flights : State) (now : Option (List ℕ)) → flights ≡ no_holder → IsSoFar airport all all flights now now 0
 nothing-so-far airport all flights now none =
     record { read = []; blocks = []; split = refl; run = none; written = grew-nothing now; counted = refl }
 
@@ -61,10 +61,10 @@ so_far-skipped airport all left rest flights before now count line so_far next s
 
 -- the run with one more command
 run-more : (airport : Airport) (read : List (List ℕ)) (blocks : List Block) (flights after : State) (line : List ℕ) (block : Block)
-    → IsRun airport [] (commands_in read) blocks flights → is_skipped line ≡ false → IsAnswered airport flights line block after
-    → IsRun airport [] (commands_in (read ++ line ∷ [])) (blocks ++ block ∷ []) after
+    → IsRun airport no_holder (commands_in read) blocks flights → is_skipped line ≡ false → IsAnswered airport flights line block after
+    → IsRun airport no_holder (commands_in (read ++ line ∷ [])) (blocks ++ block ∷ []) after
 run-more airport read blocks flights after line block run kept answered =
-    rw (commands_in-kept read line kept) (IsRun-append airport [] flights after (commands_in read) (line ∷ []) blocks (block ∷ []) run (after, answered, refl))
+    rw (commands_in-kept read line kept) (IsRun-append airport no_holder flights after (commands_in read) (line ∷ []) blocks (block ∷ []) run (after, answered, refl))
 
 blocks_text-more : (airport : Airport) (blocks : List Block) (block : Block) → blocks_text airport (blocks ++ block ∷ []) ≡ blocks_text airport blocks ++ block_text airport block
 blocks_text-more airport blocks block =
@@ -102,14 +102,14 @@ pub so_far-cut : (airport : Airport) (all left rest : List (List ℕ)) (flights 
     → GrewInPart now then (block_text airport block) → IsErr result → IsWrittenRun airport (commands_in all) (before, then) result
 so_far-cut airport all left rest flights after before now then count line block result so_far next kept answered front is_err =
     let run = run-more airport so_far.read so_far.blocks flights after line block so_far.run kept answered in
-    let going_on = run-over airport after (commands_in rest) (IsRun-sound airport [] after _ _ run (none-sound airport)) in
+    let going_on = run-over airport after (commands_in rest) (IsRun-sound airport no_holder after _ _ run (none-sound airport)) in
     let blocks = so_far.blocks ++ block ∷ [] in
     let lines : commands_in all ≡ commands_in (so_far.read ++ line ∷ []) ++ commands_in rest =
     ap commands_in (sym (split-more so_far.read left rest all line so_far.split next)) ∙ filter-append _ (so_far.read ++ line ∷ []) rest in
     record {
       blocks = blocks ++ going_on.0;
       after = going_on.1;
-      run = rw lines (IsRun-append airport [] after going_on.1 _ _ blocks going_on.0 run going_on.2);
+      run = rw lines (IsRun-append airport no_holder after going_on.1 _ _ blocks going_on.0 run going_on.2);
       whole = no_ok _ result is_err;
       front = on_err result (
           rw (flat_map-append (block_text airport) blocks going_on.0, blocks_text-more airport so_far.blocks block, append_assoc (blocks_text airport so_far.blocks ++ block_text airport block) (blocks_text airport going_on.0) (done_line (length (blocks ++ going_on.0))))
@@ -162,7 +162,7 @@ pub so_far-count : (airport : Airport) (bytes : List ℕ) (left : List (List ℕ
     → IsSoFar airport (lines_of bytes) left flights before now count → count ≤ length bytes + 1
 so_far-count airport bytes left flights before now count so_far =
     let counted = so_far.counted in
-    let blocks = IsRun-length airport [] flights (commands_in so_far.read) so_far.blocks so_far.run in
+    let blocks = IsRun-length airport no_holder flights (commands_in so_far.read) so_far.blocks so_far.run in
     let commands = length-commands_in so_far.read in
     let split = ap length so_far.split in
     let all = length-append so_far.read left in

@@ -1,5 +1,5 @@
 -- How may a call end, and what has it written then?
-use Rattle.std.specs.Prelude.{◌≡◌, ◌⊎◌, ℕ, List, [], Option, Some, None, Err}
+use Rattle.std.specs.Prelude.{◌≡◌, ◌⊎◌, ℕ, List, [], Option, Some, None}
 use Rattle.taxi_io.specs.Counts.{Rose}
 use Rattle.taxi_io.specs.Files.{Files}
 use Rattle.taxi_io.specs.Written.{Grew, GrewInPart}
@@ -7,7 +7,8 @@ use Rattle.airport_file.specs.Reading.{RecordFault}
 use Rattle.taxi_cli.specs.declared.status.Status.{Status}
 use Rattle.taxi_cli.specs.declared.status.Status.TheVariants.{Done, Usage, AirportRefused, ReadFault, WriteFault, Memory, TooLarge, Wrong}
 use Rattle.taxi_cli.specs.Lines.{usage_line, refusal_line, read_fault_line, too_large_line}
-use Rattle.taxi_cli.specs.Outcomes.{FileNames, IsJudged, IsTooLarge, IsTranscript}
+use Rattle.taxi_cli.specs.Asked.{Asked}
+use Rattle.taxi_cli.specs.Outcomes.{IsDoneText, IsRefused, IsTooLarge}
 
 -- what a call finds, and what it leaves: each pair is of before and after
 pub record Call : Type 0 where
@@ -19,33 +20,32 @@ pub record Call : Type 0 where
   -- the bytes that the sink took, where they are told
   pub taken : Option (List ℕ) × Option (List ℕ)
 
--- the whole text that a call is due to write where it ends with a status, for the files that its words name
-abbrev pub IsDueText : Call → Option FileNames → Status → List ℕ → Type 0
+-- the whole text that a call is due to write where it ends with a status, for what its words ask for
+abbrev pub IsDueText : Call → Option Asked → Status → List ℕ → Type 0
 IsDueText call None Usage text = text ≡ usage_line
-IsDueText call (Some names) Done text = IsTranscript call.files names text
-IsDueText call (Some names) AirportRefused text =
-    (fault : RecordFault) × IsJudged call.files names.airport (Err fault) × (text ≡ refusal_line fault)
-IsDueText call (Some names) ReadFault text = Rose call.reads.0 call.reads.1 × (text ≡ read_fault_line)
-IsDueText call (Some names) TooLarge text = IsTooLarge call.files names × (text ≡ too_large_line)
+IsDueText call (Some asked) Done text = IsDoneText call.files asked text
+IsDueText call (Some asked) AirportRefused text = (fault : RecordFault) × IsRefused call.files asked fault × (text ≡ refusal_line fault)
+IsDueText call (Some asked) ReadFault text = Rose call.reads.0 call.reads.1 × (text ≡ read_fault_line)
+IsDueText call (Some asked) TooLarge text = IsTooLarge call.files asked × (text ≡ too_large_line)
 IsDueText call _ _ text = ⊥
 
 -- the sink took the whole text that goes with the status
-abbrev pub IsWhole : Call → Option FileNames → Status → Type 0
-IsWhole call names status = (text : List ℕ) × IsDueText call names status text × Grew call.taken.0 call.taken.1 text
+abbrev pub IsWhole : Call → Option Asked → Status → Type 0
+IsWhole call asked status = (text : List ℕ) × IsDueText call asked status text × Grew call.taken.0 call.taken.1 text
 
 -- the sink took a front of what was due with some status, and not the whole
-abbrev pub IsCutShort : Call → Option FileNames → Type 0
-IsCutShort call names =
-    (status : Status) × (text : List ℕ) × IsDueText call names status text × GrewInPart call.taken.0 call.taken.1 text
+abbrev pub IsCutShort : Call → Option Asked → Type 0
+IsCutShort call asked =
+    (status : Status) × (text : List ℕ) × IsDueText call asked status text × GrewInPart call.taken.0 call.taken.1 text
 
 -- A call that ends with a status has written the whole text that goes with it. It ends with `WriteFault` only where a
 -- write failed, and with `Memory` where memory ran out: then it has written nothing, or a front of what was due.
-abbrev pub Ends : Call → Option FileNames → Status → Type 0
-Ends call names WriteFault = Rose call.writes.0 call.writes.1 × IsCutShort call names
-Ends call names Memory = Grew call.taken.0 call.taken.1 [] ⊎ IsCutShort call names
-Ends call names Done = IsWhole call names Done
-Ends call names Usage = IsWhole call names Usage
-Ends call names AirportRefused = IsWhole call names AirportRefused
-Ends call names ReadFault = IsWhole call names ReadFault
-Ends call names TooLarge = IsWhole call names TooLarge
-Ends call names Wrong = ⊥
+abbrev pub Ends : Call → Option Asked → Status → Type 0
+Ends call asked WriteFault = Rose call.writes.0 call.writes.1 × IsCutShort call asked
+Ends call asked Memory = Grew call.taken.0 call.taken.1 [] ⊎ IsCutShort call asked
+Ends call asked Done = IsWhole call asked Done
+Ends call asked Usage = IsWhole call asked Usage
+Ends call asked AirportRefused = IsWhole call asked AirportRefused
+Ends call asked ReadFault = IsWhole call asked ReadFault
+Ends call asked TooLarge = IsWhole call asked TooLarge
+Ends call asked Wrong = ⊥

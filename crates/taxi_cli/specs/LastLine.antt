@@ -1,18 +1,11 @@
 -- How does the writing of a whole text decide the status? No public clause cites this file.
-use Rattle.std.specs.Prelude.{◌≡◌, ℕ, List, Option, Some, None, Result, Ok, Err, OnOk, OnErr, IsErrOf}
-use Rattle.std.specs.Borrow.{Bor}
+use Rattle.std.specs.Prelude.{◌≡◌, ℕ, List, Option, Result, Ok, Err, OnOk, OnErr, IsErrOf}
 use Rattle.taxi_io.specs.Counts.{Rose}
 use Rattle.taxi_io.specs.Written.{Grew, GrewInPart}
 use Rattle.taxi_io.specs.declared.trouble.Trouble.{Trouble}
 use Rattle.taxi_io.specs.declared.trouble.Trouble.TheVariants as trouble
 use Rattle.taxi_cli.specs.declared.status.Status.{Status}
 use Rattle.taxi_cli.specs.declared.status.Status.TheVariants as status
-use Rattle.taxi_cli.specs.Outcomes.{FileNames}
-
--- the names that are lent
-abbrev pub names_of : Option (Bor (List ℕ) × Bor (List ℕ)) → Option FileNames
-names_of None = None
-names_of (Some lent) = Some (record { airport = lent.0.now; commands = lent.1.now })
 
 -- the status after a text was to be written that goes with a status as a whole
 abbrev pub status_after : Result (Unit {0}) Trouble → Status → Status

@@ -1,7 +1,10 @@
 pub mod Runs
 pub mod Lines
+pub mod Asked
 pub mod Outcomes
 pub mod Endings
 pub mod Stops
 pub mod WrittenRuns
 pub mod LastLine
+pub mod Exit
+pub mod LentWords

@@ -5,7 +5,7 @@ use Rattle.airport_file.specs.Reading.{RecordFault}
 
 abbrev pub usage_line : List ℕ
 usage_line =
-    codes "usage: taxi route AIRPORT COMMANDS; taxi check AIRPORT COMMANDS TRANSCRIPT; taxi generate NUMBER SIDE FLIGHTS" ++ 10 ∷ []
+    codes "usage: taxi route AIRPORT COMMANDS; taxi check AIRPORT COMMANDS TRANSCRIPT; taxi generate NUMBER SIDE FLIGHTS; taxi migrate AIRPORT" ++ 10 ∷ []
 
 -- the first record of the airport file that breaks a rule, counted from 1, and the rule
 unfoldable pub refusal_line : RecordFault → List ℕ

@@ -1,12 +1,17 @@
 -- Why does a call end before the first command is answered? No public clause cites this file.
-use Rattle.std.specs.Prelude.{ℕ, List, Option, Err, ⊤}
+use Rattle.std.specs.Prelude.{◌≡◌, ℕ, List, Option, Err, ⊤}
 use Rattle.taxi_io.specs.Counts.{Rose}
 use Rattle.taxi_io.specs.Files.{Files, IsLonger}
 use Rattle.taxi_io.specs.declared.trouble.ReadRefused.{ReadRefused}
 use Rattle.taxi_io.specs.declared.trouble.ReadRefused.TheVariants as refused
 use Rattle.taxi_cli.specs.declared.inputs.Stop.{Stop}
 use Rattle.taxi_cli.specs.declared.inputs.Stop.TheVariants.{Refused, ReadFault, TooLarge, Memory}
-use Rattle.taxi_cli.specs.Outcomes.{FileNames, airport_limit, IsJudged, IsTooLarge}
+use Rattle.taxi_cli.specs.declared.status.Status.{Status}
+use Rattle.taxi_cli.specs.declared.status.Status.TheVariants as status
+use Rattle.taxi_cli.specs.Asked.{Asked}
+use Rattle.taxi_cli.specs.LastLine.{EndsWith}
+use Rattle.taxi_cli.specs.Lines.{refusal_line, read_fault_line, too_large_line}
+use Rattle.taxi_cli.specs.Outcomes.{airport_limit, IsJudged, IsRefused, IsTooLarge}
 
 -- how a file that isn't read whole ends the call
 abbrev pub stop_for : ReadRefused → Stop
@@ -21,9 +26,16 @@ IsCauseOfAirport told name faults ReadFault = Rose faults.0 faults.1
 IsCauseOfAirport told name faults TooLarge = IsLonger told name airport_limit
 IsCauseOfAirport told name faults Memory = ⊤
 
--- the same where either file ends it
-abbrev pub IsCause : Option Files → FileNames → ℕ × ℕ → Stop → Type 0
-IsCause told names faults (Refused at why) = IsJudged told names.airport (Err (record { at = at; why = why }))
-IsCause told names faults ReadFault = Rose faults.0 faults.1
-IsCause told names faults TooLarge = IsTooLarge told names
-IsCause told names faults Memory = ⊤
+-- the same where a file that is named ends what is asked for
+abbrev pub IsCause : Option Files → Asked → ℕ × ℕ → Stop → Type 0
+IsCause told asked faults (Refused at why) = IsRefused told asked (record { at = at; why = why })
+IsCause told asked faults ReadFault = Rose faults.0 faults.1
+IsCause told asked faults TooLarge = IsTooLarge told asked
+IsCause told asked faults Memory = ⊤
+
+-- how a call ends whose reading was stopped: by the writing of the line that says why; want of memory writes none
+abbrev pub StopsWith : Stop → ℕ × ℕ → Option (List ℕ) × Option (List ℕ) → Status → Type 0
+StopsWith (Refused at why) faults taken ended = EndsWith (refusal_line (record { at = at; why = why })) status.AirportRefused faults taken ended
+StopsWith ReadFault faults taken ended = EndsWith read_fault_line status.ReadFault faults taken ended
+StopsWith TooLarge faults taken ended = EndsWith too_large_line status.TooLarge faults taken ended
+StopsWith Memory faults taken ended = (ended ≡ status.Memory) × (taken.1 ≡ taken.0)

@@ -1,7 +1,8 @@
 //! The airport and the commands of a run, read before the first command is answered.
-ghost use Rattle.std.specs.Prelude.{◌≡◌, ◌≤◌, length, Ok, Err, IfOk, IfErr};
-ghost use Rattle.taxi_io.specs.Files.{SameNames};
-ghost use Rattle.taxi_cli.specs.Outcomes.{IsJudged, AreAccepted};
+ghost use Rattle.std.specs.Prelude.{◌≡◌, ◌≤◌, ◌∷◌, [], length, Some, Ok, Err, IfOk, IfErr};
+ghost use Rattle.taxi_io.specs.Files.{SameNames, BeganMore};
+ghost use Rattle.taxi_cli.specs.Asked.{Route};
+ghost use Rattle.taxi_cli.specs.Outcomes.{IsJudged, AreAccepted, IsInOrder};
 ghost use Rattle.taxi_cli.specs.Stops.{IsCause, IsCauseOfAirport};
 
 use airport_file::{Airport, AirportFault, AirportRefused, read_airport};
@@ -39,10 +40,15 @@ impl From<ReadRefused> for Stop {
 }
 
 /// An airport file that is read, and its airport judged, before another file is begun.
-fn read_airport_file<S: Shelf>(alloc: Global, shelf: &mut S, name: &str) -> Result<Airport, Stop>
+pub(crate) fn read_airport_file<S: Shelf>(
+    alloc: Global,
+    shelf: &mut S,
+    name: &str,
+) -> Result<Airport, Stop>
     requires { S.knows shelf.old name.now }
     ensures ok { IfOk result (λ airport. IsJudged (S.files shelf.old) name.now (Ok airport)) }
     ensures stop { IfErr result (IsCauseOfAirport (S.files shelf.old) name.now (S.faults shelf.old, S.faults shelf.new)) }
+    ensures tried { BeganMore (S.tried shelf.old) (S.tried shelf.new) (name.now ∷ []) }
     ensures later { S.faults shelf.old ≤ S.faults shelf.new }
     ensures files { S.files shelf.new ≡ S.files shelf.old }
     ensures names { SameNames (S.knows shelf.old) (S.knows shelf.new) }
@@ -65,7 +71,8 @@ pub(crate) fn read_inputs<S: Shelf>(
     requires airport { S.knows shelf.old airport.now }
     requires commands { S.knows shelf.old commands.now }
     ensures ok { IfOk result (λ read. AreAccepted (S.files shelf.old) (record { airport = airport.now; commands = commands.now }) read.0 read.1.items) }
-    ensures stop { IfErr result (IsCause (S.files shelf.old) (record { airport = airport.now; commands = commands.now }) (S.faults shelf.old, S.faults shelf.new)) }
+    ensures stop { IfErr result (IsCause (S.files shelf.old) (Route (record { airport = airport.now; commands = commands.now })) (S.faults shelf.old, S.faults shelf.new)) }
+    ensures order { IsInOrder (S.files shelf.old) (Some (Route (record { airport = airport.now; commands = commands.now }))) (S.tried shelf.old) (S.tried shelf.new) }
     ensures later { S.faults shelf.old ≤ S.faults shelf.new }
 {
     let airport = read_airport_file(alloc, shelf, airport)?;

@@ -11,7 +11,7 @@ use taxi_text::ShortText;
 pub(crate) fn usage_line() -> &'static [u8]
     ensures { result.now ≡ usage_line }
 {
-    b"usage: taxi route AIRPORT COMMANDS; taxi check AIRPORT COMMANDS TRANSCRIPT; taxi generate NUMBER SIDE FLIGHTS\n"
+    b"usage: taxi route AIRPORT COMMANDS; taxi check AIRPORT COMMANDS TRANSCRIPT; taxi generate NUMBER SIDE FLIGHTS; taxi migrate AIRPORT\n"
 }
 
 pub(crate) fn read_fault_line() -> &'static [u8]

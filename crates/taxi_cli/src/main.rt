@@ -1,6 +1,7 @@
 //! The taxi router as a program: its words name files, and it writes to standard output.
 #![tactic(auto)]
 
+mod exit;
 mod inputs;
 mod last_line;
 mod run;
@@ -10,29 +11,28 @@ mod tests;
 pub mod top;
 mod words;
 
+use exit::exit_code;
 use status::Status;
 use std::env;
 use std::env::Env;
 use std::io::ErrorKind;
 use std::process::ExitCode;
+use taxi_base::Memory;
 use taxi_io::{FileShelf, OutputSink};
 use top::taxi;
 
-// The words after the program's name, or the status with which it ends without them.
-fn words_given(rt: &(impl Env + AllocGlobal)) -> Result<Vec<String>, Status> {
+// The words after the program's name. Where one isn't UTF-8 they are of no form, as no words are.
+fn words_given(rt: &(impl Env + AllocGlobal)) -> Result<Vec<String>, Memory> {
     let mut words = Vec::new(rt.alloc());
     match env::args(rt) {
         Ok(given) => {
             for word in given.skip(1) {
-                if words.push(word).is_err() {
-                    return Err(Status::Memory);
-                }
+                words.push(word)?;
             }
             Ok(words)
         }
-        // A word that isn't UTF-8 is of no form.
-        Err(e) if e.kind() == ErrorKind::OutOfMemory => Err(Status::Memory),
-        Err(_) => Err(Status::Usage),
+        Err(e) if e.kind() == ErrorKind::OutOfMemory => Err(Memory),
+        Err(_) => Ok(words),
     }
 }
 
@@ -43,7 +43,7 @@ fn main(rt: HostRuntime) -> ExitCode {
             let mut out = OutputSink::new(&rt);
             taxi(rt.alloc(), words.as_slice(), &mut shelf, &mut out)
         }
-        Err(status) => status,
+        Err(Memory) => Status::Memory,
     };
-    ExitCode::from(status as u8)
+    exit_code(status)
 }

@@ -1,6 +1,6 @@
 //! A run over the commands of a file.
 ghost use Rattle.std.specs.Prelude.{◌≡◌, ◌≤◌, ℕ, List, [], length, OnOk, OnErr, IsErrOf};
-ghost use Rattle.taxi_base.specs.State.{State};
+ghost use Rattle.taxi_base.specs.State.{State, no_holder};
 ghost use Rattle.taxi_text.specs.Lines.{commands_of};
 ghost use Rattle.taxi_io.specs.Counts.{Rose};
 ghost use Rattle.taxi_io.specs.Written.{Grew, GrewInPart};
@@ -19,7 +19,7 @@ pub(crate) fn write_run<K: Sink>(
     commands: &[u8],
     out: &mut K,
 ) -> Result<(), Trouble>
-    requires fresh { engine.old.flights ≡ [] }
+    requires fresh { engine.old.state ≡ no_holder }
     requires within { length commands.now ≤ 16777216 }
     ensures run { IsWrittenRun engine.old.airport (commands_of commands.now) (K.written out.old, K.written out.new) result }
     ensures failed { IsErrOf result Trouble.Failed → Rose (K.faults out.old) (K.faults out.new) }

@@ -1,41 +1,45 @@
 //! The call that the program makes.
-ghost use Rattle.std.specs.Prelude.{◌≡◌, ◌⊎◌, ◌≤◌, IfSome, map, string_bytes, Some, None};
+ghost use Rattle.std.specs.Prelude.{◌≡◌, ◌⊎◌, ◌≤◌, ℕ, List, map, string_bytes, Some, None};
 ghost use Rattle.taxi_io.specs.Counts.{Rose};
 ghost use Rattle.taxi_io.specs.Files.{Files};
 ghost use Rattle.taxi_cli.specs.declared.status.Status.{Status as StatusOf};
-ghost use Rattle.taxi_cli.specs.Outcomes.{files_named, due_status};
+ghost use Rattle.taxi_cli.specs.Asked.{Route, Migrate, IsNamed, asked_by};
+ghost use Rattle.taxi_cli.specs.Outcomes.{IsInOrder, due_status};
 ghost use Rattle.taxi_cli.specs.Endings.{Ends};
 ghost use Rattle.taxi_cli.specs.LastLine.{EndsWith, status_after};
+ghost use Rattle.taxi_cli.specs.Stops.{StopsWith};
 
-use crate::inputs::{Stop, read_inputs};
+use crate::inputs::{Stop, read_airport_file, read_inputs};
 use crate::last_line::{read_fault_line, refusal_line, too_large_line, usage_line};
 use crate::run::write_run;
 use crate::status::Status;
-use crate::words::files_named;
+use crate::words::{Asked, asked_by};
+use airport_text::write_airport;
 use std::alloc::Global;
 use taxi_engine::Engine;
 use taxi_io::{Shelf, Sink, Trouble, write_all};
 
 /// Does what the words after the program's name ask for, and writes what comes of it.
-/// The airport is accepted or refused before the command file is begun.
+/// The airport is accepted or refused before another file is begun.
 pub fn taxi<S: Shelf, K: Sink>(
     alloc: Global,
     words: &[String],
     shelf: &mut S,
     out: &mut K,
 ) -> Status
-    requires known { IfSome (files_named (map string_bytes words.now)) (λ names. S.knows shelf.old names.airport × S.knows shelf.old names.commands) }
+    requires known { (name : List ℕ) → IsNamed (asked_by (map string_bytes words.now)) name → S.knows shelf.old name }
 
     ensures ends { Ends (record {
       files = S.files shelf.old;
       reads = (S.faults shelf.old, S.faults shelf.new);
       writes = (K.faults out.old, K.faults out.new);
       taken = (K.written out.old, K.written out.new);
-    }) (files_named (map string_bytes words.now)) result }
+    }) (asked_by (map string_bytes words.now)) result }
 
-    // `Usage` comes exactly where the words are of no form, but for a line that can't be written.
-    ensures usage { files_named (map string_bytes words.now) ≡ None →
+    // `Usage` comes exactly where the words are of no form, but for a line that can't be written. Nothing is read then.
+    ensures usage { asked_by (map string_bytes words.now) ≡ None →
         (result ≡ Status.Usage) ⊎ ((result ≡ Status.WriteFault) ⊎ (result ≡ Status.Memory)) }
+    ensures unread { asked_by (map string_bytes words.now) ≡ None → shelf.new ≡ shelf.old }
 
     // Where the files are told and nothing fails, the status is the one that is due, but for want of memory.
     ensures complete { (files : Files) → (due : StatusOf) →
@@ -43,11 +47,13 @@ pub fn taxi<S: Shelf, K: Sink>(
         ¬ Rose (S.faults shelf.old) (S.faults shelf.new) → ¬ Rose (K.faults out.old) (K.faults out.new) →
         (result ≡ due) ⊎ (result ≡ Status.Memory) }
 
+    ensures order { IsInOrder (S.files shelf.old) (asked_by (map string_bytes words.now)) (S.tried shelf.old) (S.tried shelf.new) }
     ensures reads_later { S.faults shelf.old ≤ S.faults shelf.new }
     ensures writes_later { K.faults out.old ≤ K.faults out.new }
 {
-    match files_named(words) {
-        Some((airport, commands)) => route(alloc, airport, commands, shelf, out),
+    match asked_by(words) {
+        Some(Asked::Route { airport, commands }) => route(alloc, airport, commands, shelf, out),
+        Some(Asked::Migrate { airport }) => migrate(alloc, airport, shelf, out),
         None => write_last(out, usage_line(), Status::Usage),
     }
 }
@@ -67,7 +73,8 @@ fn route<S: Shelf, K: Sink>(
       reads = (S.faults shelf.old, S.faults shelf.new);
       writes = (K.faults out.old, K.faults out.new);
       taken = (K.written out.old, K.written out.new);
-    }) (Some (record { airport = airport.now; commands = commands.now })) result }
+    }) (Some (Route (record { airport = airport.now; commands = commands.now }))) result }
+    ensures order { IsInOrder (S.files shelf.old) (Some (Route (record { airport = airport.now; commands = commands.now }))) (S.tried shelf.old) (S.tried shelf.new) }
     ensures reads_later { S.faults shelf.old ≤ S.faults shelf.new }
     ensures writes_later { K.faults out.old ≤ K.faults out.new }
 {
@@ -79,22 +86,56 @@ fn route<S: Shelf, K: Sink>(
             let written = write_run(&mut engine, commands.as_slice(), out);
             status_after(written, Status::Done)
         }
-        Err(Stop::Refused { at, why }) => {
-            let line = refusal_line(at, why);
-            write_last(out, line.bytes(), Status::AirportRefused)
-        }
-        Err(Stop::ReadFault) => write_last(out, read_fault_line(), Status::ReadFault),
-        Err(Stop::TooLarge) => write_last(out, too_large_line(), Status::TooLarge),
-        Err(Stop::Memory) => Status::Memory,
+        Err(stop) => write_stop(out, stop),
     }
 }
 
-// Writes the last line of a call. Where that fails, the failure is the status.
-fn write_last<K: Sink>(out: &mut K, line: &[u8], status: Status) -> Status
-    ensures ends { EndsWith line.now status (K.faults out.old, K.faults out.new) (K.written out.old, K.written out.new) result }
+// Writes the canonical text of the airport of a file.
+fn migrate<S: Shelf, K: Sink>(alloc: Global, airport: &str, shelf: &mut S, out: &mut K) -> Status
+    requires { S.knows shelf.old airport.now }
+    ensures ends { Ends (record {
+      files = S.files shelf.old;
+      reads = (S.faults shelf.old, S.faults shelf.new);
+      writes = (K.faults out.old, K.faults out.new);
+      taken = (K.written out.old, K.written out.new);
+    }) (Some (Migrate airport.now)) result }
+    ensures order { IsInOrder (S.files shelf.old) (Some (Migrate airport.now)) (S.tried shelf.old) (S.tried shelf.new) }
+    ensures reads_later { S.faults shelf.old ≤ S.faults shelf.new }
+    ensures writes_later { K.faults out.old ≤ K.faults out.new }
+{
+    match read_airport_file(alloc, shelf, airport) {
+        Ok(airport) => {
+            let Ok(text) = write_airport(alloc, &airport) else {
+                return Status::Memory;
+            };
+            write_last(out, text.as_slice(), Status::Done)
+        }
+        Err(stop) => write_stop(out, stop),
+    }
+}
+
+// Writes the line that says why nothing was done, and gives the status that goes with it.
+fn write_stop<K: Sink>(out: &mut K, stop: Stop) -> Status
+    ensures ends { StopsWith stop (K.faults out.old, K.faults out.new) (K.written out.old, K.written out.new) result }
     ensures later { K.faults out.old ≤ K.faults out.new }
 {
-    status_after(write_all(out, line), status)
+    match stop {
+        Stop::Refused { at, why } => {
+            let line = refusal_line(at, why);
+            write_last(out, line.bytes(), Status::AirportRefused)
+        }
+        Stop::ReadFault => write_last(out, read_fault_line(), Status::ReadFault),
+        Stop::TooLarge => write_last(out, too_large_line(), Status::TooLarge),
+        Stop::Memory => Status::Memory,
+    }
+}
+
+// Writes what a call writes last. Where that fails, the failure is the status.
+fn write_last<K: Sink>(out: &mut K, text: &[u8], status: Status) -> Status
+    ensures ends { EndsWith text.now status (K.faults out.old, K.faults out.new) (K.written out.old, K.written out.new) result }
+    ensures later { K.faults out.old ≤ K.faults out.new }
+{
+    status_after(write_all(out, text), status)
 }
 
 // The status of a call whose whole text was to be written.

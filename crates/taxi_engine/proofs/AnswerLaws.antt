@@ -1,65 +1,85 @@
 -- What a line is answered by, from what was done for it.
-use Rattle.std.proofs.Common.{◌≡◌, ℕ, List, Option, Some, None, inl, inr, ap, subst, sym}
-use Rattle.std.specs.Prelude.{◌⊎◌, IsSomeAnd}
+use Rattle.std.proofs.Common.{◌≡◌, ◌⊎◌, ℕ, List, Option, Some, None, inl, inr, ap, subst, sym}
+use Rattle.std.specs.Prelude.{IsSomeAnd}
 use Rattle.taxi_base.specs.declared.answers.Refusal.TheVariants as refusal
-use Rattle.taxi_base.specs.State.{IsSound}
+use Rattle.taxi_base.specs.Airport.{Airport, IsWellFormed}
+use Rattle.taxi_base.specs.State.{State, IsSound}
 use Rattle.taxi_text.specs.declared.command.Command.{Command}
 use Rattle.taxi_text.specs.declared.command.Command.TheVariants as command
 use Rattle.taxi_text.specs.Commands.{command_of, IsFile}
-use Rattle.certificate.specs.Replies.{Reply, refused, due, due_to_command, IsCancel, IsReply, as_due, no_memory, IsAnswered}
-use Rattle.certificate.proofs.ReplyLaws.{IsAnswered-sound, due-command, IsFile-IsCancel}
-use Rattle.taxi_engine.specs.Engine.{EngineState, Answers}
+use Rattle.certificate.specs.declared.block.Block.TheVariants.{Refused}
+use Rattle.certificate.specs.CarriedOut.{Reply}
+use Rattle.certificate.specs.Replies.{refused, NeedsNoMemory, IsDue, IsReply, as_due, no_memory, HaveNames, IsAnswered}
+use Rattle.certificate.specs.Passes.{IsPassed}
+use Rattle.certificate.proofs.ReplyLaws.{IsAnswered-sound, due-command, due-bad_line}
+use Rattle.certificate.proofs.PassLaws.{reply-passes}
+use Rattle.taxi_engine.specs.Engine.{EngineState, MayWantMemory, WantsMemory, Answers}
 use Rattle.taxi_engine.specs.Accepted.{IsDone, IsDoneOrMemory}
 
-module _ (old new : EngineState) (line : List ℕ) (sound : IsSound old.airport old.flights) where
-  -- by what a reply says
-  reply-answers : (reply : Reply) → IsReply old.airport old.flights line reply.block reply.after → IsDone reply old new → Answers old line new
-  reply-answers reply is_reply done = record {
-    block = reply.block;
-    answered = subst (λ (s : EngineState). IsAnswered old.airport old.flights line reply.block s.flights) (sym done) (IsAnswered-sound old.airport old.flights line reply.block reply.after sound is_reply).0;
-    reply = ap (λ (s : EngineState). s.reply) done;
-    airport = ap (λ (s : EngineState). s.airport) done;
-  }
+-- a command that may want for memory is none of those that need none
+wants-needs : (airport : Airport) (state : State) (c : Command) → MayWantMemory airport state c → NeedsNoMemory (Some c) → ⊥
+wants-needs airport state (command.File flight class start steps) may needs = needs
+wants-needs airport state (command.Arrival flight class from to time hold) may needs = needs
+wants-needs airport state (command.Departure flight class from to time queue) may needs = needs
+wants-needs airport state (command.Cancel flight) may needs = may
+wants-needs airport state (command.Reroute flight time) may needs = needs
+wants-needs airport state (command.Divert flight time node) may needs = needs
+wants-needs airport state (command.Windows segment) may needs = needs
+wants-needs airport state (command.Occupancy segment) may needs = needs
+wants-needs airport state command.Timetable may needs = needs
 
-  -- by the reply that is due
-  pub due-answers : (reply : Reply) → due old.airport old.flights line ≡ reply → IsDone reply old new → Answers old line new
-  due-answers reply e done =
-      reply-answers (due old.airport old.flights line) as_due (subst (λ r. IsDone r old new) (sym e) done)
+module _ (old new : EngineState) (line : List ℕ) (well : IsWellFormed old.airport) (sound : IsSound old.airport old.state) (names : HaveNames old.state) where
+  -- by what a reply says
+  reply-answers : (reply : Reply) → IsReply old.airport old.state line reply.block reply.after
+      → IsDue old.airport old.state line reply.block reply.after ⊎ WantsMemory old.airport old.state line reply.block → IsDone reply old new → Answers old line new
+  reply-answers reply is_reply given done =
+      let answered = IsAnswered-sound old.airport old.state line reply.block reply.after sound is_reply in
+      record {
+        block = reply.block;
+        answered = subst (λ (s : EngineState). IsAnswered old.airport old.state line reply.block s.state) (sym done) answered;
+        due_or_memory = subst (λ (s : EngineState). IsDue old.airport old.state line reply.block s.state ⊎ WantsMemory old.airport old.state line reply.block) (sym done) given;
+        passed = subst (λ (s : EngineState). IsPassed old.airport old.state line reply.block s.state) (sym done)
+            (reply-passes old.airport old.state line reply.block reply.after well sound is_reply);
+        printable = answered.printable well names;
+        reply = ap (λ (s : EngineState). s.reply) done;
+        airport = ap (λ (s : EngineState). s.airport) done;
+      }
+
+  due-answers : (reply : Reply) → IsDue old.airport old.state line reply.block reply.after → IsDone reply old new → Answers old line new
+  due-answers reply due done = reply-answers reply (as_due reply.block reply.after due) (inl due) done
+
+  -- where the line is no command
+  pub bad_line-answers : command_of line ≡ None → IsDone (refused old.state refusal.BadLine) old new → Answers old line new
+  bad_line-answers none done = due-answers (refused old.state refusal.BadLine) (due-bad_line old.airport old.state line none) done
 
   -- by want of memory
-  pub memory-answers : (IsCancel (command_of line) → ⊥) → IsDone (refused old.flights refusal.Memory) old new → Answers old line new
-  memory-answers other done = reply-answers (refused old.flights refusal.Memory) (no_memory other) done
+  memory-answers : (c : Command) → command_of line ≡ Some c → MayWantMemory old.airport old.state c → IsDone (refused old.state refusal.Memory) old new → Answers old line new
+  memory-answers c e may done =
+      reply-answers (refused old.state refusal.Memory) (no_memory (λ needs. wants-needs old.airport old.state c may (subst NeedsNoMemory e needs)))
+      (inr (record { command = c; read = e; may_want = may; block_is = λ i. Refused refusal.Memory })) done
 
--- whether a command cancels a flight
-pub cancel-or-not : (c : Command) → IsCancel (Some c) ⊎ (IsCancel (Some c) → ⊥)
-cancel-or-not (command.File flight class start steps) = inr (λ cancel. cancel)
-cancel-or-not (command.Arrival flight class from to time hold) = inr (λ cancel. cancel)
-cancel-or-not (command.Departure flight class from to time queue) = inr (λ cancel. cancel)
-cancel-or-not (command.Cancel flight) = inl tt
-cancel-or-not (command.Reroute flight time) = inr (λ cancel. cancel)
-cancel-or-not (command.Divert flight time node) = inr (λ cancel. cancel)
-cancel-or-not (command.Windows segment) = inr (λ cancel. cancel)
-cancel-or-not (command.Occupancy segment) = inr (λ cancel. cancel)
-cancel-or-not command.Timetable = inr (λ cancel. cancel)
-
--- by what was done for a command
-pub command-answers : (old new : EngineState) (line : List ℕ) (c : Command) → IsSound old.airport old.flights → command_of line ≡ Some c
-    → IsDoneOrMemory (due_to_command old.airport old.flights c) old new → (IsCancel (Some c) → IsDone (due_to_command old.airport old.flights c) old new) → Answers old line new
-command-answers old new line c sound e done cancel =
-    elim (cancel-or-not c) [
-      | inl cancels ↦ by_due (cancel cancels)
-      | inr other ↦ elim done [
-        | inl due ↦ by_due due
-        | inr memory ↦ memory-answers old new line sound (λ cancels. other (subst IsCancel e cancels)) memory
+  -- by what was done for a command
+  pub command-answers : (c : Command) → command_of line ≡ Some c → IsDoneOrMemory c old new → Answers old line new
+  command-answers c e done =
+      elim done [
+        | inl due ↦ due-answers due.reply (due-command old.airport old.state line c due.reply.block due.reply.after e due.due) due.done
+        | inr memory ↦ memory-answers c e memory.0 memory.1
       ]
-    ]
-  where
-    by_due : IsDone (due_to_command old.airport old.flights c) old new → Answers old line new
-    by_due = due-answers old new line sound (due_to_command old.airport old.flights c) (due-command old.airport old.flights line c e)
 
--- a line that files a route cancels none
-pub file-cancels-none : (line : List ℕ) → IsSomeAnd (command_of line) IsFile → IsCancel (command_of line) → ⊥
-file-cancels-none line files = go (command_of line) files where
-  go : (o : Option Command) → IsSomeAnd o IsFile → IsCancel o → ⊥
-  go None files cancels = files
-  go (Some c) files cancels = IsFile-IsCancel c files cancels
+  -- where memory ran out while the line was read, which files a route
+  pub file-answers : IsSomeAnd (command_of line) IsFile → IsDone (refused old.state refusal.Memory) old new → Answers old line new
+  file-answers files done = go (command_of line) (λ i. command_of line) files where
+    filing : (c : Command) → IsFile c → MayWantMemory old.airport old.state c
+    filing (command.File flight class start steps) file = tt
+    filing (command.Arrival flight class from to time hold) file = absurd file
+    filing (command.Departure flight class from to time queue) file = absurd file
+    filing (command.Cancel flight) file = absurd file
+    filing (command.Reroute flight time) file = absurd file
+    filing (command.Divert flight time node) file = absurd file
+    filing (command.Windows segment) file = absurd file
+    filing (command.Occupancy segment) file = absurd file
+    filing command.Timetable file = absurd file
+
+    go : (o : Option Command) → command_of line ≡ o → IsSomeAnd o IsFile → Answers old line new
+    go None e files = absurd files
+    go (Some c) e files = memory-answers c e (filing c files) done

@@ -1,5 +1,5 @@
 -- When a filed route is due to be accepted.
-use Rattle.std.proofs.Common.{◌≡◌, ℕ, ◌<◌, false, List, length, Option, Some, None, is_some, refl}
+use Rattle.std.proofs.Common.{◌≡◌, ℕ, ◌<◌, false, List, Option, Some, None, is_some, refl}
 use Rattle.std.specs.Prelude.{Result, Ok, Err, OnOk, is_err, option_copied}
 use Rattle.std.specs.Borrow.{Bor}
 use Rattle.std.proofs.lemmas.Bool.{lt-leb}
@@ -7,17 +7,23 @@ use Rattle.taxi_base.specs.declared.numbers.Class.{Class}
 use Rattle.taxi_base.specs.declared.rows.Step.{Step}
 use Rattle.taxi_base.specs.Airport.{Airport, class_named}
 use Rattle.taxi_base.specs.Walks.{begin_of, end_of}
-use Rattle.taxi_base.specs.State.{State, with_flight}
+use Rattle.taxi_base.specs.State.{State, holder_count, has_holder, with_flight}
 use Rattle.taxi_base.specs.Faults.{route_fault}
 use Rattle.taxi_text.specs.declared.command.FiledStep.{FiledStep}
+use Rattle.taxi_text.specs.declared.command.Command.TheVariants.{File}
 use Rattle.certificate.specs.declared.block.Block.TheVariants.{Filed}
-use Rattle.certificate.specs.Replies.{is_in_force, filed_steps, filed_flight, most_flights, due_to_file}
+use Rattle.certificate.specs.Asked.{filed_steps}
+use Rattle.certificate.specs.Refusals.{most_holders}
+use Rattle.certificate.specs.CarriedOut.{filed_flight}
+use Rattle.certificate.specs.Replies.{IsDueTo}
 
 module _ (airport : Airport) (state : State) (name class_name : List ℕ) (start : ℕ) (filed : List FiledStep) (class : Class) (steps : List Step) where
-  pub due_to_file-accepted : is_in_force name state ≡ false → class_named airport class_name ≡ Some class → filed_steps airport start filed ≡ Some steps
-      → length state < most_flights → route_fault airport class state steps ≡ None
-      → due_to_file airport state name class_name start filed ≡ record { block = Filed name (begin_of steps) (end_of steps); after = with_flight (filed_flight name class steps) state }
-  due_to_file-accepted absent known made room faultless = rw (absent, known, made, lt-leb most_flights (length state) room, faultless) refl
+  pub file-due : has_holder name state ≡ false → class_named airport class_name ≡ Some class → filed_steps airport start filed ≡ Some steps
+      → holder_count state < most_holders → route_fault airport class state steps ≡ None
+      → IsDueTo airport state (File name class_name start filed) (Filed name (begin_of steps) (end_of steps)) (with_flight (filed_flight name class steps) state)
+  file-due absent known made room faultless =
+      rw (absent, known, made, lt-leb most_holders (holder_count state) room, faultless)
+      (record { class = class; steps = steps; class_known = known; steps_known = made; reply = (refl, refl) })
 
 pub none-where_not_some : {A : Type 0} (o : Option A) → is_some o ≡ false → o ≡ None
 none-where_not_some None e = refl

@@ -1,4 +1,9 @@
 pub mod StepsMade
 pub mod FiledDue
+pub mod DueLaws
 pub mod AnswerLaws
 pub mod Told
+pub mod AskedLaws
+pub mod SearchedLaws
+pub mod RouteLaws
+pub mod RoutedDue

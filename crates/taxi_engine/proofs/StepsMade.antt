@@ -4,7 +4,7 @@ use Rattle.taxi_base.specs.declared.numbers.Arc.{Arc}
 use Rattle.taxi_base.specs.declared.rows.Step.{Step}
 use Rattle.taxi_base.specs.Airport.{Airport, arc_named}
 use Rattle.taxi_text.specs.declared.command.FiledStep.{FiledStep}
-use Rattle.certificate.specs.Replies.{filed_steps}
+use Rattle.certificate.specs.Asked.{filed_steps}
 
 -- what is still to come after some steps
 abbrev pub steps_and : Airport → List Step → ℕ → List FiledStep → Option (List Step)

@@ -1,6 +1,6 @@
 //! A flight taken out of force.
-ghost use Rattle.certificate.specs.Replies.{due_to_cancel};
-ghost use Rattle.taxi_engine.specs.Accepted.{IsDone};
+ghost use Rattle.taxi_text.specs.declared.command.Command.TheVariants.{Cancel};
+ghost use Rattle.taxi_engine.specs.Accepted.{IsDoneAsDue};
 
 use crate::Engine;
 use crate::texts::cancelled_text;
@@ -9,7 +9,7 @@ use taxi_base::{Name, Refusal};
 impl Engine {
     /// Takes the flight of a name out of force, or tells that it isn't. It needs no memory.
     pub(crate) fn cancel(&mut self, flight: &Name)
-        ensures { IsDone (due_to_cancel self.old.flights flight.now) self.old self.new }
+        ensures { IsDoneAsDue (Cancel flight.now) self.old self.new }
     {
         if self.ledger.flight(flight).is_none() {
             self.refuse(&Refusal::NotInForce);

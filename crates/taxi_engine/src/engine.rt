@@ -1,8 +1,9 @@
 //! The engine.
-ghost use Rattle.std.specs.Prelude.{◌≡◌, ◌⊎◌, [], Some, IfOk};
-ghost use Rattle.taxi_base.specs.State.{IsSound};
-ghost use Rattle.certificate.specs.Replies.{refused, due_to_command, HasStepCount, IsCancel};
-ghost use Rattle.commitments.specs.Book.{Fits};
+ghost use Rattle.std.specs.Prelude.{◌≡◌, [], None, IfOk};
+ghost use Rattle.taxi_base.specs.State.{no_holder, IsSound};
+ghost use Rattle.certificate.specs.Asked.{IsInGrammar};
+ghost use Rattle.certificate.specs.Replies.{refused};
+ghost use Rattle.commitments.specs.Book.{Fits, state_of};
 ghost use Rattle.taxi_engine.specs.Engine.{Answers};
 ghost use Rattle.taxi_engine.specs.Accepted.{IsDone, IsDoneOrMemory};
 
@@ -10,6 +11,7 @@ use crate::reply::ReplyText;
 use crate::texts::refused_text;
 use airport_file::Airport;
 use commitments::Ledger;
+use place_cells::SearchRoom;
 use std::alloc::Global;
 use std::marker::Model;
 use taxi_base::{Memory, Refusal};
@@ -22,45 +24,52 @@ pub struct Engine {
     pub(crate) airport: Airport,
     pub(crate) ledger: Ledger,
     pub(crate) reply: ReplyText,
+    // What searches use up, kept for the next one.
+    pub(crate) room: SearchRoom,
 }
 
 impl Model for Engine {
+    ghost use Rattle.std.specs.Prelude.{◌≡◌, None};
     ghost use Rattle.taxi_base.specs.State.{IsSound};
-    ghost use Rattle.commitments.specs.Book.{Fits};
+    ghost use Rattle.commitments.specs.Book.{Fits, state_of};
+    ghost use Rattle.certificate.specs.Replies.{HaveNames};
     ghost use Rattle.taxi_engine.specs.Engine.{EngineState};
 
     ghost Value = { EngineState };
 
-    ghost view = { λ e. record { airport = e.airport; flights = e.ledger.flights; reply = e.reply } };
+    ghost view = { λ e. record { airport = e.airport; state = state_of e.ledger; reply = e.reply } };
 
-    ghost invariant = { λ e. IsSound e.airport e.ledger.flights × Fits e.airport e.ledger };
+    ghost invariant = { λ e. IsSound e.airport (state_of e.ledger) × Fits e.airport e.ledger × HaveNames (state_of e.ledger) × (e.ledger.lifted ≡ None) };
 }
 
 impl Engine {
     /// An engine over an airport, with no flight in force. After an error the airport is gone.
     pub fn new(alloc: Global, airport: Airport) -> Result<Engine, Memory>
-        ensures { IfOk result (λ e. e ≡ record { airport = airport; flights = []; reply = [] }) }
+        ensures { IfOk result (λ e. e ≡ record { airport = airport; state = no_holder; reply = [] }) }
     {
         let ledger = Ledger::new(alloc, &airport)?;
         let reply = ReplyText::new(alloc);
+        let room = SearchRoom::new(alloc)?;
         Ok(Engine {
             alloc,
             airport,
             ledger,
             reply,
+            room,
         })
     }
 
     pub fn airport(&self) -> &Airport
         ensures airport { result.now ≡ self.now.airport }
-        ensures sound { IsSound self.now.airport self.now.flights }
+        ensures sound { IsSound self.now.airport self.now.state }
     {
         &self.airport
     }
 
     pub fn ledger(&self) -> &Ledger
-        ensures flights { result.now.flights ≡ self.now.flights }
+        ensures flights { state_of result.now ≡ self.now.state }
         ensures fits { Fits self.now.airport result.now }
+        ensures unlifted { result.now.lifted ≡ None }
     {
         &self.ledger
     }
@@ -72,10 +81,12 @@ impl Engine {
         self.reply.bytes()
     }
 
-    /// Answers one command. The reply is written whole before anything changes.
+    /// Answers one command. Only a command that files a route, or one that is refused nothing, may want for memory.
     pub fn answer(&mut self, line: &[u8])
         ensures { Answers self.old line.now self.new }
     {
+        // The airport keeps its rules, so each block has a text in the grammar.
+        let _ = self.airport.horizon();
         match read_command(self.alloc, line) {
             Ok(command) => self.carry_out(&command),
             Err(CommandRefused::BadLine) => self.refuse(&Refusal::BadLine),
@@ -85,9 +96,8 @@ impl Engine {
 
     // Does what a command asks for, or refuses it.
     fn carry_out(&mut self, command: &Command)
-        requires { HasStepCount command.now }
-        ensures done { IsDoneOrMemory (due_to_command self.old.airport self.old.flights command.now) self.old self.new }
-        ensures cancel { IsCancel (Some command.now) → IsDone (due_to_command self.old.airport self.old.flights command.now) self.old self.new }
+        requires { IsInGrammar command.now }
+        ensures { IsDoneOrMemory command.now self.old self.new }
     {
         match command {
             Command::File {
@@ -98,9 +108,23 @@ impl Engine {
             } => self.file(flight, class, *start, steps.as_slice()),
             Command::Cancel { flight } => self.cancel(flight),
             Command::Windows { segment } => self.tell_windows(segment),
-            Command::Arrival { .. }
-            | Command::Departure { .. }
-            | Command::Reroute { .. }
+            Command::Arrival {
+                flight,
+                class,
+                from,
+                to,
+                time,
+                hold,
+            } => self.route_arrival(flight, class, from, to, *time, *hold),
+            Command::Departure {
+                flight,
+                class,
+                from,
+                to,
+                time,
+                queue,
+            } => self.route_departure(flight, class, from, to, *time, *queue),
+            Command::Reroute { .. }
             | Command::Divert { .. }
             | Command::Occupancy { .. }
             | Command::Timetable => self.refuse(&Refusal::NotBuilt),
@@ -109,7 +133,7 @@ impl Engine {
 
     /// Writes a refusal, which changes nothing else.
     pub(crate) fn refuse(&mut self, why: &Refusal)
-        ensures { IsDone (refused self.old.flights why.now) self.old self.new }
+        ensures { IsDone (refused self.old.state why.now) self.old self.new }
     {
         self.reply.set_short(refused_text(&self.airport, why));
     }

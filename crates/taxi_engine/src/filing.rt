@@ -2,8 +2,10 @@
 ghost use Rattle.std.specs.Prelude.{◌≡◌, ◌⊎◌, ◌≤◌, ◌<◌, ◌^◌, length, Some, None, Ok, Err, IfOk, IfErr, IsErrOf, IsTrue};
 ghost use Rattle.taxi_base.specs.Airport.{Airport};
 ghost use Rattle.taxi_base.specs.Walks.{begin_of, end_of};
-ghost use Rattle.certificate.specs.Replies.{filed_steps, due_to_file};
-ghost use Rattle.commitments.specs.Book.{Fits, IsPrepared};
+ghost use Rattle.taxi_text.specs.declared.command.Command.TheVariants.{File};
+ghost use Rattle.certificate.specs.Printable.{IsName};
+ghost use Rattle.certificate.specs.Asked.{filed_steps};
+ghost use Rattle.commitments.specs.Book.{Fits, IsPrepared, state_of};
 ghost use Rattle.taxi_engine.specs.Accepted.{IsAccepted, IsRefused, IsDoneOrMemory};
 
 use crate::Engine;
@@ -15,14 +17,15 @@ use taxi_base::{Flight, List, Name, Refusal, Request, Step, Time};
 use taxi_text::FiledStep;
 
 /// How many flights may be in force.
-const MOST_FLIGHTS: usize = 4096;
+pub(crate) const MOST_FLIGHTS: usize = 4096;
 
 impl Engine {
     /// Files a route given by hand, or refuses it.
     pub(crate) fn file(&mut self, flight: &Name, class: &Name, start: Time, filed: &[FiledStep])
+        requires name { IsName flight.now }
         requires few { length filed.now ≤ 256 }
         requires some { 1 ≤ length filed.now }
-        ensures { IsDoneOrMemory (due_to_file self.old.airport self.old.flights flight.now class.now start filed.now) self.old self.new }
+        ensures { IsDoneOrMemory (File flight.now class.now start filed.now) self.old self.new }
     {
         let checked = check_filed(
             self.alloc,
@@ -54,12 +57,15 @@ fn check_filed(
     filed: &[FiledStep],
 ) -> Result<Flight, Refusal>
     requires fits { Fits airport.now ledger.old }
+    requires unlifted { ledger.old.lifted ≡ None }
+    requires name { IsName flight.now }
     requires few { length filed.now ≤ 256 }
     requires some { 1 ≤ length filed.now }
-    ensures ok { IfOk result (IsAccepted (due_to_file airport.now ledger.old.flights flight.now class.now start filed.now) airport.now ledger.old.flights) }
+    ensures ok { IfOk result (IsAccepted airport.now ledger.old.flights (File flight.now class.now start filed.now)) }
     ensures prepared { IfOk result (λ f. IsPrepared airport.now f.steps ledger.new) }
-    ensures err { IfErr result (IsRefused (due_to_file airport.now ledger.old.flights flight.now class.now start filed.now) ledger.old.flights) }
+    ensures err { IfErr result (IsRefused airport.now (state_of ledger.old) (File flight.now class.now start filed.now)) }
     ensures flights { ledger.new.flights ≡ ledger.old.flights }
+    ensures unlifted { ledger.new.lifted ≡ None }
     ensures fits { Fits airport.now ledger.new }
 {
     if ledger.flight(flight).is_some() {

@@ -1,10 +1,12 @@
 //! The engine: one command in, one reply out, over the flights in force.
 #![tactic(auto)]
 
+mod asking;
 mod cancelling;
 mod engine;
 mod filing;
 mod reply;
+mod routing;
 #[cfg(test)]
 mod tests;
 mod texts;

@@ -1,13 +1,15 @@
 //! The text of a reply.
-ghost use Rattle.std.specs.Prelude.{◌≡◌, [], OnOk};
+ghost use Rattle.std.specs.Prelude.{◌≡◌, [], All, OnOk};
 ghost use Rattle.certificate.specs.Texts.{block_text};
-ghost use Rattle.certificate.specs.Printed.{IsPrintable};
+ghost use Rattle.certificate.specs.declared.block.Block.TheVariants.{Route};
+ghost use Rattle.certificate.specs.Printable.{HasArc};
+ghost use Rattle.certificate.specs.Printed.{IsWritable};
 
 use airport_file::Airport;
-use certificate::{Block, print_block};
+use certificate::{Block, print_block, print_route};
 use std::alloc::Global;
 use std::marker::Model;
-use taxi_base::Memory;
+use taxi_base::{LabelRow, Memory, Name, Step, Time};
 use taxi_text::ShortText;
 
 /// The text of a reply: a short one needs no memory, a long one lies in a buffer that is kept for the next.
@@ -58,11 +60,29 @@ impl ReplyText {
 
     /// The text of a block in place of what was there. Where memory runs out nothing is said of what stands there.
     pub fn print(&mut self, airport: &Airport, block: &Block) -> Result<(), Memory>
-        requires { IsPrintable airport.now block.now }
+        requires { IsWritable airport.now block.now }
         ensures { OnOk result (self.new ≡ block_text airport.now block.now) }
     {
         self.is_long = true;
         self.long.clear();
         print_block(airport, block, &mut self.long)
+    }
+
+    /// The text of a route's block in place of what was there. Where memory runs out nothing is said of what stands there.
+    pub fn print_route(
+        &mut self,
+        airport: &Airport,
+        flight: &Name,
+        second: Time,
+        steps: &[Step],
+        labels: &[LabelRow],
+    ) -> Result<(), Memory>
+        requires steps { All (λ step. HasArc airport.now step.arc) steps.now }
+        requires labels { All (λ label. HasArc airport.now label.arc) labels.now }
+        ensures { OnOk result (self.new ≡ block_text airport.now (Route flight.now second steps.now labels.now)) }
+    {
+        self.is_long = true;
+        self.long.clear();
+        print_route(airport, flight, second, steps, labels, &mut self.long)
     }
 }

@@ -26,7 +26,17 @@ forbid,A+,B+
 ";
 
 // Lines with their replies, in turn.
-const REPLIES: [(&[u8], &[u8]); 27] = [
+const REPLIES: [(&[u8], &[u8]); 32] = [
+    (
+        b"arrival F9 M R S1 100 0",
+        b"no-route 3\nlabel A+ 0 3600 130\nlabel C+ 0 3600 155\nlabel D+ 0 3600 170\n",
+    ),
+    (
+        b"departure G1 M S2 R 200 0",
+        b"route G1 130 3 3\nstep D- 130 145\nstep C- 145 170\nstep A- 170 200\n\
+          label A- 0 3600 170\nlabel B- 0 3600 150\nlabel C- 0 3600 145\n",
+    ),
+    (b"cancel G1", b"cancelled G1\n"),
     (b"file F1 M 100 A+ 130 C+ 155 D+ 170", b"filed F1 100 170\n"),
     (b"file X2 M 0 A+ 29", b"refused step 1 too-fast\n"),
     (b"file X2 M 90 A+ 125", b"refused step 1 taken 100 F1\n"),
@@ -41,8 +51,10 @@ const REPLIES: [(&[u8], &[u8]); 27] = [
     (b"file F1 Q 0 Z+ 30", b"refused in-force\n"),
     (b"file X9 Q 0 Z+ 30", b"refused unknown-class\n"),
     (b"file X9 M 0 Z+ 30", b"refused unknown-segment\n"),
-    (b"arrival F9 M R S1 100 0", b"refused not-built\n"),
-    (b"departure F9 M S2 R 100 0", b"refused not-built\n"),
+    (b"arrival F1 Q R S1 100 0", b"refused in-force\n"),
+    (b"arrival F9 Q R X 1 1", b"refused unknown-class\n"),
+    (b"arrival F9 M R X 1 1", b"refused unknown-node\n"),
+    (b"departure F9 M R S1 1 1", b"refused wrong-kind\n"),
     (b"reroute F1 1", b"refused not-built\n"),
     (b"divert F1 1 S2", b"refused not-built\n"),
     (b"occupancy A", b"refused not-built\n"),

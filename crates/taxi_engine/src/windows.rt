@@ -1,10 +1,11 @@
 //! The report of a segment's windows.
-ghost use Rattle.std.specs.Prelude.{◌≡◌, ◌<◌, length, IfOk, OnOk};
+ghost use Rattle.std.specs.Prelude.{◌≡◌, ◌<◌, length, None, IfOk, OnOk};
 ghost use Rattle.certificate.specs.declared.block.Block.TheVariants.{Windows};
 ghost use Rattle.certificate.specs.Texts.{block_text};
-ghost use Rattle.certificate.specs.Replies.{windows_among, due_to_windows};
+ghost use Rattle.taxi_text.specs.declared.command.Command.TheVariants as asked;
+ghost use Rattle.certificate.specs.CarriedOut.{windows_among};
 ghost use Rattle.window_store.specs.Store.{spans_at};
-ghost use Rattle.commitments.specs.Book.{Fits};
+ghost use Rattle.commitments.specs.Book.{Fits, state_of};
 ghost use Rattle.taxi_engine.specs.Accepted.{IsDoneOrMemory};
 
 use crate::Engine;
@@ -19,7 +20,7 @@ use window_store::WindowStore;
 impl Engine {
     /// Tells the windows of the segment of a name, or that there is none.
     pub(crate) fn tell_windows(&mut self, segment: &Name)
-        ensures { IsDoneOrMemory (due_to_windows self.old.airport self.old.flights segment.now) self.old self.new }
+        ensures { IsDoneOrMemory (asked.Windows segment.now) self.old self.new }
     {
         let Some(segment) = self.airport.segment_named(segment) else {
             self.refuse(&Refusal::UnknownSegment);
@@ -41,8 +42,9 @@ fn print_windows(
     reply: &mut ReplyText,
 ) -> Result<(), Memory>
     requires fits { Fits airport.now ledger.now }
+    requires unlifted { ledger.now.lifted ≡ None }
     requires exists { segment.0 < length airport.now.segments }
-    ensures { OnOk result (reply.new ≡ block_text airport.now (Windows segment (windows_among airport.now ledger.now.flights segment))) }
+    ensures { OnOk result (reply.new ≡ block_text airport.now (Windows segment (windows_among airport.now (state_of ledger.now) segment))) }
 {
     let windows = spans_of(alloc, ledger.store(), segment)?;
     reply.print(airport, &Block::Windows { segment, windows })

@@ -1,5 +1,5 @@
 -- What are the files of a shelf, where it tells them, and what is left of the one that is begun?
-use Rattle.std.specs.Prelude.{◌≡◌, ◌<◌, ◌↔◌, ℕ, List, length, [], ◌∷◌, Option, Some, None, nat_eq, if◌then◌else◌}
+use Rattle.std.specs.Prelude.{◌≡◌, ◌<◌, ◌≤◌, ◌↔◌, ◌++◌, ℕ, List, length, drop, [], ◌∷◌, Option, Some, None, option_map, nat_eq, if◌then◌else◌}
 use lib.Pointwise.{pointwise}
 use Rattle.std.specs.Io.KnownBytes.{prepend_known}
 
@@ -30,6 +30,10 @@ Begins (Some files) name rest = (bytes : List ℕ) × (file_of files name ≡ So
 abbrev pub Gave : Option (List ℕ) → Option (List ℕ) → List ℕ → Type 0
 Gave old new piece = old ≡ prepend_known piece new
 
+-- what is left, where it is told, lost one byte from its front
+abbrev pub GaveByte : Option (List ℕ) → Option (List ℕ) → Type 0
+GaveByte old new = (byte : ℕ) × Gave old new (byte ∷ [])
+
 -- where it is told what is left, n is 0 exactly where that is nothing
 abbrev pub IsAtEndOnly : Option (List ℕ) → ℕ → Type 0
 IsAtEndOnly None n = Unit {0}
@@ -38,3 +42,13 @@ IsAtEndOnly (Some bytes) n = (n ≡ 0) ↔ (bytes ≡ [])
 -- the names that may be begun stay the same
 abbrev pub SameNames : (List ℕ → Type 0) → (List ℕ → Type 0) → Type 0
 SameNames old new = (name : List ℕ) → (old name ↔ new name)
+
+-- the names that were given to `begin`, where they are told, have these more at their end
+abbrev pub BeganMore : Option (List (List ℕ)) → Option (List (List ℕ)) → List (List ℕ) → Type 0
+BeganMore old new names = new ≡ option_map (λ all. all ++ names) old
+
+-- where the files are told, so many bytes of the file of this name were taken, and the others are left
+abbrev pub TookFront : Option Files → List ℕ → Option (List ℕ) → ℕ → Type 0
+TookFront None name rest count = Unit {0}
+TookFront (Some files) name rest count =
+    (bytes : List ℕ) × (file_of files name ≡ Some bytes) × (count ≤ length bytes) × (rest ≡ Some (drop count bytes))

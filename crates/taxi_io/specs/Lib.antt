@@ -1,9 +1,12 @@
 pub mod Counts
 pub mod Files
 pub mod Refusals
+pub mod Troubles
 pub mod Written
 pub mod Calls
 pub mod SinkInMemory
 pub mod ShelfInMemory
 pub mod HeldFiles
 pub mod ShelfOfMachine
+pub mod SteadyFiles
+pub mod SteadyOutput

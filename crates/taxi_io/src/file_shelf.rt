@@ -1,7 +1,8 @@
 //! The machine's files, and standard input under the name `-`. Nothing is told of their bytes.
-ghost use Rattle.std.specs.Prelude.{◌≡◌, ◌≤◌, ◌<◌, length, false, is_ok, is_err, IfOk, IsTrue};
+ghost use Rattle.std.specs.Prelude.{◌≡◌, ◌≤◌, ◌<◌, length, is_ok, is_err, IfOk, OnOk, IsTrue};
 ghost use Rattle.taxi_io.specs.Calls.{faults_after};
-ghost use Rattle.taxi_io.specs.Counts.{next_count};
+ghost use Rattle.taxi_io.specs.Troubles.{answer_for};
+ghost use Rattle.taxi_io.specs.ShelfOfMachine.{Nothing, is_begun, source_named};
 
 use crate::shelf::Shelf;
 use crate::trouble::Trouble;
@@ -35,15 +36,15 @@ impl<'a, R: Files + Input> Model for FileShelf<'a, R> {
 
     ghost Value = { ShelfOfMachine };
 
-    ghost use Rattle.taxi_io.specs.ShelfOfMachine.{is_begun};
+    ghost use Rattle.taxi_io.specs.ShelfOfMachine.{source_of};
 
-    ghost view = { λ s. record { begun = is_begun s.source; faults = s.faults } };
+    ghost view = { λ s. record { begun = source_of s.source; faults = s.faults } };
 }
 
 impl<'a, R: Files + Input> FileShelf<'a, R> {
     /// A shelf with nothing begun.
     pub fn new(rt: &'a R) -> FileShelf<'a, R>
-        ensures { result ≡ record { begun = false; faults = 0 } }
+        ensures { result ≡ record { begun = Nothing; faults = 0 } }
     {
         FileShelf {
             rt,
@@ -52,14 +53,20 @@ impl<'a, R: Files + Input> FileShelf<'a, R> {
         }
     }
 
-    // Counts an error, and says what it is.
-    fn fail(&mut self, error: io::Error) -> Trouble
+    // The answer to what the machine said; an error is counted, an interruption like any other.
+    fn counted<T: Drop>(&mut self, outcome: io::Result<T>) -> Result<T, Trouble>
+        ensures answer { result ≡ answer_for outcome }
         ensures begun { self.new.begun ≡ self.old.begun }
-        ensures faults { self.new.faults ≡ next_count self.old.faults }
+        ensures faults { self.new.faults ≡ faults_after (is_err outcome) self.old.faults }
         ensures later { self.old.faults ≤ self.new.faults }
     {
-        self.faults = self.faults.saturating_add(1);
-        Trouble::from(error)
+        match outcome {
+            Ok(value) => Ok(value),
+            Err(error) => {
+                self.faults = self.faults.saturating_add(1);
+                Err(Trouble::from(error))
+            }
+        }
     }
 }
 
@@ -68,7 +75,7 @@ impl<'a, R: Files + Input> Shelf for FileShelf<'a, R> {
 
     ghost files = { λ s. None };
 
-    ghost begun = { λ s. s.begun };
+    ghost begun = { λ s. is_begun s.begun };
 
     ghost rest = { λ s. None };
 
@@ -76,8 +83,11 @@ impl<'a, R: Files + Input> Shelf for FileShelf<'a, R> {
 
     ghost knows = { λ s name. Unit {0} };
 
+    ghost tried = { λ s. None };
+
     fn begin(&mut self, name: &str) -> Result<(), Trouble>
-        ensures begun { self.new.begun ≡ is_ok result }
+        ensures begun { is_begun self.new.begun ≡ is_ok result }
+        ensures source { OnOk result (self.new.begun ≡ source_named name.now) }
         ensures faults { self.new.faults ≡ faults_after (is_err result) self.old.faults }
         ensures later { self.old.faults ≤ self.new.faults }
     {
@@ -86,19 +96,17 @@ impl<'a, R: Files + Input> Shelf for FileShelf<'a, R> {
             self.source = Source::StandardInput(self.rt.reader());
             return Ok(());
         }
-        match fs::open(self.rt, name) {
-            Ok(file) => {
-                self.source = Source::Opened(file);
-                Ok(())
-            }
-            Err(error) => Err(self.fail(error)),
-        }
+        let opened = fs::open(self.rt, name);
+        let file = self.counted(opened)?;
+        self.source = Source::Opened(file);
+        Ok(())
     }
 
     fn read(&mut self, buffer: &mut [u8]) -> Result<usize, Trouble>
-        requires begun { IsTrue self.old.begun }
+        requires begun { IsTrue (is_begun self.old.begun) }
         ensures bound { IfOk result (λ n. n ≤ length buffer.new) }
-        ensures begun { IsTrue self.new.begun }
+        ensures begun { IsTrue (is_begun self.new.begun) }
+        ensures source { self.new.begun ≡ self.old.begun }
         ensures faults { self.new.faults ≡ faults_after (is_err result) self.old.faults }
         ensures later { self.old.faults ≤ self.new.faults }
     {
@@ -107,9 +115,6 @@ impl<'a, R: Files + Input> Shelf for FileShelf<'a, R> {
             Source::Opened(file) => file.read(buffer),
             Source::StandardInput(input) => input.read(buffer),
         };
-        match outcome {
-            Ok(count) => Ok(count),
-            Err(error) => Err(self.fail(error)),
-        }
+        self.counted(outcome)
     }
 }

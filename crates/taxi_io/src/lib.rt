@@ -10,6 +10,8 @@ mod planned_faults;
 mod reading;
 mod shelf;
 mod sink;
+mod steady_shelf;
+mod steady_sink;
 mod trouble;
 mod writing;
 
@@ -17,9 +19,11 @@ pub use file_shelf::FileShelf;
 pub use memory_shelf::MemoryShelf;
 pub use memory_sink::MemorySink;
 pub use output_sink::OutputSink;
-pub use reading::read_all;
+pub use reading::{read_all, read_piece};
 pub use shelf::Shelf;
 pub use sink::Sink;
+pub use steady_shelf::SteadyShelf;
+pub use steady_sink::SteadySink;
 pub use trouble::{ReadRefused, Trouble};
 pub use writing::write_all;
 

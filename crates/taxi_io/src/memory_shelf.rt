@@ -104,7 +104,7 @@ fn copy_front(bytes: &[u8], piece: usize, buffer: &mut [u8]) -> usize
 }
 
 impl Shelf for MemoryShelf {
-    ghost use Rattle.std.specs.Prelude.{Some, is_some};
+    ghost use Rattle.std.specs.Prelude.{Some, None, is_some};
 
     ghost files = { λ s. Some s.files };
 
@@ -115,6 +115,8 @@ impl Shelf for MemoryShelf {
     ghost faults = { λ s. s.faults };
 
     ghost knows = { λ s name. Unit {0} };
+
+    ghost tried = { λ s. None };
 
     fn begin(&mut self, name: &str) -> Result<(), Trouble>
         ensures state { self.new ≡ after_begin self.old name.now }

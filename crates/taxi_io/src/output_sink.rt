@@ -1,6 +1,7 @@
 //! Standard output, which tells nothing of the bytes that it took.
 ghost use Rattle.std.specs.Prelude.{◌≡◌, ◌≤◌, ◌<◌, length, is_err, IfOk};
 ghost use Rattle.taxi_io.specs.Calls.{faults_after};
+ghost use Rattle.taxi_io.specs.Troubles.{settled};
 
 use crate::sink::Sink;
 use crate::trouble::Trouble;
@@ -33,18 +34,30 @@ impl<'a, R: Print> OutputSink<'a, R> {
     }
 }
 
+// The answer to what the machine said of a write and of the flush after it. A write that took
+// nothing has failed, and so has one whose flush failed.
+fn settled(written: io::Result<usize>, flushed: io::Result<()>) -> Result<usize, Trouble>
+    ensures { result ≡ settled written flushed }
+{
+    match written {
+        Ok(0) => Err(Trouble::Failed),
+        Ok(count) => match flushed {
+            Ok(()) => Ok(count),
+            Err(error) => Err(Trouble::from(error)),
+        },
+        Err(error) => Err(Trouble::from(error)),
+    }
+}
+
 // Writes some bytes and flushes them.
 fn write_and_flush(rt: &impl Print, piece: &[u8]) -> Result<usize, Trouble>
     ensures some { IfOk result (λ n. 0 < n) }
     ensures bound { IfOk result (λ n. n ≤ length piece.now) }
 {
     let mut out = io::writer(rt);
-    let count = out.write(piece)?;
-    if count == 0 {
-        return Err(Trouble::Failed);
-    }
-    out.flush()?;
-    Ok(count)
+    let written = out.write(piece);
+    let flushed = out.flush();
+    settled(written, flushed)
 }
 
 impl<'a, R: Print> Sink for OutputSink<'a, R> {

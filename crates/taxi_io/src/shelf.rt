@@ -1,7 +1,7 @@
 //! Files that are begun by name and read a piece at a time.
-ghost use Rattle.std.specs.Prelude.{◌≡◌, ◌<◌, ◌≤◌, ℕ, List, Option, Bool, length, take, is_ok, IfOk, OnOk, OnErr, IsErrOf, IsTrue};
+ghost use Rattle.std.specs.Prelude.{◌≡◌, ◌<◌, ◌≤◌, ◌∷◌, [], ℕ, List, Option, Bool, length, take, is_ok, IfOk, OnOk, OnErr, IsErrOf, IsTrue};
 ghost use Rattle.taxi_io.specs.Counts.{Rose};
-ghost use Rattle.taxi_io.specs.Files.{Files, Begins, Gave, IsAtEndOnly, SameNames};
+ghost use Rattle.taxi_io.specs.Files.{Files, Begins, Gave, IsAtEndOnly, SameNames, BeganMore};
 
 use crate::trouble::Trouble;
 
@@ -22,11 +22,15 @@ pub trait Shelf {
     /// Whether a file of this name may be begun.
     ghost knows: { Self → List ℕ → Type 0 };
 
+    /// The names that were given to `begin` so far, in order, where they are told.
+    ghost tried: { Self → Option (List (List ℕ)) };
+
     /// Begins a file at its first byte. A refusal leaves nothing begun.
     fn begin(&mut self, name: &str) -> Result<(), Trouble>
         requires known { knows self.old name.now }
         ensures begun { begun self.new ≡ is_ok result }
         ensures whole { OnOk result (Begins (files self.old) name.now (rest self.new)) }
+        ensures tried { BeganMore (tried self.old) (tried self.new) (name.now ∷ []) }
         ensures failed { IsErrOf result Trouble.Failed → Rose (faults self.old) (faults self.new) }
         ensures later { faults self.old ≤ faults self.new }
         ensures files { files self.new ≡ files self.old }
@@ -42,6 +46,7 @@ pub trait Shelf {
         ensures end { IfOk result (IsAtEndOnly (rest self.old)) }
         ensures kept { OnErr result (rest self.new ≡ rest self.old) }
         ensures begun { IsTrue (begun self.new) }
+        ensures tried { tried self.new ≡ tried self.old }
         ensures failed { IsErrOf result Trouble.Failed → Rose (faults self.old) (faults self.new) }
         ensures later { faults self.old ≤ faults self.new }
         ensures files { files self.new ≡ files self.old }

@@ -95,3 +95,35 @@ fn each_write_failing_in_turn(rt: HostRuntime) -> Result<(), Fail> {
     assert_eq!(rt; sink.written(), b"N1,N2\n".as_slice());
     Ok(())
 }
+
+#[test]
+fn a_piece_and_what_is_left(rt: HostRuntime) -> Result<(), Fail> {
+    let alloc = rt.alloc();
+    let mut buffer = [0u8; 4];
+    // With two bytes left to take, and then none, though the file has more.
+    let mut shelf = small_shelf(alloc, 3, [].as_slice())?;
+    shelf.begin(NODES)?;
+    assert!(rt; read_piece(&mut shelf, &mut buffer, 2) == Ok(2));
+    assert_eq!(rt; buffer[..2], b"N1"[..2]);
+    assert!(rt; read_piece(&mut shelf, &mut buffer, 0) == Err(ReadRefused::TooLarge));
+    // As many as fit, and then the end.
+    let mut shelf = small_shelf(alloc, 9, [].as_slice())?;
+    shelf.begin(NODES)?;
+    assert!(rt; read_piece(&mut shelf, &mut buffer, 9) == Ok(4));
+    assert!(rt; read_piece(&mut shelf, &mut buffer, 5) == Ok(1));
+    assert!(rt; read_piece(&mut shelf, &mut buffer, 0) == Ok(0));
+    Ok(())
+}
+
+#[test]
+fn a_steady_pair(rt: HostRuntime) -> Result<(), Fail> {
+    let alloc = rt.alloc();
+    let mut files = Vec::new(alloc);
+    let nodes = Vec::from_slice(alloc, BYTES)?;
+    files.push((String::from_str(alloc, NODES)?, nodes))?;
+    let mut shelf = SteadyShelf::new(files, 2);
+    let mut sink = SteadySink::new(alloc, 3);
+    write_all(&mut sink, read_all(alloc, &mut shelf, NODES, 5)?.as_slice())?;
+    assert_eq!(rt; sink.written(), BYTES);
+    Ok(())
+}

@@ -27,6 +27,12 @@ impl From<AllocError> for Trouble {
 
 /// An error of the machine is a failure, but for want of memory.
 impl From<io::Error> for Trouble {
+    ghost use Rattle.std.specs.Prelude.{◌≡◌};
+    ghost use Rattle.std.specs.IoError.{error_kind};
+    ghost use Rattle.taxi_io.specs.Troubles.{trouble_for};
+
+    ghost from_gives = { λ error trouble. trouble ≡ trouble_for (error_kind error) };
+
     fn from(error: io::Error) -> Trouble {
         if error.kind() == io::ErrorKind::OutOfMemory {
             Trouble::Memory

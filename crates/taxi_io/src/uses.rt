@@ -1,10 +1,11 @@
 //! What a caller can show of reading and writing by their contracts alone.
-ghost use Rattle.std.specs.Prelude.{◌≡◌, ◌⊎◌, ◌≤◌, ◌<◌, ◌++◌, ℕ, List, length, MatchResult, IfOk, OnOk, IsErrOf};
+ghost use Rattle.std.specs.Prelude.{◌≡◌, ◌⊎◌, ◌≤◌, ◌<◌, ◌++◌, ◌∷◌, [], ℕ, List, length, MatchResult, IfOk, OnOk, IsErrOf};
 ghost use Rattle.taxi_io.specs.Counts.{Rose};
-ghost use Rattle.taxi_io.specs.Files.{Files, IsFile, file_of};
+ghost use Rattle.taxi_io.specs.Files.{Files, IsFile, BeganMore, file_of};
+ghost use Rattle.taxi_io.specs.SteadyFiles.{HasFile};
 ghost use Rattle.taxi_io.specs.Written.{Grew};
 
-use crate::{ReadRefused, Shelf, Sink, Trouble, read_all, write_all};
+use crate::{ReadRefused, Shelf, Sink, SteadyShelf, Trouble, read_all, write_all};
 use std::alloc::Global;
 
 /// With the file told and no fault counted the limit decides, but for want of memory.
@@ -38,6 +39,7 @@ fn read_both<S: Shelf>(
     ensures first { IfOk result (λ files. IsFile (S.files shelf.old) first.now files.0.items) }
     ensures second { IfOk result (λ files. IsFile (S.files shelf.old) second.now files.1.items) }
     ensures fault { IsErrOf result ReadRefused.Fault → Rose (S.faults shelf.old) (S.faults shelf.new) }
+    ensures tried { OnOk result (BeganMore (S.tried shelf.old) (S.tried shelf.new) (first.now ∷ second.now ∷ [])) }
 {
     let one = read_all(alloc, shelf, first, 100)?;
     let other = read_all(alloc, shelf, second, 100)?;
@@ -51,4 +53,13 @@ fn write_both<K: Sink>(sink: &mut K, first: &[u8], second: &[u8]) -> Result<(), 
 {
     write_all(sink, first)?;
     write_all(sink, second)
+}
+
+/// A file of a shelf that never fails is read whole, but for want of memory.
+fn read_steady(alloc: Global, shelf: &mut SteadyShelf, name: &str) -> Result<Vec<u8>, ReadRefused>
+    requires known { HasFile shelf.old name.now }
+    ensures whole { (file : List ℕ) → file_of shelf.old.files name.now ≡ Some file → length file ≤ 100 →
+        MatchResult result (λ bytes. bytes.items ≡ file) (λ e. e ≡ ReadRefused.Memory) }
+{
+    read_all(alloc, shelf, name, 100)
 }

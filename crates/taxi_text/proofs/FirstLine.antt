@@ -6,7 +6,7 @@ use Rattle.std.specs.Str.Lines.{strip_carriage_return}
 use Rattle.taxi_text.specs.Parts.{parts_of, parts_left}
 use Rattle.taxi_text.specs.Lines.{lines_of_parts}
 
-before_more : (line : List ℕ) (parts : List (List ℕ)) → 0 < length parts → lines_of_parts (line ∷ parts) ≡ strip_carriage_return line ∷ lines_of_parts parts
+pub before_more : (line : List ℕ) (parts : List (List ℕ)) → 0 < length parts → lines_of_parts (line ∷ parts) ≡ strip_carriage_return line ∷ lines_of_parts parts
 before_more line [] l = absurd (omega arith)
 before_more line (part ∷ parts) l = refl
 

@@ -4,3 +4,4 @@ pub mod Numbers
 mod Stored
 mod FiledSteps
 pub mod ArcWords
+pub mod FirstPlace

@@ -5,3 +5,4 @@ pub mod Fields
 pub mod Texts
 pub mod Commands
 pub mod Reading
+pub mod FirstLines

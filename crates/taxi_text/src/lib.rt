@@ -6,6 +6,7 @@ mod fields;
 mod filed;
 mod laws;
 mod line;
+mod line_reader;
 mod part;
 mod reader;
 mod texts;
@@ -13,8 +14,9 @@ mod word;
 
 pub use command::{Command, CommandRefused, FiledStep};
 pub use fields::{read_arc_word, read_number};
-pub use laws::{arc_words_are_read_again, numbers_are_read_again};
+pub use laws::{arc_words_are_read_again, lines_come_in_turn, numbers_are_read_again};
 pub use line::{LineSlices, lines, skipped};
+pub use line_reader::LineReader;
 pub use reader::read_command;
 pub use texts::{ShortText, push_bytes, push_number};
 pub use word::{WordSlices, words};

@@ -40,7 +40,7 @@ impl<'a> Iterator for LineSlices<'a> {
 }
 
 // A line without the one carriage return at its end.
-fn without_carriage_return(line: &[u8]) -> &[u8]
+pub(crate) fn without_carriage_return(line: &[u8]) -> &[u8]
     ensures { result.now ≡ strip_carriage_return line.now }
 {
     match line {

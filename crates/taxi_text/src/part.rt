@@ -12,7 +12,8 @@ pub(crate) fn first_part(byte: u8, bytes: &[u8]) -> (&[u8], Option<&[u8]>)
     }
 }
 
-fn place_of(byte: u8, bytes: &[u8]) -> Option<usize>
+// Where the byte first stands.
+pub(crate) fn place_of(byte: u8, bytes: &[u8]) -> Option<usize>
     ensures place { result ≡ position (λ b. b == byte) bytes.now }
     ensures within { IfSome result (λ at. at < length bytes.now) }
 {

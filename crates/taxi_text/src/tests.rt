@@ -1,4 +1,5 @@
 use super::*;
+use std::alloc::Global;
 use std::test::*;
 use taxi_base::{List, Memory, Name};
 
@@ -137,5 +138,38 @@ fn bad_lines(rt: HostRuntime) -> Result<(), Fail> {
     assert!(rt; matches!(read_command(alloc, &line), Ok(Command::File { .. })));
     push_bytes(&mut line, b" A+ 1")?;
     assert!(rt; matches!(read_command(alloc, &line), Err(CommandRefused::BadLine)));
+    Ok(())
+}
+
+// Takes the first line off a reader, or without one its last line.
+fn next_line(alloc: Global, reader: &mut LineReader) -> Result<Option<Vec<u8>>, Memory> {
+    if let Some(line) = reader.first_line() {
+        let line = Vec::from_slice(alloc, line)?;
+        reader.drop_first();
+        return Ok(Some(line));
+    }
+    match reader.last_line() {
+        Some(line) => Ok(Some(Vec::from_slice(alloc, line)?)),
+        None => Ok(None),
+    }
+}
+
+#[test]
+fn lines_that_come_in_pieces(rt: HostRuntime) -> Result<(), Fail> {
+    let alloc = rt.alloc();
+    let mut reader = LineReader::new(alloc);
+    assert!(rt; next_line(alloc, &mut reader)?.is_none());
+    for (piece, line) in [
+        (b"canc".as_slice(), b"canc".as_slice()),
+        (b"el F1\r", b"cancel F1"),
+        (b"\n\nwin", b"cancel F1"),
+        (b"dows A", b""),
+        (b"\ntimetable\r", b"windows A"),
+        (b"", b"timetable"),
+    ] {
+        reader.feed(piece)?;
+        let found = next_line(alloc, &mut reader)?;
+        assert!(rt; matches!(&found, Some(found) if found.as_slice() == line));
+    }
     Ok(())
 }

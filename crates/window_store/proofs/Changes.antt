@@ -11,7 +11,7 @@ use Rattle.taxi_base.specs.Windows.{Hold}
 use Rattle.taxi_base.proofs.HoldLaws.{clash-turned}
 use Rattle.conflict_sets.specs.Conflicts.{AreConflicts}
 use Rattle.conflict_sets.proofs.Members.{same_segment}
-use Rattle.segment_windows.specs.Standing.{Listed}
+use Rattle.window_store.specs.Spans.{Listed}
 use Rattle.window_store.specs.Store.{no_list}
 use Rattle.window_store.specs.Edits.{list_in, ChangesEach, ChangesConflicting}
 

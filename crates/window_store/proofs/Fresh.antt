@@ -8,8 +8,8 @@ use Rattle.std.proofs.lemmas.List.Elements.{All-nil, All-push}
 use Rattle.taxi_base.specs.declared.numbers.Segment.{Segment}
 use Rattle.interval_list.specs.Intervals.{owned, times}
 use Rattle.interval_list.proofs.Owning.{once-drawn, below-drawn}
-use Rattle.segment_windows.specs.Standing.{Listed, nodes, StandsForSpans}
-use Rattle.window_store.specs.Store.{IsStore, HaveRoom, no_list, ids_owned}
+use Rattle.window_store.specs.Spans.{Listed, nodes, StandsForSpans}
+use Rattle.window_store.specs.Store.{of_lists_and_ids, IsStore, HaveRoom, no_list, ids_owned}
 use Rattle.window_store.specs.Stands.{StandsFor}
 use Rattle.window_store.proofs.Standing.{spans-list}
 
@@ -51,7 +51,7 @@ AreFresh-push horizon count lists next more l fresh drawn ids one stands =
       stand = All-push (StandsForSpans horizon []) lists l fresh.stand stands;
     }
 
-pub fresh-store : (horizon count : ℕ) (lists : List Listed) (next : ℕ) → AreFresh horizon count lists next → count ≤ 10000 → IsStore (record { lists = lists; next = next })
+pub fresh-store : (horizon count : ℕ) (lists : List Listed) (next : ℕ) → AreFresh horizon count lists next → count ≤ 10000 → IsStore (of_lists_and_ids lists next)
 fresh-store horizon count lists next fresh few = record {
   few = omega (arith, fresh.count, few);
   once = fresh.once;
@@ -63,5 +63,5 @@ fresh-store horizon count lists next fresh few = record {
 pub fresh-room : (horizon count : ℕ) (lists : List Listed) (next : ℕ) → AreFresh horizon count lists next → HaveRoom lists
 fresh-room horizon count lists next fresh k d low = let stands = fresh.stand k d low in omega (arith, stands.number, stands.room)
 
-pub fresh-stands : (sets : List (List Segment)) (horizon count : ℕ) (lists : List Listed) (next : ℕ) → AreFresh horizon count lists next → StandsFor sets horizon [] (record { lists = lists; next = next })
+pub fresh-stands : (sets : List (List Segment)) (horizon count : ℕ) (lists : List Listed) (next : ℕ) → AreFresh horizon count lists next → StandsFor sets horizon [] (of_lists_and_ids lists next)
 fresh-stands sets horizon count lists next fresh s low = spans-list sets horizon [] s (get_or lists s.0 no_list) (fresh.stand s.0 no_list low)

@@ -1,3 +1,5 @@
+pub mod Spans
+mod Releasing
 pub mod Standing
 pub mod Seconds
 pub mod Changes

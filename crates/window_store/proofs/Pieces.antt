@@ -4,7 +4,7 @@ use Rattle.std.specs.Prelude.{All}
 use Rattle.std.proofs.lemmas.List.{get_or_append_left, get_or-append-add, length-append}
 use Rattle.std.proofs.lemmas.List.Elements.{All-append}
 use Rattle.interval_list.specs.Intervals.{owned}
-use Rattle.segment_windows.specs.Standing.{Listed}
+use Rattle.window_store.specs.Spans.{Listed}
 use Rattle.window_store.specs.Store.{ids_owned}
 
 pub All-front : {X : Type 0} (P : X → Type 0) (xs ys : List X) → All P (xs ++ ys) → All P xs

@@ -13,8 +13,8 @@ use Rattle.interval_list.specs.declared.window.Window.{Window}
 use Rattle.interval_list.specs.Intervals.{ids_of, owned, times, drawn}
 use Rattle.interval_list.proofs.Owning.{times-append, times-other, times-here, times-below}
 use Rattle.window_store.proofs.Pieces.{All-ids_set}
-use Rattle.segment_windows.specs.Standing.{Listed, nodes}
-use Rattle.window_store.specs.Store.{Store, IsStore, no_list, list_at, ids_owned}
+use Rattle.window_store.specs.Spans.{Listed, nodes}
+use Rattle.window_store.specs.Store.{Store, of_lists_and_ids, IsStore, no_list, list_at, ids_owned}
 use Rattle.window_store.specs.Kept.{GainsRoom}
 use Rattle.window_store.specs.Edits.{list_in, HasRoom, GainsNodes, EachInConflict}
 
@@ -79,10 +79,10 @@ roomier-next wanted next more old new is =
 
 module _ (lists : List Listed) (k : ℕ) (l : Listed) (wanted next more : ℕ) where
   abbrev before : Store
-  before = record { lists = lists; next = next }
+  before = of_lists_and_ids lists next
 
   abbrev after : Store
-  after = record { lists = set lists k l; next = more }
+  after = of_lists_and_ids (set lists k l) more
 
   IsStore-roomier : k < length lists → wanted ≤ 2 ^ 33 → IsStore before → IsRoomier wanted next more (get_or lists k no_list) l → IsStore after
   IsStore-roomier low small store is =
@@ -108,9 +108,11 @@ module _ (lists : List Listed) (k : ℕ) (l : Listed) (wanted next more : ℕ) w
     | inr other ↦ subst (P (list_in lists s)) (sym (get_or-set_other lists k s.0 l no_list other)) (else other)
   ]
 
-  pub GainsNodes-one : (d : Listed) → k < length lists → wanted ≤ 2 ^ 33 → IsStore before → IsRoomier wanted next more (get_or lists k d) l → GainsNodes before after
-  GainsNodes-one d low small store was =
-      let is : IsRoomier wanted next more (get_or lists k no_list) l = subst (λ (m : Listed). IsRoomier wanted next more m l) (get_or_default lists k d no_list low) was in
+  pub GainsNodes-one : (d : Listed) → k < length lists → wanted ≤ 2 ^ 33 → wanted ≤ 1 + (get_or lists k d).held → IsStore before → IsRoomier wanted next more (get_or lists k d) l → GainsNodes before after
+  GainsNodes-one d low small few store was =
+      let same = get_or_default lists k d no_list low in
+      let number = ap (λ (m : Listed). m.held) same in
+      let is : IsRoomier wanted next more (get_or lists k no_list) l = subst (λ (m : Listed). IsRoomier wanted next more m l) same was in
       let up : next ≤ more = roomier-next wanted next more (get_or lists k no_list) l is in
       record {
         store = IsStore-roomier low small store is;
@@ -119,14 +121,17 @@ module _ (lists : List Listed) (k : ℕ) (l : Listed) (wanted next more : ℕ) w
           windows = λ s exists. here-or-else (λ a b. b.intervals.windows ≡ a.intervals.windows) s low is.windows (λ _. refl);
           held = λ s exists. here-or-else (λ a b. b.held ≡ a.held) s low is.held (λ _. refl);
           nodes = λ s exists. here-or-else (λ a b. nodes a ≤ nodes b) s low (omega (arith, is.count)) (λ _. omega arith);
+          horizon = refl;
         };
+        most = λ s exists. here-or-else (λ a b. nodes b ≤ max (nodes a) (1 + a.held)) s low (omega (arith, is.most, few, number)) (λ _. omega arith);
+        ids = omega (arith, is.count, sum_by-set nodes lists k l no_list low);
       }
 
 GainsRoom-none : (store : Store) → GainsRoom store store
-GainsRoom-none store = record { lists = refl; windows = λ s low. refl; held = λ s low. refl; nodes = λ s low. omega arith }
+GainsRoom-none store = record { lists = refl; windows = λ s low. refl; held = λ s low. refl; nodes = λ s low. omega arith; horizon = refl }
 
 pub GainsNodes-none : (store : Store) → IsStore store → GainsNodes store store
-GainsNodes-none store is = record { store = is; gained = GainsRoom-none store }
+GainsNodes-none store is = record { store = is; gained = GainsRoom-none store; most = λ s low. omega arith; ids = refl }
 
 pub GainsRoom-both : (a b c : Store) → GainsRoom a b → GainsRoom b c → GainsRoom a c
 GainsRoom-both a b c first second = record {
@@ -134,10 +139,18 @@ GainsRoom-both a b c first second = record {
   windows = λ s low. second.windows s (omega (arith, low, first.lists)) ∙ first.windows s low;
   held = λ s low. second.held s (omega (arith, low, first.lists)) ∙ first.held s low;
   nodes = λ s low. omega (arith, second.nodes s (omega (arith, low, first.lists)), first.nodes s low);
+  horizon = second.horizon ∙ first.horizon;
 }
 
 pub GainsNodes-both : (a b c : Store) → GainsNodes a b → GainsNodes b c → GainsNodes a c
-GainsNodes-both a b c first second = record { store = second.store; gained = GainsRoom-both a b c first.gained second.gained }
+GainsNodes-both a b c first second = record {
+  store = second.store;
+  gained = GainsRoom-both a b c first.gained second.gained;
+  most = λ s low.
+      let in_b : s.0 < length b.lists = omega (arith, low, first.gained.lists) in
+      omega (arith, first.most s low, second.most s in_b, first.gained.held s low);
+  ids = omega (arith, first.ids, second.ids);
+}
 
 -- the numbers stay as small, and room that there is stays
 pub few-still : (a b : Store) → GainsNodes a b → All (λ l. l.held < 2 ^ 33) a.lists → All (λ l. l.held < 2 ^ 33) b.lists

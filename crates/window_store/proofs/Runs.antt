@@ -3,20 +3,20 @@ use Rattle.std.proofs.Common.{◌≡◌, ℕ, ◌+◌, ◌^◌, ◌<◌, ◌≤�
 use Rattle.std.specs.Prelude.{Contains, All}
 use Rattle.std.proofs.lemmas.Bool.{cases_Bool, both_ways, false_from_ne_true}
 use Rattle.std.proofs.lemmas.List.{append-nil, append_assoc, map-append, map_more, drop_more, length-take}
-use Rattle.std.proofs.lemmas.List.Elements.{All-get_or, All-contains, Contains-push}
+use Rattle.std.proofs.lemmas.List.Elements.{All-contains, Contains-push}
 use Rattle.taxi_base.specs.declared.numbers.Segment.{Segment}
 use Rattle.taxi_base.specs.declared.rows.Span.{Span}
 use Rattle.taxi_base.specs.declared.rows.Step.{Step}
 use Rattle.taxi_base.specs.Airport.{conflict, segment_of}
 use Rattle.taxi_base.specs.Windows.{Hold, hold_of, holds_of}
 use Rattle.interval_list.specs.declared.window.Window.{Window}
-use Rattle.segment_windows.specs.Standing.{Listed, StandsForSpans}
+use Rattle.window_store.specs.Spans.{Listed, StandsForSpans}
 use Rattle.window_store.specs.Store.{no_list}
-use Rattle.window_store.specs.Stands.{conflicting, ListStandsFor, StandsFor, HasRoomFor}
+use Rattle.window_store.specs.Stands.{conflicting_steps, ListStandsFor, StandsFor, HasRoomFor}
 use Rattle.window_store.specs.Kept.{IsApartFrom, IsClearOf, KeepsWindows}
 use Rattle.window_store.specs.Conflicting.{spans_in_conflict}
 use Rattle.window_store.specs.Edits.{of_lists, list_in, ChangesConflicting, EachInConflict, KeepsOwned, CanHold, IsHeld, CanRelease, IsReleased, IsRaised, AllKeepOwned, AreHeld, AreReleased, AreRaised}
-use Rattle.window_store.proofs.Standing.{in_conflict, list-spans, spans-list, list-moved, list-moved_back, list-without, list-with, conflicting-append, conflicting-yes, conflicting-no, conflicting-part, conflicting-le}
+use Rattle.window_store.proofs.Standing.{in_conflict, list-spans, spans-list, list-moved, list-moved_back, list-without, list-with, conflicting-append, conflicting-steps, steps-push, conflicting-part, conflicting-le}
 use Rattle.window_store.proofs.Pieces.{All-front}
 use Rattle.window_store.proofs.Changes.{conflict-turned}
 
@@ -54,27 +54,27 @@ module _ (sets : List (List Segment)) (Placed : Window → Span → Type 0) (Cha
 
 -- ---- holding
 
-pub AreHeld-none : (sets : List (List Segment)) (lists : List Listed) → AreHeld sets [] lists lists
-AreHeld-none sets lists = record {
-  stands = λ horizon holds st. rw (append-nil holds) st;
+pub AreHeld-none : (horizon clearance : ℕ) (sets : List (List Segment)) (lists : List Listed) → AreHeld sets horizon clearance [] lists lists
+AreHeld-none horizon clearance sets lists = record {
+  stands = λ holds st. rw (append-nil holds) st;
   kept = λ s w low there against. there;
   owned = AllKeepOwned-none lists;
 }
 
 -- a step behind the others
-holds-more : (holds : List Hold) (before : List Step) (step : Step) → holds ++ holds_of (before ++ step ∷ []) ≡ (holds ++ holds_of before) ++ hold_of step ∷ []
-holds-more holds before step =
-    ap (λ (more : List Hold). holds ++ more) (map-append hold_of before (step ∷ [])) ∙ sym (append_assoc holds (holds_of before) (hold_of step ∷ []))
+holds-more : (horizon clearance : ℕ) (holds : List Hold) (before : List Step) (step : Step) → holds ++ holds_of horizon clearance (before ++ step ∷ []) ≡ (holds ++ holds_of horizon clearance before) ++ hold_of horizon clearance step ∷ []
+holds-more horizon clearance holds before step =
+    ap (λ (more : List Hold). holds ++ more) (map-append (hold_of horizon clearance) before (step ∷ [])) ∙ sym (append_assoc holds (holds_of horizon clearance before) (hold_of horizon clearance step ∷ []))
 
-module _ (sets : List (List Segment)) (before : List Step) (step : Step) (old mid new : List Listed) where
-  held-stands : AreHeld sets before old mid → ChangesConflicting sets (segment_of step.arc) (IsHeld (hold_of step).span) mid new
-      → (horizon : ℕ) (holds : List Hold) → StandsFor sets horizon holds (of_lists old) → StandsFor sets horizon (holds ++ holds_of (before ++ step ∷ [])) (of_lists new)
-  held-stands held changes horizon holds st s low =
-      let h : Hold = hold_of step in
-      let all : List Hold = holds ++ holds_of before in
+module _ (horizon clearance : ℕ) (sets : List (List Segment)) (before : List Step) (step : Step) (old mid new : List Listed) where
+  held-stands : AreHeld sets horizon clearance before old mid → ChangesConflicting sets (segment_of step.arc) (IsHeld (hold_of horizon clearance step).span) mid new
+      → (holds : List Hold) → StandsFor sets horizon holds (of_lists old) → StandsFor sets horizon (holds ++ holds_of horizon clearance (before ++ step ∷ [])) (of_lists new)
+  held-stands held changes holds st s low =
+      let h : Hold = hold_of horizon clearance step in
+      let all : List Hold = holds ++ holds_of horizon clearance before in
       let exists : s.0 < length mid = omega (arith, low, changes.as_many) in
-      let first : ListStandsFor sets horizon all s (list_in mid s) = held.stands horizon holds st s exists in
-      rw (holds-more holds before step) (elim (cases_Bool (conflict sets (segment_of step.arc) s)) [
+      let first : ListStandsFor sets horizon all s (list_in mid s) = held.stands holds st s exists in
+      rw (holds-more horizon clearance holds before step) (elim (cases_Bool (conflict sets (segment_of step.arc) s)) [
         | inl met ↦
             let spans : StandsForSpans horizon (h.span ∷ spans_in_conflict sets s all) (list_in new s) =
             (changes.changed s exists met).stands horizon (spans_in_conflict sets s all) (list-spans sets horizon all s (list_in mid s) first) in
@@ -88,10 +88,10 @@ module _ (sets : List (List Segment)) (before : List Step) (step : Step) (old mi
             (list-with sets s all h [] horizon (list_in mid s) other (rw (append-nil all) first))
       ])
 
-  pub AreHeld-more : AreHeld sets before old mid → ChangesConflicting sets (segment_of step.arc) (IsHeld (hold_of step).span) mid new → AreHeld sets (before ++ step ∷ []) old new
+  pub AreHeld-more : AreHeld sets horizon clearance before old mid → ChangesConflicting sets (segment_of step.arc) (IsHeld (hold_of horizon clearance step).span) mid new → AreHeld sets horizon clearance (before ++ step ∷ []) old new
   AreHeld-more held changes = record {
     stands = held-stands held changes;
-    kept = rw (map-append hold_of before (step ∷ [])) (KeepsWindows-more sets IsApartFrom (IsHeld (hold_of step).span) (holds_of before) (hold_of step) old mid new
+    kept = rw (map-append (hold_of horizon clearance) before (step ∷ [])) (KeepsWindows-more sets IsApartFrom (IsHeld (hold_of horizon clearance step).span) (holds_of horizon clearance before) (hold_of horizon clearance step) old mid new
         (λ s a b w is there apart. is.kept w there apart) held.owned.as_many held.kept changes);
     owned = AllKeepOwned-more old mid new held.owned changes.as_many (λ s low. elim (cases_Bool (conflict sets (segment_of step.arc) s)) [
       | inl met ↦ (changes.changed s low met).owned
@@ -100,21 +100,21 @@ module _ (sets : List (List Segment)) (before : List Step) (step : Step) (old mi
   }
 
 -- a list in conflict with the next step can hold it
-pub can_hold : (sets : List (List Segment)) (steps : List Step) (k : ℕ) (d : Step) (old mid : List Listed) → (horizon : ℕ) × (holds : List Hold) × StandsFor sets horizon holds (of_lists old)
-    → HasRoomFor sets steps (of_lists old) → AreHeld sets (take k steps) old mid → k < length steps → EachInConflict sets (segment_of (get_or steps k d).arc) CanHold mid
-can_hold sets steps k d old mid some room held low s exists met =
-    let horizon = some.0 in
-    let holds = some.1 in
+pub can_hold : (horizon clearance : ℕ) (sets : List (List Segment)) (steps : List Step) (k : ℕ) (d : Step) (old mid : List Listed) → (holds : List Hold) × StandsFor sets horizon holds (of_lists old)
+    → HasRoomFor sets steps (of_lists old) → AreHeld sets horizon clearance (take k steps) old mid → k < length steps → EachInConflict sets (segment_of (get_or steps k d).arc) CanHold mid
+can_hold horizon clearance sets steps k d old mid some room held low s exists met =
+    let holds = some.0 in
     let in_old : s.0 < length old = omega (arith, exists, held.owned.as_many) in
-    let was : ListStandsFor sets horizon holds s (list_in old s) = some.2 s in_old in
-    let first : ListStandsFor sets horizon (holds ++ holds_of (take k steps)) s (list_in mid s) = held.stands horizon holds some.2 s exists in
+    let was : ListStandsFor sets horizon holds s (list_in old s) = some.1 s in_old in
+    let first : ListStandsFor sets horizon (holds ++ holds_of horizon clearance (take k steps)) s (list_in mid s) = held.stands holds some.1 s exists in
     record {
-      stands = (horizon, spans_in_conflict sets s (holds ++ holds_of (take k steps)), list-spans sets horizon (holds ++ holds_of (take k steps)) s (list_in mid s) first);
+      stands = (horizon, spans_in_conflict sets s (holds ++ holds_of horizon clearance (take k steps)), list-spans sets horizon (holds ++ holds_of horizon clearance (take k steps)) s (list_in mid s) first);
       room = omega (
         arith,
         was.number,
         first.number,
-        conflicting-append sets s holds (holds_of (take k steps)),
+        conflicting-append sets s holds (holds_of horizon clearance (take k steps)),
+        conflicting-steps horizon clearance sets s (take k steps),
         room s in_old,
         (held.owned.each s in_old).nodes,
         conflicting-part sets s steps k d low (conflict-turned sets (segment_of (get_or steps k d).arc) s met),
@@ -123,56 +123,60 @@ can_hold sets steps k d old mid some room held low s exists met =
 
 -- ---- releasing
 
-pub AreReleased-none : (sets : List (List Segment)) (rest : List Hold) (steps : List Step) (lists : List Listed) → AreReleased sets rest steps 0 lists lists
-AreReleased-none sets rest steps lists = record {
-  stands = λ horizon by st. st;
+pub AreReleased-none : (horizon clearance : ℕ) (sets : List (List Segment)) (rest : List Hold) (steps : List Step) (lists : List Listed) → AreReleased sets horizon clearance rest steps 0 lists lists
+AreReleased-none horizon clearance sets rest steps lists = record {
+  stands = λ st. st;
   kept = λ s w low there against. there;
   owned = AllKeepOwned-none lists;
 }
 
-module _ (sets : List (List Segment)) (rest : List Hold) (steps : List Step) (k : ℕ) (d : Step) (old mid new : List Listed) where
+module _ (horizon clearance : ℕ) (sets : List (List Segment)) (rest : List Hold) (steps : List Step) (k : ℕ) (d : Step) (old mid new : List Listed) where
   abbrev this : Step
   this = get_or steps k d
 
   abbrev later : List Hold
-  later = holds_of (drop (k + 1) steps)
+  later = holds_of horizon clearance (drop (k + 1) steps)
 
   abbrev others : Segment → List Span
   others s = spans_in_conflict sets s (rest ++ later)
 
+  -- a hold ends by the horizon
+  until-by : (t : Step) → (hold_of horizon clearance t).span.until ≤ horizon
+  until-by t = omega arith
+
   -- the step and the others are what is held yet
-  holds-left : k < length steps → rest ++ holds_of (drop k steps) ≡ rest ++ hold_of this ∷ later
-  holds-left low = ap (λ (left : List Step). rest ++ holds_of left) (drop_more steps k d low)
+  holds-left : k < length steps → rest ++ holds_of horizon clearance (drop k steps) ≡ rest ++ hold_of horizon clearance this ∷ later
+  holds-left low = ap (λ (left : List Step). rest ++ holds_of horizon clearance left) (drop_more steps k d low)
 
   -- a list in conflict stands for the step and the others
-  in_turn : (horizon : ℕ) (s : Segment) (l : Listed) → k < length steps → IsTrue (conflict sets (segment_of this.arc) s) → ListStandsFor sets horizon (rest ++ holds_of (drop k steps)) s l
-      → StandsForSpans horizon ((hold_of this).span ∷ others s) l
-  in_turn horizon s l low met st =
-      let front : ListStandsFor sets horizon (hold_of this ∷ (rest ++ later)) s l =
-      list-moved sets s rest (hold_of this) later horizon l (subst (λ (holds : List Hold). ListStandsFor sets horizon holds s l) (holds-left low) st) in
-      subst (λ (spans : List Span). StandsForSpans horizon spans l) (in_conflict sets s (hold_of this) (rest ++ later) (conflict-turned sets (segment_of this.arc) s met))
-      (list-spans sets horizon (hold_of this ∷ (rest ++ later)) s l front)
+  in_turn : (s : Segment) (l : Listed) → k < length steps → IsTrue (conflict sets (segment_of this.arc) s) → ListStandsFor sets horizon (rest ++ holds_of horizon clearance (drop k steps)) s l
+      → StandsForSpans horizon ((hold_of horizon clearance this).span ∷ others s) l
+  in_turn s l low met st =
+      let front : ListStandsFor sets horizon (hold_of horizon clearance this ∷ (rest ++ later)) s l =
+      list-moved sets s rest (hold_of horizon clearance this) later horizon l (subst (λ (holds : List Hold). ListStandsFor sets horizon holds s l) (holds-left low) st) in
+      subst (λ (spans : List Span). StandsForSpans horizon spans l) (in_conflict sets s (hold_of horizon clearance this) (rest ++ later) (conflict-turned sets (segment_of this.arc) s met))
+      (list-spans sets horizon (hold_of horizon clearance this ∷ (rest ++ later)) s l front)
 
-  released-stands : k < length steps → AreReleased sets rest steps k old mid → ChangesConflicting sets (segment_of this.arc) (IsReleased (hold_of this).span others) mid new
-      → (horizon : ℕ) → All (λ s. s.leave ≤ horizon) steps → StandsFor sets horizon (rest ++ holds_of steps) (of_lists old) → StandsFor sets horizon (rest ++ later) (of_lists new)
-  released-stands low released changes horizon by st s exists =
+  released-stands : k < length steps → AreReleased sets horizon clearance rest steps k old mid → ChangesConflicting sets (segment_of this.arc) (IsReleased (hold_of horizon clearance this).span others) mid new
+      → StandsFor sets horizon (rest ++ holds_of horizon clearance steps) (of_lists old) → StandsFor sets horizon (rest ++ later) (of_lists new)
+  released-stands low released changes st s exists =
       let in_mid : s.0 < length mid = omega (arith, exists, changes.as_many) in
-      let first : ListStandsFor sets horizon (rest ++ holds_of (drop k steps)) s (list_in mid s) = released.stands horizon by st s in_mid in
+      let first : ListStandsFor sets horizon (rest ++ holds_of horizon clearance (drop k steps)) s (list_in mid s) = released.stands st s in_mid in
       elim (cases_Bool (conflict sets (segment_of this.arc) s)) [
         | inl met ↦
             spans-list sets horizon (rest ++ later) s (list_in new s)
-            ((changes.changed s in_mid met).stands horizon (All-get_or (λ (t : Step). t.leave ≤ horizon) steps k d low by) (in_turn horizon s (list_in mid s) low met first))
+            ((changes.changed s in_mid met).stands horizon (until-by (get_or steps k d)) (in_turn s (list_in mid s) low met first))
         | inr apart ↦
             let other : IsFalse (conflict sets s (segment_of this.arc)) = false_from_ne_true _ (λ met. both_ways _ apart (conflict-turned sets s (segment_of this.arc) met)) in
             subst (λ (l : Listed). ListStandsFor sets horizon (rest ++ later) s l) (sym (changes.others s (λ met. both_ways _ apart met)))
-            (list-without sets s rest (hold_of this) later horizon (list_in mid s) other (subst (λ (holds : List Hold). ListStandsFor sets horizon holds s (list_in mid s)) (holds-left low) first))
+            (list-without sets s rest (hold_of horizon clearance this) later horizon (list_in mid s) other (subst (λ (holds : List Hold). ListStandsFor sets horizon holds s (list_in mid s)) (holds-left low) first))
       ]
 
-  pub AreReleased-more : k < length steps → AreReleased sets rest steps k old mid → ChangesConflicting sets (segment_of this.arc) (IsReleased (hold_of this).span others) mid new
-      → AreReleased sets rest steps (k + 1) old new
+  pub AreReleased-more : k < length steps → AreReleased sets horizon clearance rest steps k old mid → ChangesConflicting sets (segment_of this.arc) (IsReleased (hold_of horizon clearance this).span others) mid new
+      → AreReleased sets horizon clearance rest steps (k + 1) old new
   AreReleased-more low released changes = record {
     stands = released-stands low released changes;
-    kept = rw (map_more hold_of steps k d low) (KeepsWindows-more sets IsClearOf (IsReleased (hold_of this).span others) (holds_of (take k steps)) (hold_of this) old mid new
+    kept = rw (map_more (hold_of horizon clearance) steps k d low) (KeepsWindows-more sets IsClearOf (IsReleased (hold_of horizon clearance this).span others) (holds_of horizon clearance (take k steps)) (hold_of horizon clearance this) old mid new
         (λ s a b w is there apart. is.kept w there apart) released.owned.as_many released.kept changes);
     owned = AllKeepOwned-more old mid new released.owned changes.as_many (λ s exists. elim (cases_Bool (conflict sets (segment_of this.arc) s)) [
       | inl met ↦ (changes.changed s exists met).owned
@@ -180,10 +184,10 @@ module _ (sets : List (List Segment)) (rest : List Hold) (steps : List Step) (k 
     ]);
   }
 
-  pub can_release : (horizon : ℕ) × All (λ s. s.leave ≤ horizon) steps × StandsFor sets horizon (rest ++ holds_of steps) (of_lists old) → k < length steps → AreReleased sets rest steps k old mid
-      → EachInConflict sets (segment_of this.arc) (CanRelease (hold_of this).span others) mid
+  pub can_release : StandsFor sets horizon (rest ++ holds_of horizon clearance steps) (of_lists old) → k < length steps → AreReleased sets horizon clearance rest steps k old mid
+      → EachInConflict sets (segment_of this.arc) (CanRelease (hold_of horizon clearance this).span others) mid
   can_release some low released s exists met = record {
-    stands = (some.0, All-get_or (λ (t : Step). t.leave ≤ some.0) steps k d low some.1, in_turn some.0 s (list_in mid s) low met (released.stands some.0 some.1 some.2 s exists));
+    stands = (horizon, until-by (get_or steps k d), in_turn s (list_in mid s) low met (released.stands some s exists));
   }
 
 -- ---- raising and lowering
@@ -194,39 +198,36 @@ AreRaised-none sets lists = record { as_many = refl; each = λ s low. raised_by_
   raised_by_none l = let same : l.held ≡ l.held + 0 = omega arith in ap (λ n. record l { held = n }) same
 
 module _ (sets : List (List Segment)) (before : List Step) (step : Step) (s : Segment) where
-  raised-yes : IsTrue (conflict sets (segment_of step.arc) s) → conflicting sets s (holds_of (before ++ step ∷ [])) ≡ conflicting sets s (holds_of before) + 1
-  raised-yes met =
-      ap (conflicting sets s) (map-append hold_of before (step ∷ [])) ∙ conflicting-append sets s (holds_of before) (hold_of step ∷ [])
-      ∙ ap (λ n. conflicting sets s (holds_of before) + n) (conflicting-yes sets s (hold_of step) [] (conflict-turned sets (segment_of step.arc) s met))
+  raised-yes : IsTrue (conflict sets (segment_of step.arc) s) → conflicting_steps sets s (before ++ step ∷ []) ≡ conflicting_steps sets s before + 1
+  raised-yes met = steps-push sets s before step ∙ rw (conflict-turned sets (segment_of step.arc) s met) refl
 
-  raised-no : IsFalse (conflict sets (segment_of step.arc) s) → conflicting sets s (holds_of (before ++ step ∷ [])) ≡ conflicting sets s (holds_of before)
+  raised-no : IsFalse (conflict sets (segment_of step.arc) s) → conflicting_steps sets s (before ++ step ∷ []) ≡ conflicting_steps sets s before
   raised-no apart =
       let other : IsFalse (conflict sets s (segment_of step.arc)) = false_from_ne_true _ (λ met. both_ways _ apart (conflict-turned sets s (segment_of step.arc) met)) in
-      let none : conflicting sets s (holds_of before) + conflicting sets s (hold_of step ∷ []) ≡ conflicting sets s (holds_of before) = omega (arith, conflicting-no sets s (hold_of step) [] other) in
-      ap (conflicting sets s) (map-append hold_of before (step ∷ [])) ∙ conflicting-append sets s (holds_of before) (hold_of step ∷ []) ∙ none
+      steps-push sets s before step ∙ rw other (omega arith)
 
   -- a number that is raised, and raised once more where the step is in conflict
-  raised-more : (old mid new : Listed) → mid ≡ record old { held = old.held + conflicting sets s (holds_of before) } → (IsTrue (conflict sets (segment_of step.arc) s) → IsRaised s mid new)
-      → (IsFalse (conflict sets (segment_of step.arc) s) → new ≡ mid) → new ≡ record old { held = old.held + conflicting sets s (holds_of (before ++ step ∷ [])) }
+  raised-more : (old mid new : Listed) → mid ≡ record old { held = old.held + conflicting_steps sets s before } → (IsTrue (conflict sets (segment_of step.arc) s) → IsRaised s mid new)
+      → (IsFalse (conflict sets (segment_of step.arc) s) → new ≡ mid) → new ≡ record old { held = old.held + conflicting_steps sets s (before ++ step ∷ []) }
   raised-more old mid new first more same = elim (cases_Bool (conflict sets (segment_of step.arc) s)) [
     | inl met ↦
-        let number : old.held + conflicting sets s (holds_of before) + 1 ≡ old.held + conflicting sets s (holds_of (before ++ step ∷ [])) = omega (arith, raised-yes met) in
+        let number : old.held + conflicting_steps sets s before + 1 ≡ old.held + conflicting_steps sets s (before ++ step ∷ []) = omega (arith, raised-yes met) in
         more met ∙ ap (λ (l : Listed). record l { held = l.held + 1 }) first ∙ ap (λ n. record old { held = n }) number
     | inr apart ↦
-        let number : old.held + conflicting sets s (holds_of before) ≡ old.held + conflicting sets s (holds_of (before ++ step ∷ [])) = omega (arith, raised-no apart) in
+        let number : old.held + conflicting_steps sets s before ≡ old.held + conflicting_steps sets s (before ++ step ∷ []) = omega (arith, raised-no apart) in
         same apart ∙ first ∙ ap (λ n. record old { held = n }) number
   ]
 
   -- the same, where the step is lowered first
-  lowered-more : (old mid new : Listed) → old ≡ record mid { held = mid.held + conflicting sets s (holds_of before) } → (IsTrue (conflict sets (segment_of step.arc) s) → IsRaised s new mid)
-      → (IsFalse (conflict sets (segment_of step.arc) s) → new ≡ mid) → old ≡ record new { held = new.held + conflicting sets s (holds_of (before ++ step ∷ [])) }
+  lowered-more : (old mid new : Listed) → old ≡ record mid { held = mid.held + conflicting_steps sets s before } → (IsTrue (conflict sets (segment_of step.arc) s) → IsRaised s new mid)
+      → (IsFalse (conflict sets (segment_of step.arc) s) → new ≡ mid) → old ≡ record new { held = new.held + conflicting_steps sets s (before ++ step ∷ []) }
   lowered-more old mid new first more same = elim (cases_Bool (conflict sets (segment_of step.arc) s)) [
     | inl met ↦
-        let number : new.held + 1 + conflicting sets s (holds_of before) ≡ new.held + conflicting sets s (holds_of (before ++ step ∷ [])) = omega (arith, raised-yes met) in
-        first ∙ ap (λ (l : Listed). record l { held = l.held + conflicting sets s (holds_of before) }) (more met) ∙ ap (λ n. record new { held = n }) number
+        let number : new.held + 1 + conflicting_steps sets s before ≡ new.held + conflicting_steps sets s (before ++ step ∷ []) = omega (arith, raised-yes met) in
+        first ∙ ap (λ (l : Listed). record l { held = l.held + conflicting_steps sets s before }) (more met) ∙ ap (λ n. record new { held = n }) number
     | inr apart ↦
-        let number : new.held + conflicting sets s (holds_of before) ≡ new.held + conflicting sets s (holds_of (before ++ step ∷ [])) = omega (arith, raised-no apart) in
-        first ∙ ap (λ (l : Listed). record l { held = l.held + conflicting sets s (holds_of before) }) (sym (same apart)) ∙ ap (λ n. record new { held = n }) number
+        let number : new.held + conflicting_steps sets s before ≡ new.held + conflicting_steps sets s (before ++ step ∷ []) = omega (arith, raised-no apart) in
+        first ∙ ap (λ (l : Listed). record l { held = l.held + conflicting_steps sets s before }) (sym (same apart)) ∙ ap (λ n. record new { held = n }) number
   ]
 
 pub AreRaised-more : (sets : List (List Segment)) (before : List Step) (step : Step) (old mid new : List Listed) → AreRaised sets before old mid → ChangesConflicting sets (segment_of step.arc) IsRaised mid new
@@ -255,7 +256,7 @@ few-raised sets steps k old mid segment few raised s exists met =
     omega (arith, number, few s.0 no_list in_old, conflicting-le sets s (take k steps), length-take k steps)
 
 pub some-raised : (sets : List (List Segment)) (steps : List Step) (k : ℕ) (d : Step) (old mid : List Listed)
-    → ((s : Segment) → s.0 < length old → conflicting sets s (holds_of steps) ≤ (list_in old s).held) → k < length steps → AreRaised sets (take k steps) mid old
+    → ((s : Segment) → s.0 < length old → conflicting_steps sets s steps ≤ (list_in old s).held) → k < length steps → AreRaised sets (take k steps) mid old
     → EachInConflict sets (segment_of (get_or steps k d).arc) (λ s l. 1 ≤ l.held) mid
 some-raised sets steps k d old mid enough low raised s exists met =
     let number = ap (λ (l : Listed). l.held) (raised.each s exists) in

@@ -7,9 +7,9 @@ use Rattle.taxi_base.specs.declared.rows.Span.{Span}
 use Rattle.taxi_base.specs.declared.rows.Step.{Step}
 use Rattle.taxi_base.specs.declared.numbers.Segment.{Segment}
 use Rattle.taxi_base.specs.Airport.{conflict}
-use Rattle.taxi_base.specs.Windows.{Hold, hold_of, holds_of, span_has, covers}
+use Rattle.taxi_base.specs.Windows.{Hold, HeldRoute, hold_of, holds_of, span_has, covers}
 use Rattle.taxi_base.proofs.WindowLaws.{span_has-from, span_has-true}
-use Rattle.segment_windows.specs.Held.{IsFirstHeld, IsHeldUntil}
+use Rattle.window_store.specs.Held.{IsFirstHeld, IsHeldUntil}
 use Rattle.window_store.specs.Stands.{route_holds}
 use Rattle.window_store.specs.Conflicting.{spans_in_conflict, ReachesUpTo}
 use Rattle.window_store.proofs.Standing.{in_conflict, not_in_conflict, in_conflict-append, in_conflict-more, in_conflict-route}
@@ -119,11 +119,11 @@ module _ (sets : List (List Segment)) (s : Segment) where
         | inr apart ↦ rw (not_in_conflict sets s hold [] apart) (first-none from until order)
       ]
 
-  pub first-more : (steps : List Step) (k : ℕ) (d : Step) (from until first found : ℕ) → k < length steps → IsFirstHeld (spans_in_conflict sets s (holds_of (take k steps))) from until first
-      → IsFirstHeld (spans_in_conflict sets s (hold_of (get_or steps k d) ∷ [])) from first found → IsFirstHeld (spans_in_conflict sets s (holds_of (take (k + 1) steps))) from until found
-  first-more steps k d from until first found low before here =
-      rw (in_conflict-more sets s steps k d low)
-      (first-append (spans_in_conflict sets s (holds_of (take k steps))) (spans_in_conflict sets s (hold_of (get_or steps k d) ∷ [])) from until first found before here)
+  pub first-more : (horizon clearance : ℕ) (steps : List Step) (k : ℕ) (d : Step) (from until first found : ℕ) → k < length steps → IsFirstHeld (spans_in_conflict sets s (holds_of horizon clearance (take k steps))) from until first
+      → IsFirstHeld (spans_in_conflict sets s (hold_of horizon clearance (get_or steps k d) ∷ [])) from first found → IsFirstHeld (spans_in_conflict sets s (holds_of horizon clearance (take (k + 1) steps))) from until found
+  first-more horizon clearance steps k d from until first found low before here =
+      rw (in_conflict-more horizon clearance sets s steps k d low)
+      (first-append (spans_in_conflict sets s (holds_of horizon clearance (take k steps))) (spans_in_conflict sets s (hold_of horizon clearance (get_or steps k d) ∷ [])) from until first found before here)
 
   pub reaches-step : (hold : Hold) (from : ℕ) → hold.span.from ≤ from → from < hold.span.until → IsTrue (conflict sets s hold.segment) → ReachesUpTo (spans_in_conflict sets s (hold ∷ [])) from hold.span.until
   reaches-step hold from low high met = rw (in_conflict sets s hold [] met) (reaches-in hold.span from low high)
@@ -138,30 +138,30 @@ module _ (sets : List (List Segment)) (s : Segment) where
         | inr apart ↦ rw (not_in_conflict sets s hold [] apart) (reaches-none from)
       ]
 
-  pub reaches-more : (steps : List Step) (k : ℕ) (d : Step) (from a b until : ℕ) → k < length steps → ReachesUpTo (spans_in_conflict sets s (holds_of (take k steps))) from a
-      → ReachesUpTo (spans_in_conflict sets s (hold_of (get_or steps k d) ∷ [])) from b → until ≡ max a b → ReachesUpTo (spans_in_conflict sets s (holds_of (take (k + 1) steps))) from until
-  reaches-more steps k d from a b until low before here is =
-      rw (in_conflict-more sets s steps k d low)
-      (reaches-append (spans_in_conflict sets s (holds_of (take k steps))) (spans_in_conflict sets s (hold_of (get_or steps k d) ∷ [])) from a b until before here is)
+  pub reaches-more : (horizon clearance : ℕ) (steps : List Step) (k : ℕ) (d : Step) (from a b until : ℕ) → k < length steps → ReachesUpTo (spans_in_conflict sets s (holds_of horizon clearance (take k steps))) from a
+      → ReachesUpTo (spans_in_conflict sets s (hold_of horizon clearance (get_or steps k d) ∷ [])) from b → until ≡ max a b → ReachesUpTo (spans_in_conflict sets s (holds_of horizon clearance (take (k + 1) steps))) from until
+  reaches-more horizon clearance steps k d from a b until low before here is =
+      rw (in_conflict-more horizon clearance sets s steps k d low)
+      (reaches-append (spans_in_conflict sets s (holds_of horizon clearance (take k steps))) (spans_in_conflict sets s (hold_of horizon clearance (get_or steps k d) ∷ [])) from a b until before here is)
 
-  pub first-route : (routes : List (List Step)) (k : ℕ) (steps : List Step) (from until first found : ℕ) → slice_get routes k ≡ Some steps
-      → IsFirstHeld (spans_in_conflict sets s (route_holds (take k routes))) from until first → IsFirstHeld (spans_in_conflict sets s (holds_of steps)) from first found
-      → IsFirstHeld (spans_in_conflict sets s (route_holds (take (k + 1) routes))) from until found
-  first-route routes k steps from until first found is before here =
-      rw (in_conflict-route sets s routes k steps is)
-      (first-append (spans_in_conflict sets s (route_holds (take k routes))) (spans_in_conflict sets s (holds_of steps)) from until first found before here)
+  pub first-route : (horizon : ℕ) (routes : List HeldRoute) (k : ℕ) (route : HeldRoute) (from until first found : ℕ) → slice_get routes k ≡ Some route
+      → IsFirstHeld (spans_in_conflict sets s (route_holds horizon (take k routes))) from until first → IsFirstHeld (spans_in_conflict sets s (holds_of horizon route.clearance route.steps)) from first found
+      → IsFirstHeld (spans_in_conflict sets s (route_holds horizon (take (k + 1) routes))) from until found
+  first-route horizon routes k route from until first found is before here =
+      rw (in_conflict-route horizon sets s routes k route is)
+      (first-append (spans_in_conflict sets s (route_holds horizon (take k routes))) (spans_in_conflict sets s (holds_of horizon route.clearance route.steps)) from until first found before here)
 
   pub first-both : (holds others : List Hold) (from until first found : ℕ) → IsFirstHeld (spans_in_conflict sets s holds) from until first
       → IsFirstHeld (spans_in_conflict sets s others) from first found → IsFirstHeld (spans_in_conflict sets s (holds ++ others)) from until found
   first-both holds others from until first found before here =
       rw (in_conflict-append sets s holds others) (first-append (spans_in_conflict sets s holds) (spans_in_conflict sets s others) from until first found before here)
 
-  pub reaches-route : (routes : List (List Step)) (k : ℕ) (steps : List Step) (from a b until : ℕ) → slice_get routes k ≡ Some steps
-      → ReachesUpTo (spans_in_conflict sets s (route_holds (take k routes))) from a → ReachesUpTo (spans_in_conflict sets s (holds_of steps)) from b → until ≡ max a b
-      → ReachesUpTo (spans_in_conflict sets s (route_holds (take (k + 1) routes))) from until
-  reaches-route routes k steps from a b until is before here most =
-      rw (in_conflict-route sets s routes k steps is)
-      (reaches-append (spans_in_conflict sets s (route_holds (take k routes))) (spans_in_conflict sets s (holds_of steps)) from a b until before here most)
+  pub reaches-route : (horizon : ℕ) (routes : List HeldRoute) (k : ℕ) (route : HeldRoute) (from a b until : ℕ) → slice_get routes k ≡ Some route
+      → ReachesUpTo (spans_in_conflict sets s (route_holds horizon (take k routes))) from a → ReachesUpTo (spans_in_conflict sets s (holds_of horizon route.clearance route.steps)) from b → until ≡ max a b
+      → ReachesUpTo (spans_in_conflict sets s (route_holds horizon (take (k + 1) routes))) from until
+  reaches-route horizon routes k route from a b until is before here most =
+      rw (in_conflict-route horizon sets s routes k route is)
+      (reaches-append (spans_in_conflict sets s (route_holds horizon (take k routes))) (spans_in_conflict sets s (holds_of horizon route.clearance route.steps)) from a b until before here most)
 
   pub reaches-both : (holds others : List Hold) (from a b until : ℕ) → ReachesUpTo (spans_in_conflict sets s holds) from a → ReachesUpTo (spans_in_conflict sets s others) from b → until ≡ max a b
       → ReachesUpTo (spans_in_conflict sets s (holds ++ others)) from until

@@ -1,12 +1,12 @@
 -- Which lists stand for which holds: only the spans of those in conflict count, and not their order.
-use Rattle.std.proofs.Common.{◌≡◌, ℕ, suc, ◌+◌, ◌<◌, ◌≤◌, Bool, true, false, not, ◌&&◌, ◌||◌, List, [], ◌∷◌, ◌++◌, length, get_or, take, drop, IsTrue, IsFalse, inl, inr, refl, sym, ◌∙◌, ap, arith}
-use Rattle.std.specs.Prelude.{All, map, filter, nat_lt, slice_get, Some}
+use Rattle.std.proofs.Common.{◌≡◌, ℕ, suc, ◌+◌, ◌<◌, ◌≤◌, Bool, true, false, not, cond, Option, None, ◌&&◌, ◌||◌, List, [], ◌∷◌, ◌++◌, length, get_or, take, IsTrue, IsFalse, inl, inr, refl, sym, ◌∙◌, ap, arith}
+use Rattle.std.specs.Prelude.{All, map, filter, nat_lt, slice_get, option_map, Some}
 use Rattle.std.specs.List.{list_any}
 use Rattle.std.proofs.lemmas.Bool.{cases_Bool, cond-true, cond-false}
-use Rattle.std.proofs.lemmas.List.{append-nil, map-append, map_more, take_more, drop_more, take-append-drop, length-append, length-map}
+use Rattle.std.proofs.lemmas.List.{append-nil, map-append, map_more, take_more, length-append}
 use Rattle.std.proofs.lemmas.List.Concat.{flat_map-append}
-use Rattle.std.proofs.lemmas.Option.{slice_get_within, get_or_from_slice_get}
-use Rattle.std.proofs.lemmas.List.Sums.{length-filter, count_by-le-length}
+use Rattle.std.proofs.lemmas.Option.{none-some, slice_get_within, get_or_from_slice_get}
+use Rattle.std.proofs.lemmas.List.Sums.{length-filter, count_by-le-length, sum_by-cons, sum_by_push, sum_by_more, sum_by-take-le}
 use Rattle.std.proofs.lemmas.List.Elements.{All-from_get_or, filter-append}
 use Rattle.std.proofs.lemmas.List.Folds.{list_any-append}
 use Rattle.taxi_base.specs.declared.numbers.Segment.{Segment}
@@ -14,10 +14,10 @@ use Rattle.taxi_base.specs.declared.rows.Span.{Span}
 use Rattle.taxi_base.specs.declared.rows.Step.{Step}
 use Rattle.taxi_base.specs.Airport.{conflict, segment_of}
 use Rattle.interval_list.specs.Intervals.{spans_of}
-use Rattle.taxi_base.specs.Windows.{Hold, hold_of, holds_of, span_has, covers, blocks, is_free, AreWindows}
-use Rattle.segment_windows.specs.Standing.{Listed, StandsForSpans, is_unheld}
+use Rattle.taxi_base.specs.Windows.{Hold, HeldRoute, hold_of, holds_of, span_has, covers, blocks, is_free, AreWindows}
+use Rattle.window_store.specs.Spans.{Listed, StandsForSpans, is_unheld}
 use Rattle.window_store.specs.Store.{no_list, Store, list_at}
-use Rattle.window_store.specs.Stands.{conflicting, route_holds, ListStandsFor, StandsFor}
+use Rattle.window_store.specs.Stands.{conflicting, conflicting_steps, route_holds, ListStandsFor, StandsFor}
 use Rattle.window_store.specs.Conflicting.{spans_in_conflict}
 
 length-map_span : (holds : List Hold) → length (map (λ (h : Hold). h.span) holds) ≡ length holds
@@ -111,21 +111,36 @@ module _ (sets : List (List Segment)) (horizon : ℕ) where
 
 -- ---- one step more
 
-pub in_conflict-more : (sets : List (List Segment)) (s : Segment) (steps : List Step) (k : ℕ) (d : Step) → k < length steps
-    → spans_in_conflict sets s (holds_of (take (k + 1) steps)) ≡ spans_in_conflict sets s (holds_of (take k steps)) ++ spans_in_conflict sets s (hold_of (get_or steps k d) ∷ [])
-in_conflict-more sets s steps k d low =
-    ap (λ (holds : List Hold). spans_in_conflict sets s holds) (map_more hold_of steps k d low)
-    ∙ in_conflict-append sets s (holds_of (take k steps)) (hold_of (get_or steps k d) ∷ [])
+pub in_conflict-more : (horizon clearance : ℕ) (sets : List (List Segment)) (s : Segment) (steps : List Step) (k : ℕ) (d : Step) → k < length steps
+    → spans_in_conflict sets s (holds_of horizon clearance (take (k + 1) steps)) ≡ spans_in_conflict sets s (holds_of horizon clearance (take k steps)) ++ spans_in_conflict sets s (hold_of horizon clearance (get_or steps k d) ∷ [])
+in_conflict-more horizon clearance sets s steps k d low =
+    ap (λ (holds : List Hold). spans_in_conflict sets s holds) (map_more (hold_of horizon clearance) steps k d low)
+    ∙ in_conflict-append sets s (holds_of horizon clearance (take k steps)) (hold_of horizon clearance (get_or steps k d) ∷ [])
 
 -- one route more
-pub in_conflict-route : (sets : List (List Segment)) (s : Segment) (routes : List (List Step)) (k : ℕ) (steps : List Step) → slice_get routes k ≡ Some steps
-    → spans_in_conflict sets s (route_holds (take (k + 1) routes)) ≡ spans_in_conflict sets s (route_holds (take k routes)) ++ spans_in_conflict sets s (holds_of steps)
-in_conflict-route sets s routes k steps here =
-    let taken : take (k + 1) routes ≡ take k routes ++ steps ∷ [] =
-    take_more routes k [] (slice_get_within routes k steps here) ∙ ap (λ (r : List Step). take k routes ++ r ∷ []) (get_or_from_slice_get routes k steps [] here) in
-    ap (λ (rs : List (List Step)). spans_in_conflict sets s (route_holds rs)) taken
-    ∙ ap (λ (holds : List Hold). spans_in_conflict sets s holds) (flat_map-append holds_of (take k routes) (steps ∷ []) ∙ ap (λ (last : List Hold). route_holds (take k routes) ++ last) (append-nil (holds_of steps)))
-    ∙ in_conflict-append sets s (route_holds (take k routes)) (holds_of steps)
+pub in_conflict-route : (horizon : ℕ) (sets : List (List Segment)) (s : Segment) (routes : List HeldRoute) (k : ℕ) (route : HeldRoute) → slice_get routes k ≡ Some route
+    → spans_in_conflict sets s (route_holds horizon (take (k + 1) routes))
+    ≡ spans_in_conflict sets s (route_holds horizon (take k routes)) ++ spans_in_conflict sets s (holds_of horizon route.clearance route.steps)
+in_conflict-route horizon sets s routes k route here =
+    let held : HeldRoute → List Hold = λ r. holds_of horizon r.clearance r.steps in
+    let taken : take (k + 1) routes ≡ take k routes ++ route ∷ [] =
+    take_more routes k route (slice_get_within routes k route here) ∙ ap (λ (r : HeldRoute). take k routes ++ r ∷ []) (get_or_from_slice_get routes k route route here) in
+    ap (λ (rs : List HeldRoute). spans_in_conflict sets s (route_holds horizon rs)) taken
+    ∙ ap (λ (holds : List Hold). spans_in_conflict sets s holds)
+    (flat_map-append held (take k routes) (route ∷ []) ∙ ap (λ (last : List Hold). route_holds horizon (take k routes) ++ last) (append-nil (held route)))
+    ∙ in_conflict-append sets s (route_holds horizon (take k routes)) (held route)
+
+-- a route by its two parts
+pub route-of : (o : Option HeldRoute) (steps : List Step) (clearance : ℕ) → option_map (λ r. r.steps) o ≡ Some steps → option_map (λ r. r.clearance) o ≡ Some clearance
+    → o ≡ Some (record { steps = steps; clearance = clearance })
+route-of None steps clearance a b = absurd (none-some steps a)
+route-of (Some route) steps clearance a b =
+    let same_steps : route.steps ≡ steps = same a in
+    let same_clearance : route.clearance ≡ clearance = same b in
+    λ i. Some (record { steps = same_steps i; clearance = same_clearance i })
+  where
+    same : {X : Type 0} {x y : X} → Some x ≡ Some y → x ≡ y
+    same e = cc
 
 -- ---- a hold is moved to the front
 
@@ -167,21 +182,29 @@ module _ (sets : List (List Segment)) (s : Segment) (xs : List Hold) (h : Hold) 
 
 -- ---- how many steps are in conflict
 
-pub conflicting-part : (sets : List (List Segment)) (s : Segment) (steps : List Step) (k : ℕ) (d : Step) → k < length steps → IsTrue (conflict sets s (segment_of (get_or steps k d).arc))
-    → 1 + conflicting sets s (holds_of (take k steps)) ≤ conflicting sets s (holds_of steps)
-conflicting-part sets s steps k d low met =
-    let split : holds_of steps ≡ holds_of (take k steps) ++ holds_of (get_or steps k d ∷ drop (k + 1) steps) =
-    ap holds_of (sym (take-append-drop k steps) ∙ ap (λ (rest : List Step). take k steps ++ rest) (drop_more steps k d low)) ∙ map-append hold_of (take k steps) (get_or steps k d ∷ drop (k + 1) steps) in
-    let all = ap (conflicting sets s) split in
-    omega (
-      arith,
-      all,
-      conflicting-append sets s (holds_of (take k steps)) (holds_of (get_or steps k d ∷ drop (k + 1) steps)),
-      conflicting-yes sets s (hold_of (get_or steps k d)) (holds_of (drop (k + 1) steps)) met,
-    )
+-- those whose holds are
+pub conflicting-steps : (horizon clearance : ℕ) (sets : List (List Segment)) (s : Segment) (steps : List Step) → conflicting sets s (holds_of horizon clearance steps) ≡ conflicting_steps sets s steps
+conflicting-steps horizon clearance sets s [] = refl
+conflicting-steps horizon clearance sets s (step ∷ steps) =
+    sum_by-cons (λ (h : Hold). cond (conflict sets s h.segment) 1 0) (hold_of horizon clearance step) (holds_of horizon clearance steps)
+    ∙ ap (λ n. cond (conflict sets s (segment_of step.arc)) 1 0 + n) (conflicting-steps horizon clearance sets s steps)
+    ∙ sym (sum_by-cons (λ (t : Step). cond (conflict sets s (segment_of t.arc)) 1 0) step steps)
 
-pub conflicting-le : (sets : List (List Segment)) (s : Segment) (steps : List Step) → conflicting sets s (holds_of steps) ≤ length steps
-conflicting-le sets s steps = omega (arith, count_by-le-length (λ (h : Hold). conflict sets s h.segment) (holds_of steps), length-map steps hold_of)
+pub steps-no : (sets : List (List Segment)) (s : Segment) (step : Step) (steps : List Step) → IsFalse (conflict sets s (segment_of step.arc)) → conflicting_steps sets s (step ∷ steps) ≡ conflicting_steps sets s steps
+steps-no sets s step steps apart = sum_by-cons (λ (t : Step). cond (conflict sets s (segment_of t.arc)) 1 0) step steps ∙ rw apart (omega arith)
+
+pub steps-push : (sets : List (List Segment)) (s : Segment) (steps : List Step) (step : Step) → conflicting_steps sets s (steps ++ step ∷ []) ≡ conflicting_steps sets s steps + cond (conflict sets s (segment_of step.arc)) 1 0
+steps-push sets s steps step = sum_by_push (λ (t : Step). cond (conflict sets s (segment_of t.arc)) 1 0) steps step
+
+pub conflicting-part : (sets : List (List Segment)) (s : Segment) (steps : List Step) (k : ℕ) (d : Step) → k < length steps → IsTrue (conflict sets s (segment_of (get_or steps k d).arc))
+    → 1 + conflicting_steps sets s (take k steps) ≤ conflicting_steps sets s steps
+conflicting-part sets s steps k d low met =
+    let f : Step → ℕ = λ (t : Step). cond (conflict sets s (segment_of t.arc)) 1 0 in
+    let here : f (get_or steps k d) ≡ 1 = rw met refl in
+    omega (arith, sum_by_more f steps k d low, sum_by-take-le f steps (k + 1), here)
+
+pub conflicting-le : (sets : List (List Segment)) (s : Segment) (steps : List Step) → conflicting_steps sets s steps ≤ length steps
+conflicting-le sets s steps = count_by-le-length (λ (t : Step). conflict sets s (segment_of t.arc)) steps
 
 -- where there are few holds, the numbers are small
 pub StandsFor-few : (sets : List (List Segment)) (horizon : ℕ) (holds : List Hold) (store : Store) (more bound : ℕ) → length holds + more < bound → StandsFor sets horizon holds store

@@ -1,20 +1,20 @@
 -- What an edit makes of the lists in conflict with a segment, and what a run of steps makes of all lists. No public clause
 -- cites this module.
-use Rattle.std.specs.Prelude.{ℕ, ◌≡◌, ◌+◌, ◌<◌, ◌≤◌, List, ◌∷◌, ◌++◌, length, take, drop, All, IsTrue}
+use Rattle.std.specs.Prelude.{ℕ, ◌≡◌, ◌+◌, ◌<◌, ◌≤◌, max, List, ◌∷◌, ◌++◌, length, take, drop, sum_by, IsTrue}
 use Rattle.taxi_base.specs.declared.numbers.Segment.{Segment}
 use Rattle.taxi_base.specs.declared.rows.Span.{Span}
 use Rattle.taxi_base.specs.declared.rows.Step.{Step}
 use Rattle.taxi_base.specs.Airport.{conflict}
 use Rattle.taxi_base.specs.Windows.{Hold, holds_of}
 use Rattle.interval_list.specs.Intervals.{OwnsSame, KeepsUnmet, KeepsUntouched}
-use Rattle.segment_windows.specs.Standing.{Listed, nodes, StandsForSpans}
-use Rattle.window_store.specs.Store.{Store, IsStore, list_at}
-use Rattle.window_store.specs.Stands.{StandsFor, conflicting}
+use Rattle.window_store.specs.Spans.{Listed, nodes, StandsForSpans}
+use Rattle.window_store.specs.Store.{Store, of_lists_and_ids, IsStore, list_at}
+use Rattle.window_store.specs.Stands.{StandsFor, conflicting_steps}
 use Rattle.window_store.specs.Kept.{IsApartFrom, IsClearOf, KeepsWindows, GainsRoom}
 
 -- lists by themselves, as a store
 abbrev pub of_lists : List Listed → Store
-of_lists lists = record { lists = lists; next = 0 }
+of_lists lists = of_lists_and_ids lists 0
 
 abbrev pub list_in : List Listed → Segment → Listed
 list_in lists segment = list_at (of_lists lists) segment
@@ -78,25 +78,28 @@ pub record AllKeepOwned (old new : List Listed) : Type 0 where
   pub each : (s : Segment) → s.0 < length old → KeepsOwned (list_in old s) (list_in new s)
 
 -- what some steps hold is held
-pub record AreHeld (sets : List (List Segment)) (steps : List Step) (old new : List Listed) : Type 0 where
-  pub stands : (horizon : ℕ) (holds : List Hold) → StandsFor sets horizon holds (of_lists old) → StandsFor sets horizon (holds ++ holds_of steps) (of_lists new)
-  pub kept : KeepsWindows IsApartFrom sets (holds_of steps) (of_lists old) (of_lists new)
+pub record AreHeld (sets : List (List Segment)) (horizon clearance : ℕ) (steps : List Step) (old new : List Listed) : Type 0 where
+  pub stands : (holds : List Hold) → StandsFor sets horizon holds (of_lists old) → StandsFor sets horizon (holds ++ holds_of horizon clearance steps) (of_lists new)
+  pub kept : KeepsWindows IsApartFrom sets (holds_of horizon clearance steps) (of_lists old) (of_lists new)
   pub owned : AllKeepOwned old new
 
 -- what the first steps hold is held no longer, while the rest and the later steps are
-pub record AreReleased (sets : List (List Segment)) (rest : List Hold) (steps : List Step) (count : ℕ) (old new : List Listed) : Type 0 where
-  pub stands : (horizon : ℕ) → All (λ s. s.leave ≤ horizon) steps → StandsFor sets horizon (rest ++ holds_of steps) (of_lists old)
-      → StandsFor sets horizon (rest ++ holds_of (drop count steps)) (of_lists new)
-  pub kept : KeepsWindows IsClearOf sets (holds_of (take count steps)) (of_lists old) (of_lists new)
+pub record AreReleased (sets : List (List Segment)) (horizon clearance : ℕ) (rest : List Hold) (steps : List Step) (count : ℕ) (old new : List Listed) : Type 0 where
+  pub stands : StandsFor sets horizon (rest ++ holds_of horizon clearance steps) (of_lists old)
+      → StandsFor sets horizon (rest ++ holds_of horizon clearance (drop count steps)) (of_lists new)
+  pub kept : KeepsWindows IsClearOf sets (holds_of horizon clearance (take count steps)) (of_lists old) (of_lists new)
   pub owned : AllKeepOwned old new
 
 -- each number is raised by that of the steps in conflict, and nothing else is changed
 pub record AreRaised (sets : List (List Segment)) (steps : List Step) (old new : List Listed) : Type 0 where
   pub as_many : length new ≡ length old
   pub each : (s : Segment) → s.0 < length old
-      → list_in new s ≡ record (list_in old s) { held = (list_in old s).held + conflicting sets s (holds_of steps) }
+      → list_in new s ≡ record (list_in old s) { held = (list_in old s).held + conflicting_steps sets s steps }
 
--- the lists and their ids are sound still, and have at least as many nodes
+-- The lists and their ids are sound still. Each list has at least as many nodes, and no more than it had or than its
+-- number wants; and each id that is drawn is a new node's.
 pub record GainsNodes (old new : Store) : Type 0 where
   pub store : IsStore new
   pub gained : GainsRoom old new
+  pub most : (s : Segment) → s.0 < length old.lists → nodes (list_at new s) ≤ max (nodes (list_at old s)) (1 + (list_at old s).held)
+  pub ids : new.next + sum_by nodes old.lists ≡ old.next + sum_by nodes new.lists

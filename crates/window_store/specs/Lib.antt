@@ -1,3 +1,5 @@
+pub mod Spans
+pub mod Held
 pub mod Store
 pub mod Stands
 pub mod Kept

@@ -4,12 +4,17 @@ use Rattle.taxi_base.specs.declared.numbers.Segment.{Segment}
 use Rattle.taxi_base.specs.declared.rows.Span.{Span}
 use Rattle.interval_list.specs.declared.window.Window.{Window}
 use Rattle.interval_list.specs.Intervals.{owned, times, spans_of}
-use Rattle.segment_windows.specs.Standing.{Listed, nodes}
+use Rattle.window_store.specs.Spans.{Listed, nodes}
 
--- a list of windows for each segment, and a number above all ids
+-- a list of windows for each segment, a number above all ids, and the horizon before which seconds are free
 pub record Store : Type 0 where
   pub lists : List Listed
   pub next : ℕ
+  pub horizon : ℕ
+
+-- lists and the next id by themselves, as a store
+abbrev pub of_lists_and_ids : List Listed → ℕ → Store
+of_lists_and_ids lists next = record { lists = lists; next = next; horizon = 0 }
 
 abbrev pub no_list : Listed
 no_list = record { intervals = record { windows = []; spare = [] }; held = 0 }
@@ -34,6 +39,10 @@ pub record IsStore (store : Store) : Type 0 where
   pub below : All (λ id. id < store.next) (ids_owned store.lists)
   pub drawn : store.next ≤ sum_by nodes store.lists
   pub each : All (λ l. nodes l ≤ 2 ^ 33) store.lists
+
+-- each window ends by the horizon
+abbrev pub EndBy : ℕ → List Listed → Type 0
+EndBy horizon lists = All (λ l. All (λ w. w.until ≤ horizon) l.intervals.windows) lists
 
 -- there are nodes for one window more than each list's number says
 abbrev pub HaveRoom : List Listed → Type 0

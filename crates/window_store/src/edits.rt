@@ -4,19 +4,26 @@ ghost use Rattle.taxi_base.specs.declared.numbers.Segment.{Segment as SegmentNum
 ghost use Rattle.taxi_base.specs.Airport.{segment_of};
 ghost use Rattle.taxi_base.specs.Windows.{Hold, hold_of, holds_of};
 ghost use Rattle.conflict_sets.specs.Conflicts.{AreConflicts};
-ghost use Rattle.window_store.specs.Store.{Store, IsStore};
-ghost use Rattle.window_store.specs.Stands.{StandsFor, HasRoomFor, conflicting, route_holds, AreOnSegments, TakeTime};
+ghost use Rattle.window_store.specs.Store.{of_lists_and_ids, IsStore};
+ghost use Rattle.window_store.specs.Stands.{StandsFor, HasRoomFor, conflicting_steps, route_holds, AreOnSegments, TakeTime, AreInTime};
 ghost use Rattle.window_store.specs.Conflicting.{spans_in_conflict};
 ghost use Rattle.window_store.specs.Edits.{of_lists, list_in, EachInConflict, ChangesConflicting, CanHold, IsHeld, CanRelease, IsReleased, IsRaised, HasRoom, AreHeld, AreReleased, AreRaised, GainsNodes};
 
+use crate::segment_windows::SegmentWindows;
 use crate::still_held::StillHeld;
 use conflict_sets::Conflicts;
 use interval_list::Ids;
 use segment_graph::segment_of;
-use segment_windows::SegmentWindows;
-use taxi_base::{Memory, Routes, Segment, Span, Step};
+use taxi_base::{Memory, Routes, Segment, Span, Step, Time};
 
 // ---- a step
+
+/// For how long steps hold their segments: each until the clearance after its leave is over, but not past the horizon.
+#[derive(Clone, Copy)]
+pub(crate) struct Term {
+    pub(crate) horizon: Time,
+    pub(crate) clearance: Time,
+}
 
 // The segments in conflict with a step's, itself among them.
 fn segments_of<'a>(conflicts: &'a Conflicts, step: &Step) -> &'a [Segment]
@@ -28,40 +35,44 @@ fn segments_of<'a>(conflicts: &'a Conflicts, step: &Step) -> &'a [Segment]
 }
 
 // For which seconds a step holds its segment.
-fn span_of(step: &Step) -> Span
-    ensures { result ≡ (hold_of step.now).span }
+pub(crate) fn span_of(step: &Step, term: Term) -> Span
+    ensures { result ≡ (hold_of term.horizon term.clearance step.now).span }
 {
-    Span {
-        from: step.enter,
-        until: step.leave,
-    }
+    step.held(term.horizon, term.clearance)
 }
 
 // ---- holding
 
 /// Each list in conflict with a step is cut by what the step holds.
-pub(crate) fn hold_steps(lists: &mut [SegmentWindows], conflicts: &Conflicts, steps: &[Step])
+pub(crate) fn hold_steps(
+    lists: &mut [SegmentWindows],
+    conflicts: &Conflicts,
+    steps: &[Step],
+    term: Term,
+)
     requires segments { length lists.old ≡ conflicts.now.segments }
     requires steps { AreOnSegments conflicts.now.segments steps.now }
     requires time { TakeTime steps.now }
-    requires stands { (horizon : ℕ) × (holds : List Hold) × StandsFor conflicts.now.sets horizon holds (of_lists lists.old) }
+    requires in_time { AreInTime term.horizon steps.now }
+    requires stands { (holds : List Hold) × StandsFor conflicts.now.sets term.horizon holds (of_lists lists.old) }
     requires room { HasRoomFor conflicts.now.sets steps.now (of_lists lists.old) }
-    ensures { AreHeld conflicts.now.sets steps.now lists.old lists.new }
+    ensures { AreHeld conflicts.now.sets term.horizon term.clearance steps.now lists.old lists.new }
 {
     for step in steps {
-        hold_step(lists, conflicts, step);
+        hold_step(lists, conflicts, step, term);
     }
 }
 
-fn hold_step(lists: &mut [SegmentWindows], conflicts: &Conflicts, step: &Step)
+fn hold_step(lists: &mut [SegmentWindows], conflicts: &Conflicts, step: &Step, term: Term)
     requires segments { length lists.old ≡ conflicts.now.segments }
     requires step { step.now.arc.0 / 2 < conflicts.now.segments }
     requires time { step.now.enter < step.now.leave }
+    requires in_time { step.now.leave ≤ term.horizon }
     requires can { EachInConflict conflicts.now.sets (segment_of step.now.arc) CanHold lists.old }
-    ensures { ChangesConflicting conflicts.now.sets (segment_of step.now.arc) (IsHeld (hold_of step.now).span) lists.old lists.new }
+    ensures { ChangesConflicting conflicts.now.sets (segment_of step.now.arc) (IsHeld (hold_of term.horizon term.clearance step.now).span) lists.old lists.new }
 {
     for segment in segments_of(conflicts, step) {
-        lists[segment.0 as usize].hold(span_of(step));
+        lists[segment.0 as usize].hold(span_of(step, term));
     }
 }
 
@@ -74,15 +85,17 @@ pub(crate) fn release_steps<R: Routes>(
     conflicts: &Conflicts,
     remaining: &R,
     steps: &[Step],
+    term: Term,
 )
     requires segments { length lists.old ≡ conflicts.now.segments }
     requires steps { AreOnSegments conflicts.now.segments steps.now }
     requires time { TakeTime steps.now }
-    requires stands { (horizon : ℕ) × All (λ s. s.leave ≤ horizon) steps.now × StandsFor conflicts.now.sets horizon (route_holds (R.listed remaining.now) ++ holds_of steps.now) (of_lists lists.old) }
-    ensures { AreReleased conflicts.now.sets (route_holds (R.listed remaining.now)) steps.now (length steps.now) lists.old lists.new }
+    requires in_time { AreInTime term.horizon steps.now }
+    requires stands { StandsFor conflicts.now.sets term.horizon (route_holds term.horizon (R.listed remaining.now) ++ holds_of term.horizon term.clearance steps.now) (of_lists lists.old) }
+    ensures { AreReleased conflicts.now.sets term.horizon term.clearance (route_holds term.horizon (R.listed remaining.now)) steps.now (length steps.now) lists.old lists.new }
 {
     for (place, step) in steps.iter().enumerate() {
-        release_step(lists, conflicts, remaining, step, &steps[place + 1..]);
+        release_step(lists, conflicts, remaining, step, &steps[place + 1..], term);
     }
 }
 
@@ -92,12 +105,14 @@ fn release_step<R: Routes>(
     remaining: &R,
     step: &Step,
     later: &[Step],
+    term: Term,
 )
     requires segments { length lists.old ≡ conflicts.now.segments }
     requires step { step.now.arc.0 / 2 < conflicts.now.segments }
     requires time { step.now.enter < step.now.leave }
-    requires can { EachInConflict conflicts.now.sets (segment_of step.now.arc) (CanRelease (hold_of step.now).span (λ s. spans_in_conflict conflicts.now.sets s (route_holds (R.listed remaining.now) ++ holds_of later.now))) lists.old }
-    ensures { ChangesConflicting conflicts.now.sets (segment_of step.now.arc) (IsReleased (hold_of step.now).span (λ s. spans_in_conflict conflicts.now.sets s (route_holds (R.listed remaining.now) ++ holds_of later.now))) lists.old lists.new }
+    requires in_time { step.now.leave ≤ term.horizon }
+    requires can { EachInConflict conflicts.now.sets (segment_of step.now.arc) (CanRelease (hold_of term.horizon term.clearance step.now).span (λ s. spans_in_conflict conflicts.now.sets s (route_holds term.horizon (R.listed remaining.now) ++ holds_of term.horizon term.clearance later.now))) lists.old }
+    ensures { ChangesConflicting conflicts.now.sets (segment_of step.now.arc) (IsReleased (hold_of term.horizon term.clearance step.now).span (λ s. spans_in_conflict conflicts.now.sets s (route_holds term.horizon (R.listed remaining.now) ++ holds_of term.horizon term.clearance later.now))) lists.old lists.new }
 {
     for segment in segments_of(conflicts, step) {
         let others = StillHeld {
@@ -105,8 +120,9 @@ fn release_step<R: Routes>(
             segment: *segment,
             remaining,
             later,
+            term,
         };
-        lists[segment.0 as usize].release(span_of(step), &others);
+        lists[segment.0 as usize].release(span_of(step, term), &others);
     }
 }
 
@@ -139,7 +155,7 @@ fn raise_for_step(lists: &mut [SegmentWindows], conflicts: &Conflicts, step: &St
 pub(crate) fn lower_for_steps(lists: &mut [SegmentWindows], conflicts: &Conflicts, steps: &[Step])
     requires segments { length lists.old ≡ conflicts.now.segments }
     requires steps { AreOnSegments conflicts.now.segments steps.now }
-    requires raised { (s : SegmentNumber) → s.0 < length lists.old → conflicting conflicts.now.sets s (holds_of steps.now) ≤ (list_in lists.old s).held }
+    requires raised { (s : SegmentNumber) → s.0 < length lists.old → conflicting_steps conflicts.now.sets s steps.now ≤ (list_in lists.old s).held }
     ensures { AreRaised conflicts.now.sets steps.now lists.new lists.old }
 {
     for step in steps {
@@ -169,9 +185,9 @@ pub(crate) fn make_room(
     requires segments { length lists.old ≡ conflicts.now.segments }
     requires steps { AreOnSegments conflicts.now.segments steps.now }
     requires few { All (λ l. l.held < 2 ^ 33) lists.old }
-    requires store { IsStore (record { lists = lists.old; next = ids.old.next }) }
+    requires store { IsStore (of_lists_and_ids lists.old ids.old.next) }
     ensures room { OnOk result (All (λ step. EachInConflict conflicts.now.sets (segment_of step.arc) HasRoom lists.new) steps.now) }
-    ensures gained { GainsNodes (record { lists = lists.old; next = ids.old.next }) (record { lists = lists.new; next = ids.new.next }) }
+    ensures gained { GainsNodes (of_lists_and_ids lists.old ids.old.next) (of_lists_and_ids lists.new ids.new.next) }
 {
     for step in steps {
         make_room_for_step(lists, ids, conflicts, step)?;
@@ -188,9 +204,9 @@ fn make_room_for_step(
     requires segments { length lists.old ≡ conflicts.now.segments }
     requires step { step.now.arc.0 / 2 < conflicts.now.segments }
     requires few { All (λ l. l.held < 2 ^ 33) lists.old }
-    requires store { IsStore (record { lists = lists.old; next = ids.old.next }) }
+    requires store { IsStore (of_lists_and_ids lists.old ids.old.next) }
     ensures room { OnOk result (EachInConflict conflicts.now.sets (segment_of step.now.arc) HasRoom lists.new) }
-    ensures gained { GainsNodes (record { lists = lists.old; next = ids.old.next }) (record { lists = lists.new; next = ids.new.next }) }
+    ensures gained { GainsNodes (of_lists_and_ids lists.old ids.old.next) (of_lists_and_ids lists.new ids.new.next) }
 {
     for segment in segments_of(conflicts, step) {
         let list = &mut lists[segment.0 as usize];

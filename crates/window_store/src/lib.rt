@@ -2,11 +2,16 @@
 #![tactic(auto)]
 
 mod edits;
+mod held;
 mod laws;
+mod segment_windows;
 mod still_held;
 mod store;
 #[cfg(test)]
 mod tests;
 
-pub use laws::{lists_are_short, stores_stand_for_holds_in_any_order};
+pub use laws::{
+    lists_are_short, stores_stand_for_holds_in_any_order, windows_are_few,
+    windows_stand_for_their_spans,
+};
 pub use store::WindowStore;

@@ -1,12 +1,13 @@
 //! What is held of a segment by other steps.
-ghost use Rattle.std.specs.Prelude.{◌<◌, ◌≤◌, [], ◌∷◌};
+ghost use Rattle.std.specs.Prelude.{◌≡◌, ◌<◌, ◌≤◌, [], ◌∷◌, length, slice_get, option_map, Some};
 ghost use Rattle.taxi_base.specs.Windows.{hold_of, holds_of};
-ghost use Rattle.segment_windows.specs.Held.{IsFirstHeld};
+ghost use Rattle.window_store.specs.Held.{IsFirstHeld};
 ghost use Rattle.window_store.specs.Conflicting.{spans_in_conflict, ReachesUpTo};
 
+use crate::edits::{Term, span_of};
+use crate::held::HeldSeconds;
 use conflict_sets::Conflicts;
 use segment_graph::segment_of;
-use segment_windows::HeldSeconds;
 use taxi_base::{Routes, Segment, Step, Time};
 
 /// The spans for which routes and further steps hold segments in conflict with one.
@@ -16,6 +17,8 @@ pub(crate) struct StillHeld<'a, R: Routes> {
     pub(crate) segment: Segment,
     pub(crate) remaining: &'a R,
     pub(crate) later: &'a [Step],
+    // For how long the further steps hold; the horizon is that of the routes too.
+    pub(crate) term: Term,
     ghost exists: { segment.0 < conflicts.now.segments },
 }
 
@@ -25,24 +28,47 @@ impl<'a, R: Routes> HeldSeconds for StillHeld<'a, R> {
     ghost use Rattle.window_store.specs.Stands.{route_holds};
     ghost use Rattle.window_store.specs.Conflicting.{spans_in_conflict};
 
-    ghost spans = { λ h. spans_in_conflict h.conflicts.now.sets h.segment (route_holds (R.listed h.remaining.now) ++ holds_of h.later.now) };
+    ghost spans = { λ h. spans_in_conflict h.conflicts.now.sets h.segment (route_holds h.term.horizon (R.listed h.remaining.now) ++ holds_of h.term.horizon h.term.clearance h.later.now) };
 
     fn first_held(&self, from: Time, until: Time) -> Time {
         let mut first = until;
         for place in 0..self.remaining.routes() {
             let steps = self.remaining.steps(place);
-            first = first_in(self.conflicts, self.segment, steps, from, first);
+            let term = self.term_of(place);
+            first = first_in(self.conflicts, self.segment, steps, term, from, first);
         }
-        first_in(self.conflicts, self.segment, self.later, from, first)
+        first_in(
+            self.conflicts,
+            self.segment,
+            self.later,
+            self.term,
+            from,
+            first,
+        )
     }
 
     fn held_until(&self, from: Time) -> Time {
         let mut until = from;
         for place in 0..self.remaining.routes() {
             let steps = self.remaining.steps(place);
-            until = until.max(end_in(self.conflicts, self.segment, steps, from));
+            let term = self.term_of(place);
+            until = until.max(end_in(self.conflicts, self.segment, steps, term, from));
         }
-        until.max(end_in(self.conflicts, self.segment, self.later, from))
+        until.max(end_in(self.conflicts, self.segment, self.later, self.term, from))
+    }
+}
+
+impl<'a, R: Routes> StillHeld<'a, R> {
+    // For how long the steps of a remaining route hold.
+    fn term_of(&self, place: usize) -> Term
+        requires { place < length (R.listed self.now.remaining.now) }
+        ensures horizon { result.horizon ≡ self.now.term.horizon }
+        ensures clearance { option_map (λ r. r.clearance) (slice_get (R.listed self.now.remaining.now) place) ≡ Some result.clearance }
+    {
+        Term {
+            horizon: self.term.horizon,
+            clearance: self.remaining.clearance(place),
+        }
     }
 }
 
@@ -52,27 +78,36 @@ fn first_in(
     conflicts: &Conflicts,
     segment: Segment,
     steps: &[Step],
+    term: Term,
     from: Time,
     until: Time,
 ) -> Time
     requires exists { segment.0 < conflicts.now.segments }
     requires order { from ≤ until }
-    ensures { IsFirstHeld (spans_in_conflict conflicts.now.sets segment (holds_of steps.now)) from until result }
+    ensures { IsFirstHeld (spans_in_conflict conflicts.now.sets segment (holds_of term.horizon term.clearance steps.now)) from until result }
 {
     let mut first = until;
     for step in steps {
-        first = first_of(conflicts, segment, step, from, first);
+        first = first_of(conflicts, segment, step, term, from, first);
     }
     first
 }
 
-fn first_of(conflicts: &Conflicts, segment: Segment, step: &Step, from: Time, until: Time) -> Time
+fn first_of(
+    conflicts: &Conflicts,
+    segment: Segment,
+    step: &Step,
+    term: Term,
+    from: Time,
+    until: Time,
+) -> Time
     requires exists { segment.0 < conflicts.now.segments }
     requires order { from ≤ until }
-    ensures { IsFirstHeld (spans_in_conflict conflicts.now.sets segment (hold_of step.now ∷ [])) from until result }
+    ensures { IsFirstHeld (spans_in_conflict conflicts.now.sets segment (hold_of term.horizon term.clearance step.now ∷ [])) from until result }
 {
-    let begin = step.enter.max(from);
-    let meets = begin < until && begin < step.leave;
+    let held = span_of(step, term);
+    let begin = held.from.max(from);
+    let meets = begin < until && begin < held.until;
     if meets && conflicts.conflict(segment, segment_of(step.arc)) {
         begin
     } else {
@@ -81,24 +116,25 @@ fn first_of(conflicts: &Conflicts, segment: Segment, step: &Step, from: Time, un
 }
 
 // The last end of the steps that hold a segment in conflict at a second; the second where none does.
-fn end_in(conflicts: &Conflicts, segment: Segment, steps: &[Step], from: Time) -> Time
+fn end_in(conflicts: &Conflicts, segment: Segment, steps: &[Step], term: Term, from: Time) -> Time
     requires { segment.0 < conflicts.now.segments }
-    ensures { ReachesUpTo (spans_in_conflict conflicts.now.sets segment (holds_of steps.now)) from result }
+    ensures { ReachesUpTo (spans_in_conflict conflicts.now.sets segment (holds_of term.horizon term.clearance steps.now)) from result }
 {
     let mut until = from;
     for step in steps {
-        until = until.max(end_of(conflicts, segment, step, from));
+        until = until.max(end_of(conflicts, segment, step, term, from));
     }
     until
 }
 
-fn end_of(conflicts: &Conflicts, segment: Segment, step: &Step, from: Time) -> Time
+fn end_of(conflicts: &Conflicts, segment: Segment, step: &Step, term: Term, from: Time) -> Time
     requires { segment.0 < conflicts.now.segments }
-    ensures { ReachesUpTo (spans_in_conflict conflicts.now.sets segment (hold_of step.now ∷ [])) from result }
+    ensures { ReachesUpTo (spans_in_conflict conflicts.now.sets segment (hold_of term.horizon term.clearance step.now ∷ [])) from result }
 {
-    let has = step.enter <= from && from < step.leave;
+    let held = span_of(step, term);
+    let has = held.from <= from && from < held.until;
     if has && conflicts.conflict(segment, segment_of(step.arc)) {
-        step.leave
+        held.until
     } else {
         from
     }

@@ -4,13 +4,13 @@ ghost use Rattle.taxi_base.specs.declared.numbers.Segment.{Segment as SegmentNum
 ghost use Rattle.taxi_base.specs.Windows.{Hold, holds_of};
 ghost use Rattle.interval_list.specs.Intervals.{span, IsNormal};
 ghost use Rattle.window_store.specs.Store.{Store, IsStore, list_at, windows_at};
-ghost use Rattle.window_store.specs.Stands.{StandsFor, HasRoomFor, route_holds, AreOnSegments, TakeTime};
-ghost use Rattle.window_store.specs.Kept.{IsApartFrom, IsClearOf, KeepsWindows, KeepsNodes, GainsRoom, IsWindowAt};
+ghost use Rattle.window_store.specs.Stands.{StandsFor, HasRoomFor, route_holds, AreOnSegments, TakeTime, AreInTime};
+ghost use Rattle.window_store.specs.Kept.{IsApartFrom, IsClearOf, KeepsWindows, KeepsNodes, GainsRoom, DrawsWhatIsLacking, IsWindowAt};
 
-use crate::edits::{hold_steps, lower_for_steps, make_room, raise_for_steps, release_steps};
+use crate::edits::{Term, hold_steps, lower_for_steps, make_room, raise_for_steps, release_steps};
+use crate::segment_windows::SegmentWindows;
 use conflict_sets::Conflicts;
 use interval_list::{Ids, Window, Windows, WindowsBack};
-use segment_windows::SegmentWindows;
 use std::alloc::Global;
 use std::marker::Model;
 use taxi_base::{Memory, Routes, Segment, Step, Time};
@@ -20,16 +20,17 @@ use taxi_base::{Memory, Routes, Segment, Step, Time};
 pub struct WindowStore {
     lists: Vec<SegmentWindows>,
     ids: Ids,
+    horizon: Time,
 }
 
 impl Model for WindowStore {
-    ghost use Rattle.window_store.specs.Store.{Store, IsStore, HaveRoom};
+    ghost use Rattle.window_store.specs.Store.{Store, of_lists_and_ids, IsStore, HaveRoom, EndBy};
 
     ghost Value = { Store };
 
-    ghost view = { λ s. record { lists = s.lists.items; next = s.ids.next } };
+    ghost view = { λ s. record { lists = s.lists.items; next = s.ids.next; horizon = s.horizon } };
 
-    ghost invariant = { λ s. IsStore (record { lists = s.lists.items; next = s.ids.next }) × HaveRoom s.lists.items };
+    ghost invariant = { λ s. IsStore (of_lists_and_ids s.lists.items s.ids.next) × HaveRoom s.lists.items × EndBy s.horizon s.lists.items };
 }
 
 impl WindowStore {
@@ -38,6 +39,7 @@ impl WindowStore {
         requires segments { segments ≤ 10000 }
         requires horizon { 1 ≤ horizon }
         ensures segments { IfOk result (λ store. length store.lists ≡ segments) }
+        ensures horizon { IfOk result (λ store. store.horizon ≡ horizon) }
         ensures stands { (sets : List (List SegmentNumber)) → IfOk result (StandsFor sets horizon []) }
     {
         let mut ids = Ids { next: 0 };
@@ -45,7 +47,11 @@ impl WindowStore {
         for _ in 0..segments {
             lists.push(SegmentWindows::new(alloc, &mut ids, horizon)?)?;
         }
-        Ok(WindowStore { lists, ids })
+        Ok(WindowStore {
+            lists,
+            ids,
+            horizon,
+        })
     }
 
     /// A number above the ids of all windows and spare nodes.
@@ -57,11 +63,12 @@ impl WindowStore {
         self.ids.next
     }
 
-    /// A segment's windows from first to last.
+    /// A segment's windows from first to last. They lie apart, and each ends by the horizon.
     pub fn windows(&self, segment: Segment) -> Windows<'_>
         requires { segment.0 < length self.now.lists }
         ensures windows { result ≡ windows_at self.now segment }
         ensures normal { IsNormal (list_at self.now segment).intervals }
+        ensures in_time { All (λ w. w.until ≤ self.now.horizon) (windows_at self.now segment) }
     {
         self.lists[segment.0 as usize].intervals().windows()
     }
@@ -69,7 +76,9 @@ impl WindowStore {
     /// A segment's windows from last to first.
     pub fn windows_back(&self, segment: Segment) -> WindowsBack<'_>
         requires { segment.0 < length self.now.lists }
-        ensures { result ≡ reverse (windows_at self.now segment) }
+        ensures windows { result ≡ reverse (windows_at self.now segment) }
+        ensures normal { IsNormal (list_at self.now segment).intervals }
+        ensures in_time { All (λ w. w.until ≤ self.now.horizon) (windows_at self.now segment) }
     {
         self.lists[segment.0 as usize].intervals().windows_back()
     }
@@ -97,13 +106,14 @@ impl WindowStore {
         self.windows(segment).find(|w| from < w.until)
     }
 
-    /// Makes room for steps. All windows stay, also where memory runs out.
+    /// Makes room for steps, and no more than is lacking. All windows stay, also where memory runs out.
     pub fn reserve(&mut self, conflicts: &Conflicts, steps: &[Step]) -> Result<(), Memory>
         requires segments { length self.old.lists ≡ conflicts.now.segments }
         requires steps { AreOnSegments conflicts.now.segments steps.now }
         requires few { All (λ l. l.held + length steps.now < 2 ^ 33) self.old.lists }
         ensures room { OnOk result (HasRoomFor conflicts.now.sets steps.now self.new) }
         ensures gained { GainsRoom self.old self.new }
+        ensures lacking { DrawsWhatIsLacking conflicts.now.sets steps.now self.old self.new }
         ensures stands { (horizon : ℕ) (holds : List Hold) → StandsFor conflicts.now.sets horizon holds self.old → StandsFor conflicts.now.sets horizon holds self.new }
     {
         let lists = self.lists.as_mut_slice();
@@ -113,32 +123,49 @@ impl WindowStore {
         made
     }
 
-    /// Holds what the steps hold. It needs no memory. A window that has no second of theirs stays as it is.
-    pub fn occupy(&mut self, conflicts: &Conflicts, steps: &[Step])
+    /// Holds what the steps hold, each until the clearance after its leave is over. It needs no memory. A window that has no
+    /// second of what they hold stays as it is.
+    pub fn occupy(&mut self, conflicts: &Conflicts, steps: &[Step], clearance: Time)
         requires segments { length self.old.lists ≡ conflicts.now.segments }
         requires steps { AreOnSegments conflicts.now.segments steps.now }
         requires time { TakeTime steps.now }
-        requires stands { (horizon : ℕ) × (holds : List Hold) × StandsFor conflicts.now.sets horizon holds self.old }
+        requires in_time { AreInTime self.old.horizon steps.now }
+        requires stands { (holds : List Hold) × StandsFor conflicts.now.sets self.old.horizon holds self.old }
         requires room { HasRoomFor conflicts.now.sets steps.now self.old }
-        ensures stands { (horizon : ℕ) (holds : List Hold) → StandsFor conflicts.now.sets horizon holds self.old → StandsFor conflicts.now.sets horizon (holds ++ holds_of steps.now) self.new }
-        ensures kept { KeepsWindows IsApartFrom conflicts.now.sets (holds_of steps.now) self.old self.new }
+        ensures stands { (holds : List Hold) → StandsFor conflicts.now.sets self.old.horizon holds self.old → StandsFor conflicts.now.sets self.old.horizon (holds ++ holds_of self.old.horizon clearance steps.now) self.new }
+        ensures kept { KeepsWindows IsApartFrom conflicts.now.sets (holds_of self.old.horizon clearance steps.now) self.old self.new }
         ensures nodes { KeepsNodes self.old self.new }
     {
-        hold_steps(&mut self.lists, conflicts, steps);
+        let term = Term {
+            horizon: self.horizon,
+            clearance,
+        };
+        hold_steps(&mut self.lists, conflicts, steps, term);
     }
 
     /// No longer holds what the steps hold, while the remaining routes hold what they do. It needs no memory, and there
     /// is room for the steps afterwards. A window that neither meets nor touches what they hold stays as it is.
-    pub fn release<R: Routes>(&mut self, conflicts: &Conflicts, remaining: &R, steps: &[Step])
+    pub fn release<R: Routes>(
+        &mut self,
+        conflicts: &Conflicts,
+        remaining: &R,
+        steps: &[Step],
+        clearance: Time,
+    )
         requires segments { length self.old.lists ≡ conflicts.now.segments }
         requires steps { AreOnSegments conflicts.now.segments steps.now }
         requires time { TakeTime steps.now }
-        requires stands { (horizon : ℕ) × All (λ s. s.leave ≤ horizon) steps.now × StandsFor conflicts.now.sets horizon (route_holds (R.listed remaining.now) ++ holds_of steps.now) self.old }
-        ensures stands { (horizon : ℕ) → All (λ s. s.leave ≤ horizon) steps.now → StandsFor conflicts.now.sets horizon (route_holds (R.listed remaining.now) ++ holds_of steps.now) self.old → StandsFor conflicts.now.sets horizon (route_holds (R.listed remaining.now)) self.new }
+        requires in_time { AreInTime self.old.horizon steps.now }
+        requires stands { StandsFor conflicts.now.sets self.old.horizon (route_holds self.old.horizon (R.listed remaining.now) ++ holds_of self.old.horizon clearance steps.now) self.old }
+        ensures stands { StandsFor conflicts.now.sets self.old.horizon (route_holds self.old.horizon (R.listed remaining.now)) self.new }
         ensures room { HasRoomFor conflicts.now.sets steps.now self.new }
-        ensures kept { KeepsWindows IsClearOf conflicts.now.sets (holds_of steps.now) self.old self.new }
+        ensures kept { KeepsWindows IsClearOf conflicts.now.sets (holds_of self.old.horizon clearance steps.now) self.old self.new }
         ensures nodes { KeepsNodes self.old self.new }
     {
-        release_steps(&mut self.lists, conflicts, remaining, steps);
+        let term = Term {
+            horizon: self.horizon,
+            clearance,
+        };
+        release_steps(&mut self.lists, conflicts, remaining, steps, term);
     }
 }

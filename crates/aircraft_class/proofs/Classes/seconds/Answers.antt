@@ -1,10 +1,11 @@
 -- A place of a row, or none past the rows.
-use Rattle.std.proofs.Common.{◌≡◌, ◌≤◌, ◌<◌, ℕ, List, length, get_or, Option, None, Vec, Global, ◌∙◌, sym, ap}
+use Rattle.std.proofs.Common.{◌≡◌, ◌≤◌, ◌<◌, ℕ, List, length, get_or, Option, None, ◌∙◌, sym, ap}
+use Rattle.aircraft_class.specs.declared.Row.{Row}
 use Rattle.aircraft_class.proofs.Tables.{seconds_in-row, seconds_in-past, seconds_in-range}
 use Rattle.aircraft_class.proofs.Classes.seconds.Goals as goal
 
-abbrev items : Vec (Option ℕ) Global → List (Option ℕ)
-items row = row.items
+abbrev items : Row → List (Option ℕ)
+items row = row.times.items
 
 pub returns-in-Some-clause-set : goal.returns-in-Some-clause-set
 returns-in-Some-clause-set c =

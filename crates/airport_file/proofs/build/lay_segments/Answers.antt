@@ -2,7 +2,7 @@
 use Rattle.std.proofs.Common.{false, refl}
 use Rattle.airport_rules.specs.declared.rows.Taxiway.{Taxiway}
 use Rattle.std.proofs.Common.{get_or}
-use Rattle.airport_file.proofs.BuildLaws.{way-within, way-degree, links-more, few-ways}
+use Rattle.airport_file.proofs.BuildLaws.{way-within, way-degree, links-more}
 use Rattle.airport_file.proofs.build.lay_segments.Goals as goal
 
 abbrev none : Taxiway

@@ -1,5 +1,5 @@
 -- Each forbidden turn is between arcs that there are.
-use Rattle.std.proofs.Common.{◌≡◌, ◌∙◌, refl, sym, ap, subst, get_or}
+use Rattle.std.proofs.Common.{◌∙◌, refl, sym, ap, subst, get_or}
 use Rattle.std.specs.Prelude.{All, IsTrue}
 use Rattle.std.proofs.lemmas.List.{take_more}
 use Rattle.taxi_base.specs.declared.numbers.Arc.{Arc}

@@ -1,5 +1,5 @@
 -- The class of each time is one of the table's.
-use Rattle.std.proofs.Common.{◌≡◌, ◌<◌, sym, subst, length, take, get_or}
+use Rattle.std.proofs.Common.{sym, subst, length, take, get_or}
 use Rattle.std.specs.Prelude.{All}
 use Rattle.airport_rules.specs.declared.rows.TimeRow.{TimeRow}
 use Rattle.airport_rules.specs.Sound.{IsSoundTime}

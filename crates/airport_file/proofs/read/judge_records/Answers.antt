@@ -7,6 +7,6 @@ use Rattle.airport_file.proofs.read.judge_records.Goals as goal
 
 pub loop-k-preserved : goal.loop-k-preserved
 loop-k-preserved c = record {
-  sound = IsSound-judge c.loop-k.plan c.judge_record.new.plan (fields_of c.index-records-k.result) c.loop-k.invariant.sound c.in-Ok.ensures;
-  so_far = c.loop-k.invariant.so_far ∙ judged-more c.args.records.now c.loop-k.k c.index-records-k.result c.loop-k.plan c.judge_record.new.plan c.index-records-k.is c.loop-k-test.true c.in-Ok.ensures;
+  sound = IsSound-judge c.args.version c.loop-k.plan c.judge_record.new.plan (fields_of c.index-records-k.result) c.loop-k.invariant.sound c.in-Ok.ensures;
+  so_far = c.loop-k.invariant.so_far ∙ judged-more c.args.version c.args.records.now c.loop-k.k c.index-records-k.result c.loop-k.plan c.judge_record.new.plan c.index-records-k.is c.loop-k-test.true c.in-Ok.ensures;
 }

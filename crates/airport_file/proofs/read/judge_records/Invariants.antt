@@ -8,5 +8,5 @@ use Rattle.airport_file.proofs.read.judge_records.Given as goal
 abbrev pub invariant-loop-k : goal.invariant-loop-k
 invariant-loop-k l = record {
   sound : IsSound l.plan;
-  so_far : judged_after 1 empty_plan (map fields_of l.records) ≡ judged_after (l.k + 1) l.plan (map fields_of (drop l.k l.records));
+  so_far : judged_after l.version 1 empty_plan (map fields_of l.records) ≡ judged_after l.version (l.k + 1) l.plan (map fields_of (drop l.k l.records));
 }

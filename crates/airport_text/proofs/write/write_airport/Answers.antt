@@ -10,7 +10,8 @@ use Rattle.airport_text.proofs.write.write_airport.Goals as goal
 pub returns : goal.returns
 returns c =
     let from_turns = records-then _ _ _ _ _ c.in_ok-write_turns.ensures c.in_ok-write_conflicts.ensures in
-    let from_times = records-then _ _ _ _ _ c.in_ok-write_times.ensures from_turns in
+    let from_clearances = records-then _ _ _ _ _ c.in_ok-write_clearances.ensures from_turns in
+    let from_times = records-then _ _ _ _ _ c.in_ok-write_times.ensures from_clearances in
     let from_segments = records-then _ _ _ _ _ c.in_ok-write_segments.ensures from_times in
     let from_classes = records-then _ _ _ _ _ c.in_ok-write_classes.ensures from_segments in
     let from_nodes = records-then _ _ _ _ _ c.in_ok-write_nodes.ensures from_classes in

@@ -1,11 +1,16 @@
 use Rattle.std.proofs.Common.{arith}
-use Rattle.taxi_base.specs.Airport.{segment_of}
-use Rattle.taxi_base.specs.Windows.{hold_of}
+use Rattle.std.proofs.lemmas.List.{take_all}
 use Rattle.commitments.proofs.TakenFirst.{route-more}
 use Rattle.commitments.proofs.taken.first_second_of.Goals as goal
 
-pub loop-held-preserved : goal.loop-held-preserved
-loop-held-preserved c =
+pub loop-step-preserved : goal.loop-step-preserved
+loop-step-preserved c =
+    let found = rw (c.conflicts-conflicts.ensures, c.held-held.ensures, c.segment_of.ensures) at c.first_second-at.ensures in
     rw c.earlier-first.ensures
-    (route-more c.args.conflicts.now.sets (segment_of c.args.step.now.arc) (hold_of c.args.step.now).span c.args.route.now c.loop-held.held-index _ c.loop-held.first c.first_second.result
-    (omega arith) c.loop-held.invariant c.first_second.ensures)
+    (route-more c.args.airport.now.conflicts c.args.segment c.args.span c.horizon-horizon.result c.clearance-clearance.result c.as_slice-step-items.result.now c.loop-step.step-index _ c.loop-step.first c.first_second-at.result
+    (omega arith) c.loop-step.invariant found)
+
+pub returns : goal.returns
+returns c =
+    rw (c.horizon-horizon.ensures.horizon, c.clearance-clearance.ensures.clearance, c.as_slice-step-items.ensures)
+    at (rw (take_all c.loop-step.step-index c.as_slice-step-items.result.now c.loop-step-test.false) at c.loop-step.invariant)

@@ -1,5 +1,4 @@
 -- The rows are those of the copied sets.
-use Rattle.std.proofs.Common.{◌≡◌}
 use Rattle.conflict_sets.proofs.Conflicts.build.Goals as goal
 
 pub invariant_of-result : goal.invariant_of-result

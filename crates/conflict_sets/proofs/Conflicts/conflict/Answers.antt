@@ -1,6 +1,6 @@
 -- What is found is in conflict, and what is in conflict is found.
-use Rattle.std.proofs.Common.{◌≡◌, ◌∙◌}
-use Rattle.packed_rows.proofs.Search.{is_ok-search}
+use Rattle.std.proofs.Common.{◌∙◌}
+use Rattle.taxi_base.proofs.Search.{is_ok-search}
 use Rattle.taxi_base.specs.declared.numbers.Segment.{Segment}
 use Rattle.conflict_sets.proofs.Members.{same_segment, has_member-conflicts}
 use Rattle.conflict_sets.proofs.Conflicts.conflict.Goals as goal

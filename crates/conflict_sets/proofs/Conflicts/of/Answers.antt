@@ -1,10 +1,8 @@
 -- A row has all in conflict.
-use Rattle.std.proofs.Common.{◌≡◌, ◌<◌, [], length, get_or, ap, subst, sym, arith}
-use Rattle.std.specs.Prelude.{Contains}
+use Rattle.std.proofs.Common.{◌<◌, [], length, get_or, subst}
 use Rattle.std.proofs.lemmas.Option.{get_or_from_slice_get}
 use Rattle.std.proofs.lemmas.List.Elements.{Contains-get_or}
-use Rattle.packed_rows.specs.Lists.{AreAll}
-use Rattle.conflict_sets.specs.Conflicts.{ConflictSets, AreConflicts}
+use Rattle.conflict_sets.specs.Conflicts.{AreConflicts}
 use Rattle.conflict_sets.proofs.Members.{conflict-exists}
 use Rattle.conflict_sets.proofs.Conflicts.of.Goals as goal
 

@@ -1,12 +1,12 @@
 use Rattle.label_search.specs.Answer.{best_of}
-use Rattle.label_search.proofs.Mirroring.{table_in_mirror, best_in_mirror, none_in_mirror, route_in_mirror}
+use Rattle.label_search.proofs.Mirroring.{values_in_mirror, best_in_mirror, none_in_mirror, route_in_mirror}
 use Rattle.label_search.proofs.backward.latest_entries.Goals as goal
 
 pub returns-clause-table : goal.returns-clause-table
-returns-clause-table g c x v =
-    rw (c.mirror_labels.ensures.items, c.mirror_route.ensures.best)
-    (table_in_mirror (g.C.BackwardCells.backward c.args.cells.now) c.requires.sound c.in_ok-found.found.labels.items (best_of c.in_ok-found.found.route)
-    c.in_ok-found.ensures.best c.in_ok-found.ensures.table x v)
+returns-clause-table g c =
+    rw (c.mirror_values.ensures, c.mirror_route.ensures.best)
+    (values_in_mirror (g.C.BackwardCells.backward c.args.cells.now) c.requires.sound c.in_ok-found.found.values.items (best_of c.in_ok-found.found.route)
+    c.in_ok-found.ensures.best c.in_ok-found.ensures.table)
 
 pub returns-clause-best : goal.returns-clause-best
 returns-clause-best g c =

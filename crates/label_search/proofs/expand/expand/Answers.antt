@@ -9,8 +9,8 @@ use Rattle.label_search.proofs.expand.expand.Goals as goal
 
 pub expand_run-requires-clause-room : goal.expand_run-requires-clause-room
 expand_run-requires-clause-room g c = record {
-  known = c.loop-run.invariant.lengths.known ∙ c.requires.room.known;
-  keys = c.loop-run.invariant.lengths.keys ∙ c.requires.room.keys;
+  known = omega (arith, c.loop-run.invariant.lengths.known, c.requires.room.known);
+  keys = omega (arith, c.loop-run.invariant.lengths.keys, c.requires.room.keys);
 }
 
 pub loop-run-init : goal.loop-run-init

@@ -7,8 +7,8 @@ use Rattle.label_search.proofs.expand.expand_run.Goals as goal
 
 pub expand_to-requires-clause-room : goal.expand_to-requires-clause-room
 expand_to-requires-clause-room g c = record {
-  known = c.loop-next.invariant.lengths.known ∙ c.requires.room.known;
-  keys = c.loop-next.invariant.lengths.keys ∙ c.requires.room.keys;
+  known = omega (arith, c.loop-next.invariant.lengths.known, c.requires.room.known);
+  keys = omega (arith, c.loop-next.invariant.lengths.keys, c.requires.room.keys);
 }
 
 pub loop-next-init : goal.loop-next-init

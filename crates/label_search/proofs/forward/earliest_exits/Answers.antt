@@ -1,13 +1,12 @@
 use Rattle.label_search.specs.Labels.{standing}
-use Rattle.label_search.proofs.Ends.{end_table, end_best, end_none}
+use Rattle.label_search.proofs.Ends.{end_values, end_best, end_none}
 use Rattle.label_search.proofs.forward.earliest_exits.Goals as goal
 
 pub returns-clause-table : goal.returns-clause-table
-returns-clause-table g c x v =
+returns-clause-table g c =
     let p = g.C.ForwardCells.problem c.args.cells.now in
-    let cut = (rw c.end_of_goal.ensures at c.cut-labels.ensures.kept) x v in
-    let exact = end_table p c.requires.sound (standing c.settle-goal.new.labels) c.settle-goal.result c.settle-goal.ensures x v in
-    rw c.in_ok-route.ensures.same_end (λ has. exact.0 (cut.0 has), λ h. cut.1 (exact.1 h))
+    rw (c.in_ok-route.ensures.same_end, c.in_ok-values.ensures, c.end_of_goal.ensures)
+    (end_values p c.requires.sound (standing c.settle-goal.new.labels) c.settle-goal.result c.settle-goal.ensures)
 
 pub returns-clause-best : goal.returns-clause-best
 returns-clause-best g c =

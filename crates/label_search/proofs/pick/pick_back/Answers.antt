@@ -5,8 +5,15 @@ use Rattle.label_search.specs.declared.cells.Cell.{Cell}
 use Rattle.label_search.specs.declared.labels.Label.{Label}
 use Rattle.label_search.specs.Labels.{standing}
 use Rattle.label_search.specs.Answer.{ComesBefore}
+use Rattle.label_search.specs.Standing.{SettledValue}
+use Rattle.label_search.proofs.Steps.{traced_inside}
 use Rattle.label_search.proofs.Picking.{taken_more, taken_last, at_start_by, going_back_by, first_before}
 use Rattle.label_search.proofs.pick.pick_back.Goals as goal
+
+pub start_enter-requires-clause-inside : goal.start_enter-requires-clause-inside
+start_enter-requires-clause-inside g c =
+    let p = g.C.ForwardCells.problem c.args.cells.now in
+    traced_inside p c.requires.sound (SettledValue (standing c.args.labels.now) c.requires.ended.settled) c.back.cell c.back.label (c.requires.ended.traced c.back.cell c.back.label c.back.invariant.labelled)
 
 pub returns-in-Some : goal.returns-in-Some
 returns-in-Some g c =

@@ -1,18 +1,17 @@
 use Rattle.std.proofs.Common.{arith}
 use Rattle.label_search.specs.Labels.{standing}
-use Rattle.label_search.proofs.Begins.{begun_past, begun_more, begun_all}
+use Rattle.label_search.specs.Begun.{InRuns}
+use Rattle.label_search.proofs.Begins.{begun_none, begun_all}
 use Rattle.label_search.proofs.settle.begin.Goals as goal
-use Rattle.label_search.proofs.settle.begin.Goals.{in-Some, in_default}
 
-pub loop-cell-preserved : goal.loop-cell-preserved
-loop-cell-preserved g c =
+pub loop-run-init : goal.loop-run-init
+loop-run-init g c =
     let p = g.C.ForwardCells.problem c.args.cells.now in
-    elim c.match-start_entry.branch [
-      | in-Some w ↦ rw w.labels-is (begun_more p (standing c.loop-cell.labels) c.loop-cell.cell c.loop-cell.invariant (standing w.offer.new.self) _ w.in-Some.ensures.some w.offer.ensures)
-      | in_default w ↦ rw w.labels-is (begun_past p (standing c.loop-cell.labels) c.loop-cell.cell c.loop-cell.invariant w.in_default.ensures.none)
-    ]
+    begun_none p (InRuns p 0) (standing c.args.labels.now) (λ x is. omega (arith, is.1)) c.requires.room c.requires.unlabelled c.requires.unqueued
 
 pub returns : goal.returns
 returns g c =
     let p = g.C.ForwardCells.problem c.args.cells.now in
-    begun_all p c.requires.sound (standing c.loop-cell.labels) c.loop-cell.cell (omega (arith, c.count-cell-end.ensures, c.loop-cell-test.false)) c.loop-cell.invariant
+    begun_all p (InRuns p c.loop-run.run) (standing c.loop-run.labels)
+    (λ x t e. (let k = c.requires.sound.starts_in_runs x e.start e.here in (k.0, omega (arith, k.1, c.first_runs-run-end.ensures, c.loop-run-test.false), k.2)))
+    c.loop-run.invariant

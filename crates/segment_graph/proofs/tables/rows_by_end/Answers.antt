@@ -2,7 +2,7 @@
 use Rattle.std.proofs.Common.{◌≡◌, ◌+◌, ◌<◌, ◌∙◌, length, sym, arith, rules, length-set, Some, vec_len}
 use Rattle.std.proofs.lemmas.List.{length-map}
 use Rattle.taxi_base.specs.declared.numbers.Arc.{Arc}
-use Rattle.segment_graph.specs.Groups.{groups_of, end_in, AreGrouped, AreEndRows}
+use Rattle.segment_graph.specs.Groups.{groups_of, end_in, AreEndRows}
 use Rattle.segment_graph.proofs.Ends.{end_in-exists}
 use Rattle.segment_graph.proofs.Gathered.{IfOk_then, get_or-empty, groups_of-set, AreGrouped-none, AreGrouped-push, AreGrouped-skip, AreEndRows-from}
 use Rattle.segment_graph.proofs.tables.rows_by_end.Goals as goal

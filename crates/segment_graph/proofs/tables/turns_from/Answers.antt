@@ -1,9 +1,9 @@
 -- The turns from an arc are a part of the arcs that leave its head.
-use Rattle.std.proofs.Common.{◌≡◌, ◌∙◌, [], get_or, sym, subst, Some}
+use Rattle.std.proofs.Common.{◌≡◌, ◌∙◌, [], sym, subst, Some}
 use Rattle.std.proofs.lemmas.Option.{get_or_from_slice_get}
 use Rattle.segment_graph.specs.declared.links.Side.TheVariants.{Head}
 use Rattle.segment_graph.specs.Graphs.{AreArcs}
-use Rattle.segment_graph.specs.Groups.{groups_of, head_in, tail_in, AreTurnsFrom}
+use Rattle.segment_graph.specs.Groups.{groups_of, head_in, tail_in}
 use Rattle.segment_graph.proofs.Ends.{end_in-exists}
 use Rattle.segment_graph.proofs.Gathered.{IfOk_then}
 use Rattle.segment_graph.proofs.Turns.{AreTurnsFrom-filter}

@@ -1,7 +1,8 @@
 use Rattle.std.proofs.Common.{Err, ap, subst, sym}
 use Rattle.std.proofs.lemmas.Result.{err_from_is_err_and}
 use Rattle.taxi_io.specs.Files.{IsLonger}
-use Rattle.taxi_cli.specs.Outcomes.{FileNames, commands_limit}
+use Rattle.taxi_cli.specs.Asked.{FileNames, Route}
+use Rattle.taxi_cli.specs.Outcomes.{commands_limit}
 use Rattle.taxi_cli.specs.Stops.{IsCause}
 use Rattle.taxi_cli.proofs.InputLaws.{commands_cause}
 use Rattle.taxi_cli.proofs.inputs.read_inputs.Goals as goal
@@ -18,4 +19,4 @@ returns-in_err-bytes-clause-stop g c =
     (λ e. subst (λ files. IsLonger files c.args.commands.now commands_limit) c.read_airport_file.ensures.files (c.in_err-bytes.ensures.too_large (ap Err e)))
     (λ e. c.in_err-bytes.ensures.fault (ap Err e))
     c.read_airport_file.ensures.later in
-    rw stopped.1 (subst (IsCause told names (before, after)) (sym stopped.2) cause)
+    rw stopped.1 (subst (IsCause told (Route names) (before, after)) (sym stopped.2) cause)

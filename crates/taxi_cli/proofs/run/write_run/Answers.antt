@@ -12,7 +12,7 @@ loop-line-init g c =
       can = tt;
       finite = tt;
       airport = refl;
-      so_far = rw left (nothing-so-far c.args.engine.now.airport (lines_of c.args.commands.now) c.args.engine.now.flights _ c.requires.fresh);
+      so_far = rw left (nothing-so-far c.args.engine.now.airport (lines_of c.args.commands.now) c.args.engine.now.state _ c.requires.fresh);
       later = omega arith;
     }
 

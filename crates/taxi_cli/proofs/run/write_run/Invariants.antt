@@ -11,6 +11,6 @@ invariant-loop-line g l =
       can : (goal.iterator-loop-line g).can_next l.line-iterator;
       finite : (goal.iterator-loop-line g).is_finite l.line-iterator;
       airport : l.engine.airport ≡ l.fn.engine.airport;
-      so_far : IsSoFar l.fn.engine.airport (lines_of l.fn.commands) (lines_left l.line-iterator) l.engine.flights (k.written l.fn.out) (k.written l.out) l.count;
+      so_far : IsSoFar l.fn.engine.airport (lines_of l.fn.commands) (lines_left l.line-iterator) l.engine.state (k.written l.fn.out) (k.written l.out) l.count;
       later : k.faults l.fn.out ≤ k.faults l.out;
     }

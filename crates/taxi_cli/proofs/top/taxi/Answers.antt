@@ -1,12 +1,11 @@
-use Rattle.std.proofs.Common.{refl, sym, None}
+use Rattle.std.proofs.Common.{refl, sym, ap, map, string_bytes, None}
 use Rattle.taxi_cli.specs.declared.status.Status.TheVariants.{Usage}
 use Rattle.taxi_cli.specs.Lines.{usage_line}
 use Rattle.taxi_cli.specs.Endings.{Call}
-use Rattle.taxi_cli.proofs.EndingLaws.{last-ends}
+use Rattle.taxi_cli.specs.Asked.{Route, Migrate}
+use Rattle.taxi_cli.specs.LentWords.{asked_for}
+use Rattle.taxi_cli.proofs.EndingLaws.{last-ends, asked-ends}
 use Rattle.taxi_cli.proofs.top.taxi.Goals as goal
-
-pub returns-in-Some-clause-ends : goal.returns-in-Some-clause-ends
-returns-in-Some-clause-ends g c = rw (sym c.in-Some.ensures) c.route.ensures.ends
 
 pub returns-in-None-clause-ends : goal.returns-in-None-clause-ends
 returns-in-None-clause-ends g c =
@@ -18,3 +17,13 @@ returns-in-None-clause-ends g c =
     } in
     rw (sym c.in-None.ensures)
     (last-ends call None Usage usage_line c.usage_line.result.now c.write_last.result refl c.usage_line.ensures c.write_last.ensures.ends (λ whole. whole))
+
+pub returns-in-Some-Route-clause-ends : goal.returns-in-Some-Route-clause-ends
+returns-in-Some-Route-clause-ends g c =
+    asked-ends _ (map string_bytes c.args.words.now) c.in-Some-Route.field-0 (Route (record { airport = c.in-Some-Route.airport.now; commands = c.in-Some-Route.commands.now })) c.route.result
+    c.in-Some-Route.ensures (ap asked_for c.in-Some-Route.field-0-is) c.route.ensures.ends
+
+pub returns-in-Some-Migrate-clause-ends : goal.returns-in-Some-Migrate-clause-ends
+returns-in-Some-Migrate-clause-ends g c =
+    asked-ends _ (map string_bytes c.args.words.now) c.in-Some-Migrate.field-0 (Migrate c.in-Some-Migrate.airport.now) c.migrate.result
+    c.in-Some-Migrate.ensures (ap asked_for c.in-Some-Migrate.field-0-is) c.migrate.ensures.ends

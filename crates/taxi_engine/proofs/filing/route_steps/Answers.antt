@@ -1,6 +1,6 @@
 use Rattle.std.proofs.Common.{◌∙◌, ◌+◌, ◌∷◌, ◌++◌, [], drop, sym, ap, inr, refl}
 use Rattle.std.proofs.lemmas.List.{at_drop_more, drop_all}
-use Rattle.certificate.specs.Replies.{filed_steps}
+use Rattle.certificate.specs.Asked.{filed_steps}
 use Rattle.taxi_engine.proofs.StepsMade.{steps_and, steps_and-more, steps_and-none, map-none, map-nil}
 use Rattle.taxi_engine.proofs.FiledDue.{done_ok}
 use Rattle.taxi_engine.proofs.filing.route_steps.Goals as goal

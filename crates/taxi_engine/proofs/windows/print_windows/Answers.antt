@@ -9,5 +9,5 @@ use Rattle.taxi_engine.proofs.windows.print_windows.Goals as goal
 pub returns : goal.returns
 returns c =
     let segment = c.args.segment in
-    let told = c.in_ok-windows.ensures ∙ ap (λ store. spans_at store segment) c.store.ensures ∙ windows-told c.args.airport.now c.args.ledger.now segment c.requires.fits c.requires.exists in
+    let told = c.in_ok-windows.ensures ∙ ap (λ store. spans_at store segment) c.store.ensures ∙ windows-told c.args.airport.now c.args.ledger.now segment c.requires.fits c.requires.unlifted c.requires.exists in
     subst (λ windows. OnOk c.print.result (c.print.new.self ≡ block_text c.args.airport.now (Windows segment windows))) told c.print.ensures

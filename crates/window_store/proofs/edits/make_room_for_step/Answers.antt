@@ -3,7 +3,7 @@ use Rattle.std.proofs.lemmas.List.Elements.{All-nil, All-get_or}
 use Rattle.std.proofs.lemmas.List.{get_or-set_same}
 use Rattle.taxi_base.specs.Airport.{segment_of}
 use Rattle.taxi_base.specs.declared.numbers.Segment.{Segment}
-use Rattle.window_store.specs.Store.{Store, no_list}
+use Rattle.window_store.specs.Store.{Store, of_lists_and_ids, no_list}
 use Rattle.window_store.specs.Edits.{list_in, HasRoom, GainsNodes}
 use Rattle.window_store.proofs.Rooms.{IsRoomier, GainsNodes-none, GainsNodes-one, GainsNodes-both, few-still, next-below, rooms-more, rooms-all}
 use Rattle.window_store.proofs.Pieces.{All-ids_at}
@@ -26,15 +26,15 @@ pub make_room-requires-clause-fits : goal.make_room-requires-clause-fits
 make_room-requires-clause-fits c =
     let s : Segment = get_or c.segments_of-segment-items.result.now c.loop-segment.segment-index none in
     let exists : s.0 < length c.loop-segment.lists = omega (arith, c.loop-segment.auto.lists, c.requires.segments, All-get_or (λ (t : Segment). t.0 < c.args.conflicts.now.segments) c.segments_of-segment-items.result.now c.loop-segment.segment-index none c.loop-segment-test.true c.segments_of-segment-items.ensures.exist) in
-    let was : Store = record { lists = c.args.lists.now; next = c.args.ids.now.next } in
-    let now : Store = record { lists = c.loop-segment.lists; next = c.loop-segment.ids.next } in
+    let was : Store = of_lists_and_ids c.args.lists.now c.args.ids.now.next in
+    let now : Store = of_lists_and_ids c.loop-segment.lists c.loop-segment.ids.next in
     let few = few-still was now c.loop-segment.invariant.1 c.requires.few s.0 c.index-lists-segment.result exists in
     omega (arith, few, c.held.ensures, next-below now c.loop-segment.invariant.1.store)
 
 pub returns-in_err-make_room-clause-gained : goal.returns-in_err-make_room-clause-gained
 returns-in_err-make_room-clause-gained c =
-    let was : Store = record { lists = c.args.lists.now; next = c.args.ids.now.next } in
-    let now : Store = record { lists = c.loop-segment.lists; next = c.loop-segment.ids.next } in
+    let was : Store = of_lists_and_ids c.args.lists.now c.args.ids.now.next in
+    let now : Store = of_lists_and_ids c.loop-segment.lists c.loop-segment.ids.next in
     let s : Segment = get_or c.segments_of-segment-items.result.now c.loop-segment.segment-index none in
     let exists : s.0 < length now.lists = omega (arith, c.loop-segment.auto.lists, c.requires.segments, All-get_or (λ (t : Segment). t.0 < c.args.conflicts.now.segments) c.segments_of-segment-items.result.now c.loop-segment.segment-index none c.loop-segment-test.true c.segments_of-segment-items.ensures.exist) in
     let few = few-still was now c.loop-segment.invariant.1 c.requires.few s.0 c.index-lists-segment.result exists in
@@ -46,15 +46,15 @@ returns-in_err-make_room-clause-gained c =
       below = c.in_err-make_room.ensures.below;
       most = c.in_err-make_room.ensures.err;
     } in
-    let gained : GainsNodes now (record { lists = set now.lists s.0 c.make_room.new.self; next = c.make_room.new.ids.next }) =
-    GainsNodes-one now.lists s.0 c.make_room.new.self (c.held.result + 1) now.next c.make_room.new.ids.next c.index-lists-segment.result exists (omega (arith, few, c.held.ensures))
+    let gained : GainsNodes now (of_lists_and_ids (set now.lists s.0 c.make_room.new.self) c.make_room.new.ids.next) =
+    GainsNodes-one now.lists s.0 c.make_room.new.self (c.held.result + 1) now.next c.make_room.new.ids.next c.index-lists-segment.result exists (omega (arith, few, c.held.ensures)) (omega (arith, c.held.ensures))
     c.loop-segment.invariant.1.store roomier in
     GainsNodes-both was now _ c.loop-segment.invariant.1 gained
 
 pub loop-segment-preserved : goal.loop-segment-preserved
 loop-segment-preserved c =
-    let was : Store = record { lists = c.args.lists.now; next = c.args.ids.now.next } in
-    let now : Store = record { lists = c.loop-segment.lists; next = c.loop-segment.ids.next } in
+    let was : Store = of_lists_and_ids c.args.lists.now c.args.ids.now.next in
+    let now : Store = of_lists_and_ids c.loop-segment.lists c.loop-segment.ids.next in
     let s : Segment = get_or c.segments_of-segment-items.result.now c.loop-segment.segment-index none in
     let exists : s.0 < length now.lists = omega (arith, c.loop-segment.auto.lists, c.requires.segments, All-get_or (λ (t : Segment). t.0 < c.args.conflicts.now.segments) c.segments_of-segment-items.result.now c.loop-segment.segment-index none c.loop-segment-test.true c.segments_of-segment-items.ensures.exist) in
     let few = few-still was now c.loop-segment.invariant.1 c.requires.few s.0 c.index-lists-segment.result exists in
@@ -66,10 +66,10 @@ loop-segment-preserved c =
       below = c.in_ok-make_room.ensures.below;
       most = omega (arith, c.in_ok-make_room.ensures.ok);
     } in
-    let gained : GainsNodes now (record { lists = set now.lists s.0 c.make_room.new.self; next = c.make_room.new.ids.next }) =
-    GainsNodes-one now.lists s.0 c.make_room.new.self (c.held.result + 1) now.next c.make_room.new.ids.next c.index-lists-segment.result exists (omega (arith, few, c.held.ensures))
+    let gained : GainsNodes now (of_lists_and_ids (set now.lists s.0 c.make_room.new.self) c.make_room.new.ids.next) =
+    GainsNodes-one now.lists s.0 c.make_room.new.self (c.held.result + 1) now.next c.make_room.new.ids.next c.index-lists-segment.result exists (omega (arith, few, c.held.ensures)) (omega (arith, c.held.ensures))
     c.loop-segment.invariant.1.store roomier in
-    let new : Store = record { lists = set now.lists s.0 c.make_room.new.self; next = c.make_room.new.ids.next } in
+    let new : Store = of_lists_and_ids (set now.lists s.0 c.make_room.new.self) c.make_room.new.ids.next in
     let room : HasRoom s c.make_room.new.self = omega (arith, c.in_ok-make_room.ensures.ok, c.in_ok-make_room.ensures.held, c.held.ensures) in (
       rooms-more now new c.segments_of-segment-items.result.now c.loop-segment.segment-index none gained
           (λ k d low. omega (arith, c.loop-segment.auto.lists, c.requires.segments, c.segments_of-segment-items.ensures.exist k d low)) c.loop-segment-test.true c.loop-segment.invariant.0

@@ -1,7 +1,7 @@
 use Rattle.std.proofs.Common.{◌+◌, get_or, ap, ◌∙◌, arith}
 use Rattle.taxi_base.specs.declared.numbers.Segment.{Segment}
 use Rattle.taxi_base.specs.Airport.{segment_of}
-use Rattle.segment_windows.specs.Standing.{Listed}
+use Rattle.window_store.specs.Spans.{Listed}
 use Rattle.window_store.specs.Edits.{IsRaised}
 use Rattle.window_store.proofs.Changes.{next, changes-none, changes-more, changes-all}
 use Rattle.window_store.proofs.edits.raise_for_step.Goals as goal

@@ -7,4 +7,4 @@ use Rattle.window_store.specs.Edits.{ChangesEach, IsReleased}
 use Rattle.window_store.proofs.edits.release_step.Given as goal
 
 abbrev pub invariant-loop-segment : goal.invariant-loop-segment
-invariant-loop-segment g l = ChangesEach (Contains (take l.segment-index l.segment-items)) (IsReleased (hold_of l.step).span (λ s. spans_in_conflict l.conflicts.sets s (route_holds (g.R.Routes.listed l.remaining) ++ holds_of l.later))) l.initial.lists l.lists
+invariant-loop-segment g l = ChangesEach (Contains (take l.segment-index l.segment-items)) (IsReleased (hold_of l.term.horizon l.term.clearance l.step).span (λ s. spans_in_conflict l.conflicts.sets s (route_holds l.term.horizon (g.R.Routes.listed l.remaining) ++ holds_of l.term.horizon l.term.clearance l.later))) l.initial.lists l.lists

@@ -1,5 +1,5 @@
 use Rattle.std.proofs.Common.{◌+◌, ◌≤◌, length, subst}
-use Rattle.segment_windows.proofs.Standing.{windows-few}
+use Rattle.window_store.proofs.Spans.{windows-few}
 use Rattle.window_store.specs.Conflicting.{spans_in_conflict}
 use Rattle.window_store.proofs.Standing.{windows-in_conflict, length-in_conflict}
 use Rattle.window_store.proofs.laws.lists_are_short.Goals as goal

@@ -8,7 +8,7 @@ loop-step-init c = reaches-none c.args.from
 
 pub loop-step-preserved : goal.loop-step-preserved
 loop-step-preserved c =
-    reaches-more c.args.conflicts.now.sets c.args.segment c.args.steps.now c.loop-step.step-index _ c.args.from c.loop-step.until _ _ c.loop-step-test.true
+    reaches-more c.args.conflicts.now.sets c.args.segment c.args.term.horizon c.args.term.clearance c.args.steps.now c.loop-step.step-index _ c.args.from c.loop-step.until _ _ c.loop-step-test.true
     c.loop-step.invariant c.end_of.ensures c.max-until.ensures
 
 pub returns : goal.returns

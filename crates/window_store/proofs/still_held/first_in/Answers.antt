@@ -11,7 +11,7 @@ first_of-first-requires-clause-order c = c.loop-step.invariant.not_before
 
 pub loop-step-preserved : goal.loop-step-preserved
 loop-step-preserved c =
-    first-more c.args.conflicts.now.sets c.args.segment c.args.steps.now c.loop-step.step-index _ c.args.from c.args.until c.loop-step.first _ c.loop-step-test.true
+    first-more c.args.conflicts.now.sets c.args.segment c.args.term.horizon c.args.term.clearance c.args.steps.now c.loop-step.step-index _ c.args.from c.args.until c.loop-step.first _ c.loop-step-test.true
     c.loop-step.invariant c.first_of-first.ensures
 
 pub returns : goal.returns

@@ -1,5 +1,5 @@
 -- The plan has the arcs.
-use Rattle.std.proofs.Common.{◌≡◌, ◌∙◌, ◌+◌, ◌*◌, ◌<◌, length, sym, ap, refl, arith, rules, Some, None}
+use Rattle.std.proofs.Common.{◌≡◌, ◌∙◌, ◌<◌, length, sym, refl, arith, Some, None}
 use Rattle.std.specs.Prelude.{if◌then◌else◌}
 use Rattle.taxi_base.specs.Airport.{place_of}
 use Rattle.airport_rules.proofs.AirportViews.{arc_named-found, arc_named-none, place-within}

@@ -1,5 +1,5 @@
 -- The plan has the names.
-use Rattle.std.proofs.Common.{◌≡◌, rules, ◌∙◌, sym, ap, refl}
+use Rattle.std.proofs.Common.{◌≡◌, rules}
 use Rattle.std.specs.Prelude.{option_map}
 use Rattle.taxi_base.specs.Airport.{class_named}
 use Rattle.airport_rules.proofs.AirportViews.{class_names}

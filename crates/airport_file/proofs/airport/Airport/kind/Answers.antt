@@ -1,5 +1,5 @@
 -- The plan has the kinds of the nodes.
-use Rattle.std.proofs.Common.{◌≡◌, ◌<◌, ◌∙◌, sym, ap, map, length, arith, refl, Some}
+use Rattle.std.proofs.Common.{◌<◌, ◌∙◌, sym, ap, length, arith}
 use Rattle.std.specs.Prelude.{slice_get}
 use Rattle.std.proofs.lemmas.Option.{slice_get-map, slice_get-get_or}
 use Rattle.taxi_base.specs.declared.rows.Kind.TheVariants.{Runway}

@@ -1,5 +1,5 @@
 -- One more segment, whose ends are counted.
-use Rattle.std.proofs.Common.{◌≡◌, ◌<◌, arith, rules, map, length, length-set, slice_set, ◌+◌}
+use Rattle.std.proofs.Common.{◌<◌, arith, rules, map, length, length-set, slice_set, ◌+◌}
 use Rattle.std.proofs.lemmas.List.{map-append, get_or_read}
 use Rattle.airport_rules.specs.Indexed.{link_of_way}
 use Rattle.airport_rules.proofs.CountLaws.{AreCounted-link}

@@ -1,10 +1,9 @@
 -- An arc's number says its segment and its direction.
-use Rattle.std.proofs.Common.{◌≡◌, ◌∙◌, ◌/◌, arith, map, refl, Some, None, ap}
+use Rattle.std.proofs.Common.{◌≡◌, ◌/◌, arith, refl, Some, None}
 use Rattle.std.specs.Prelude.{slice_get}
 use Rattle.std.proofs.lemmas.Grind.{common_steps}
 use Rattle.std.proofs.lemmas.Option.{gets}
 use Rattle.airport_rules.specs.Plan.{layout_of_plan}
-use Rattle.airport_rules.specs.Indexed.{link_of_way}
 use Rattle.airport_rules.proofs.ArcLaws.{ends-none, ends-forward, ends-backward}
 use Rattle.airport_rules.proofs.plan.Plan.ends.Goals as goal
 

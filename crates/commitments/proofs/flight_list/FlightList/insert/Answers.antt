@@ -1,6 +1,6 @@
 use Rattle.std.proofs.Common.{◌≡◌, ◌∙◌, ap, true, rules}
 use Rattle.std.specs.Result.{is_ok}
-use Rattle.taxi_base.specs.State.{with_flight, flight_named}
+use Rattle.taxi_base.specs.State.{flights_with, flight_named}
 use Rattle.commitments.specs.Book.{Listing}
 use Rattle.commitments.proofs.Edits.{in_order, is-gap, committed}
 use Rattle.commitments.proofs.flight_list.FlightList.insert.Goals as goal
@@ -30,4 +30,4 @@ returns-clause-flights c =
     let gap = rw (c.deref.ensures.value, c.unwrap_err-place.ensures) at c.place_of.ensures in
     rw items (committed c.self.inside.flights c.self.inside.names.items c.self.invariant c.insert_reserved-key.new.self c.insert_reserved-key.result c.args.flight
     c.unwrap_err-place.result k.updates k.was_vacant c.requires.routed gap).flights
-    ∙ ap (λ (b : Listing). with_flight c.args.flight b.flights) c.self.view_is
+    ∙ ap (λ (b : Listing). flights_with c.args.flight b.flights) c.self.view_is

@@ -1,7 +1,6 @@
 -- The tables are those of the layout.
-use Rattle.std.proofs.Common.{◌≡◌, ◌+◌, ◌<◌, length, get_or, arith, rules, vec_len}
+use Rattle.std.proofs.Common.{◌≡◌, ◌<◌, length, get_or, arith, rules, vec_len}
 use Rattle.taxi_base.specs.Airport.{Layout}
-use Rattle.segment_graph.specs.Graphs.{AreTables}
 use Rattle.segment_graph.proofs.Ends.{arc_exists-low}
 use Rattle.segment_graph.proofs.Turns.{AreNodeRows-leaving, AreNodeRows-entering, AreArcRows-next, AreArcRows-previous}
 use Rattle.segment_graph.proofs.graph.Graph.build.Goals as goal

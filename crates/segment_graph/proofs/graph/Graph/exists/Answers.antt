@@ -1,5 +1,5 @@
 -- An arc exists where it has a tail.
-use Rattle.std.proofs.Common.{◌≡◌, ◌∙◌, sym, ap}
+use Rattle.std.proofs.Common.{◌≡◌, ◌∙◌, ap}
 use Rattle.std.specs.Prelude.{is_some}
 use Rattle.taxi_base.specs.Airport.{Layout}
 use Rattle.segment_graph.specs.Groups.{tail_in}

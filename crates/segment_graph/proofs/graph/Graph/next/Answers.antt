@@ -1,7 +1,6 @@
 -- An arc's row.
-use Rattle.std.proofs.Common.{◌<◌, ◌+◌, [], length, IsTrue}
+use Rattle.std.proofs.Common.{[]}
 use Rattle.std.proofs.lemmas.Option.{get_or_from_slice_get}
-use Rattle.taxi_base.specs.Airport.{Layout, arc_exists}
 use Rattle.segment_graph.proofs.Ends.{arc_exists-low}
 use Rattle.segment_graph.proofs.graph.Graph.next.Goals as goal
 

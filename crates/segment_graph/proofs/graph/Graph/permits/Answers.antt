@@ -1,6 +1,6 @@
 -- A turn is permitted where the arc is among the next ones.
-use Rattle.std.proofs.Common.{◌≡◌, ◌∙◌, sym}
-use Rattle.packed_rows.proofs.Search.{is_ok-search}
+use Rattle.std.proofs.Common.{◌∙◌, sym}
+use Rattle.taxi_base.proofs.Search.{is_ok-search}
 use Rattle.taxi_base.specs.declared.numbers.Arc.{Arc}
 use Rattle.taxi_base.specs.Airport.{permits}
 use Rattle.segment_graph.proofs.Ends.{same_arc}

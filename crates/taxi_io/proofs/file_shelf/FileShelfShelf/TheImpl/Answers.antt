@@ -7,6 +7,7 @@ begin-tells g c =
     record {
       begun = c.ensures.begun;
       whole = on_ok c.result refl;
+      tried = refl;
       failed = failed-Rose c.result _ _ c.ensures.faults;
       later = c.ensures.later;
       files = refl;
@@ -21,6 +22,7 @@ read-tells g c =
       end = if_ok c.result (λ n. tt);
       kept = on_err c.result refl;
       begun = c.ensures.begun;
+      tried = refl;
       failed = failed-Rose c.result _ _ c.ensures.faults;
       later = c.ensures.later;
       files = refl;

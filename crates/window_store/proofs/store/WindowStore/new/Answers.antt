@@ -1,5 +1,6 @@
-use Rattle.std.proofs.Common.{arith}
+use Rattle.std.proofs.Common.{[], arith}
 use Rattle.window_store.proofs.Fresh.{AreFresh-none, AreFresh-push, fresh-store, fresh-room, fresh-stands}
+use Rattle.window_store.proofs.Wholes.{ends-standing}
 use Rattle.window_store.proofs.store.WindowStore.new.Goals as goal
 
 pub loop-init : goal.loop-init
@@ -18,6 +19,7 @@ pub invariant_of-result : goal.invariant_of-result
 invariant_of-result c = (
   fresh-store c.args.horizon c.loop.counter c.loop.lists.items c.loop.ids.next c.loop.invariant (omega (arith, c.loop.auto.counter-end, c.requires.segments)),
   fresh-room c.args.horizon c.loop.counter c.loop.lists.items c.loop.ids.next c.loop.invariant,
+  ends-standing [] c.args.horizon [] c.loop.lists.items (fresh-stands [] c.args.horizon c.loop.counter c.loop.lists.items c.loop.ids.next c.loop.invariant),
 )
 
 pub returns-clause-segments : goal.returns-clause-segments

@@ -1,13 +1,12 @@
 use Rattle.std.proofs.Common.{◌<◌, ◌+◌, ◌^◌, List, length, sym, subst, Result, Ok, Err}
 use Rattle.std.specs.Prelude.{All, OnOk}
-use Rattle.std.specs.Vec.{with_items}
 use Rattle.taxi_base.specs.declared.collections.Memory.{Memory}
-use Rattle.segment_windows.specs.Standing.{Listed}
-use Rattle.window_store.specs.Store.{Store, IsStore, HaveRoom}
+use Rattle.window_store.specs.Spans.{Listed}
+use Rattle.window_store.specs.Store.{Store, of_lists_and_ids, IsStore, HaveRoom, EndBy}
 use Rattle.window_store.specs.Stands.{StandsFor, HasRoomFor}
-use Rattle.window_store.specs.Kept.{GainsRoom}
+use Rattle.window_store.specs.Kept.{GainsRoom, DrawsWhatIsLacking}
 use Rattle.window_store.specs.Edits.{of_lists, AreRaised}
-use Rattle.window_store.proofs.Wholes.{written, raised-few, raised-store, lowerable, reserved-store, reserved-gained, reserved-room, reserved-for, reserved-stands}
+use Rattle.window_store.proofs.Wholes.{written, raised-few, raised-store, lowerable, reserved-store, reserved-gained, reserved-lacking, reserved-ends, reserved-room, reserved-for, reserved-stands, GainsRoom-whole, DrawsWhatIsLacking-whole}
 use Rattle.window_store.proofs.store.WindowStore.reserve.Goals as goal
 
 pub make_room-made-requires-clause-few : goal.make_room-made-requires-clause-few
@@ -43,9 +42,10 @@ invariant_of-self c =
     let more = c.make_room-made.new.ids.next in
     let gained = c.make_room-made.ensures.gained in
     let back = sym (written c.self.inside.lists new (reserved-gained c.args.conflicts.now.sets c.args.steps.now old up roomy new next more raised gained c.lower_for_steps.ensures).lists) in
-    subst (λ (lists : List Listed). IsStore (record { lists = lists; next = more }) × HaveRoom lists) back (
+    subst (λ (lists : List Listed). IsStore (of_lists_and_ids lists more) × HaveRoom lists × EndBy c.self.inside.horizon lists) back (
       reserved-store c.args.conflicts.now.sets c.args.steps.now old up roomy new next more raised gained c.lower_for_steps.ensures,
       reserved-room c.args.conflicts.now.sets c.args.steps.now old up roomy new next more raised gained c.lower_for_steps.ensures c.self.invariant.1,
+      reserved-ends c.args.conflicts.now.sets c.args.steps.now old up roomy new next more raised gained c.lower_for_steps.ensures c.self.inside.horizon c.self.invariant.2,
     )
 
 pub returns-clause-room : goal.returns-clause-room
@@ -77,10 +77,26 @@ returns-clause-gained c =
     let more = c.make_room-made.new.ids.next in
     let gained = c.make_room-made.ensures.gained in
     let back = sym (written c.self.inside.lists new (reserved-gained c.args.conflicts.now.sets c.args.steps.now old up roomy new next more raised gained c.lower_for_steps.ensures).lists) in
-    let after : Store = record { lists = (with_items c.self.inside.lists new).items; next = more } in
-    subst (λ (store : Store). GainsRoom store after) c.self.view_is
-    (subst (λ (lists : List Listed). GainsRoom (record { lists = old; next = next }) (record { lists = lists; next = more })) back
-    (reserved-gained c.args.conflicts.now.sets c.args.steps.now old up roomy new next more raised gained c.lower_for_steps.ensures))
+    rw (← c.self.view_is)
+    (subst (λ (lists : List Listed). GainsRoom (record { lists = old; next = next; horizon = c.self.inside.horizon }) (record { lists = lists; next = more; horizon = c.self.inside.horizon })) back
+    (GainsRoom-whole old new next more c.self.inside.horizon
+    (reserved-gained c.args.conflicts.now.sets c.args.steps.now old up roomy new next more raised gained c.lower_for_steps.ensures)))
+
+pub returns-clause-lacking : goal.returns-clause-lacking
+returns-clause-lacking c =
+    let old : List Listed = c.self.inside.lists.items in
+    let up : List Listed = c.raise_for_steps.new.lists in
+    let raised : AreRaised c.args.conflicts.now.sets c.args.steps.now old up = rw c.as_mut_slice-lists.ensures.value at c.raise_for_steps.ensures in
+    let roomy : List Listed = c.make_room-made.new.lists in
+    let new : List Listed = c.lower_for_steps.new.lists in
+    let next = c.self.inside.ids.next in
+    let more = c.make_room-made.new.ids.next in
+    let gained = c.make_room-made.ensures.gained in
+    let back = sym (written c.self.inside.lists new (reserved-gained c.args.conflicts.now.sets c.args.steps.now old up roomy new next more raised gained c.lower_for_steps.ensures).lists) in
+    rw (← c.self.view_is)
+    (subst (λ (lists : List Listed). DrawsWhatIsLacking c.args.conflicts.now.sets c.args.steps.now (record { lists = old; next = next; horizon = c.self.inside.horizon }) (record { lists = lists; next = more; horizon = c.self.inside.horizon })) back
+    (DrawsWhatIsLacking-whole c.args.conflicts.now.sets c.args.steps.now old new next more c.self.inside.horizon
+    (reserved-lacking c.args.conflicts.now.sets c.args.steps.now old up roomy new next more raised gained c.lower_for_steps.ensures)))
 
 pub returns-clause-stands : goal.returns-clause-stands
 returns-clause-stands c horizon holds stands =

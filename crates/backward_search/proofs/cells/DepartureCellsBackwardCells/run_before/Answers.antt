@@ -1,0 +1,36 @@
+use Rattle.std.proofs.Common.{◌≡◌, ◌<◌, List, length, get_or, IsTrue, sym, ◌∙◌, ap, subst, arith}
+use Rattle.taxi_base.specs.declared.numbers.Arc.{Arc}
+use Rattle.taxi_base.specs.Airport.{arc_exists, permits}
+use Rattle.label_search.specs.declared.cells.Cell.{Cell}
+use Rattle.place_cells.specs.Laid.{windows_of}
+use Rattle.place_cells.specs.Turns.{previous_arcs, no_arc}
+use Rattle.place_cells.specs.Ground.{Ground, arc_in, usable_in, IsArcPart}
+use Rattle.place_cells.specs.Grounds.{ground_of}
+use Rattle.place_cells.proofs.LaidLaws.{windows_of-length}
+use Rattle.place_cells.proofs.TurnLaws.{permits-exist}
+use Rattle.place_cells.proofs.GroundLaws.{run_parts, previous_permitted, part_leads, expansions_back_in_part}
+use Rattle.backward_search.proofs.cells.DepartureCellsBackwardCells.run_before.Goals as goal
+
+pub part-requires : goal.part-requires
+part-requires c =
+    let g : Ground = ground_of c.args.self.now.ground.now in
+    let parts = run_parts (usable_in g c.args.cell) (length (previous_arcs g.layout (arc_in g c.args.cell))) c.args.run c.requires.is_run in
+    let read : get_or c.previous.result.now c.args.run no_arc ≡ get_or (previous_arcs g.layout (arc_in g c.args.cell)) c.args.run no_arc =
+    ap (λ (list : List Arc). get_or list c.args.run no_arc) (c.previous.ensures ∙ ap (previous_arcs g.layout) c.arc.ensures) in
+    subst (λ (a : Arc). IsTrue (arc_exists g.layout a)) (sym read) (permits-exist g.layout (get_or (previous_arcs g.layout (arc_in g c.args.cell)) c.args.run no_arc) (arc_in g c.args.cell) (previous_permitted g (arc_in g c.args.cell) c.args.run parts.1)).0
+
+pub returns : goal.returns
+returns c =
+    let s = c.args.self.now.ground.now in
+    let g : Ground = ground_of s in
+    let lists : length g.windows ≡ length g.layout.links = windows_of-length s.store.now ∙ s.lists in
+    let parts = run_parts (usable_in g c.args.cell) (length (previous_arcs g.layout (arc_in g c.args.cell))) c.args.run c.requires.is_run in
+    let previous : Arc = get_or (previous_arcs g.layout (arc_in g c.args.cell)) c.args.run no_arc in
+    let read : get_or c.previous.result.now c.args.run no_arc ≡ previous = ap (λ (list : List Arc). get_or list c.args.run no_arc) (c.previous.ensures ∙ ap (previous_arcs g.layout) c.arc.ensures) in
+    let permitted = previous_permitted g (arc_in g c.args.cell) c.args.run parts.1 in
+    let exists = (permits-exist g.layout previous (arc_in g c.args.cell) permitted).0 in
+    let part : IsArcPart g previous c.cell-from.result.from c.args.ready c.part.result = subst (λ (a : Arc). IsArcPart g a c.cell-from.result.from c.args.ready c.part.result) read c.part.ensures in
+    record {
+      permitted = part_leads g lists c.args.cell parts.0 previous c.cell-from.result.from c.args.ready c.part.result part exists permitted;
+      expansions_in = expansions_back_in_part g lists c.args.cell parts.0 previous c.cell-from.result.from c.args.ready c.part.result part exists c.args.ready (omega (arith, ap (λ (x : Cell). x.from) c.cell-from.ensures)) (omega arith);
+    }

@@ -1,0 +1,87 @@
+//! The cells of a departure's search.
+ghost use Rattle.std.specs.Prelude.{◌≡◌, ◌<◌, Some, option_map};
+ghost use Rattle.taxi_base.specs.declared.numbers.Arc.{Arc as ArcNumber};
+ghost use Rattle.taxi_base.specs.declared.numbers.Node.{Node as NodeNumber};
+ghost use Rattle.taxi_base.specs.Airport.{head};
+ghost use Rattle.label_search.specs.Backward.{BackwardProblem, finish_of};
+ghost use Rattle.place_cells.specs.Grounds.{ground_of};
+ghost use Rattle.backward_search.specs.Departures.{finish_at, departure_problem};
+
+use label_search::{BackwardCells, Cell, Closing, Run};
+use place_cells::SearchGround;
+use taxi_base::{Arc, Node, Time};
+
+/// Walks on a ground that leave a node, and end at another within a time.
+#[derive(Drop)]
+pub(crate) struct DepartureCells<'a> {
+    pub(crate) ground: &'a SearchGround<'a>,
+    pub(crate) from: Node,
+    pub(crate) to: Node,
+    pub(crate) earliest_out: Time,
+    pub(crate) latest_out: Time,
+    ghost nodes: { (a : ArcNumber) (n : NodeNumber) → head ground.now.graph.now a ≡ Some n → n.0 < ground.now.graph.now.nodes },
+}
+
+impl DepartureCells<'_> {
+    /// How a walk may end by the arc, if one may.
+    fn closing_at(&self, arc: Arc) -> Option<Closing>
+        ensures { option_map finish_of result ≡ finish_at self.now.ground.now.graph.now (record { to = self.now.to; earliest = self.now.earliest_out; latest = self.now.latest_out }) arc }
+    {
+        if self.ground.leads_to(arc, &[self.to]) {
+            Some(Closing {
+                earliest_out: self.earliest_out,
+                latest_out: self.latest_out,
+            })
+        } else {
+            None
+        }
+    }
+}
+
+impl BackwardCells for DepartureCells<'_> {
+    ghost backward = { λ s. departure_problem (ground_of s.ground.now) s.from (record { to = s.to; earliest = s.earliest_out; latest = s.latest_out }) };
+
+    fn count(&self) -> usize {
+        self.ground.count()
+    }
+
+    fn cell(&self, cell: usize) -> Cell {
+        self.ground.cell(cell)
+    }
+
+    fn finish(&self, cell: usize) -> Option<Closing> {
+        let arc = self.ground.arc(cell);
+        if self.ground.can_use(arc) {
+            self.closing_at(arc)
+        } else {
+            None
+        }
+    }
+
+    fn is_source(&self, cell: usize) -> bool {
+        self.ground.leaves(self.ground.arc(cell), self.from)
+    }
+
+    fn last_runs(&self) -> usize {
+        self.ground.entering(self.to).len()
+    }
+
+    fn last_run(&self, run: usize) -> Run {
+        self.ground.run(self.ground.entering(self.to)[run])
+    }
+
+    fn runs_before(&self, cell: usize) -> usize {
+        let arc = self.ground.arc(cell);
+        if self.ground.can_use(arc) {
+            self.ground.previous(arc).len()
+        } else {
+            0
+        }
+    }
+
+    fn run_before(&self, cell: usize, run: usize, ready: u32) -> Run {
+        let previous = self.ground.previous(self.ground.arc(cell))[run];
+        let from = self.ground.cell(cell).from;
+        self.ground.part(previous, from, ready)
+    }
+}

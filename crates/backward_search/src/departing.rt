@@ -1,0 +1,132 @@
+//! The search for a departure's route.
+ghost use Rattle.std.specs.Prelude.{◌≡◌, ◌^◌, ◌<◌, ◌≤◌, length, All, IfOk};
+ghost use Rattle.taxi_base.specs.Airport.{layout_of, IsWellFormed};
+ghost use Rattle.taxi_base.specs.Walks.{conditions_in_windows, ReachesNodeWithin};
+ghost use Rattle.taxi_base.specs.Labels.{AnswersDeparture};
+ghost use Rattle.walk_labels.specs.PlacesInWindows.{AreWindowLists};
+ghost use Rattle.place_cells.specs.Laid.{windows_of, AreSearched};
+
+use crate::cells::DepartureCells;
+use airport_file::Airport;
+use label_search::{LabelRoom, latest_entries};
+use place_cells::{PlaceCells, SearchGround, SearchRoom, rows_of, steps_of};
+use std::alloc::Global;
+use taxi_base::{Class, Found, Memory, Node, Time};
+use window_store::WindowStore;
+
+/// The picked one of the walks in the store's windows that end so and leave the node latest, with the labels past its begin;
+/// or that there is no walk, with all labels. Each step keeps the clearance after it inside its window, but no longer than to
+/// the horizon.
+pub fn depart(
+    alloc: Global,
+    airport: &Airport,
+    store: &WindowStore,
+    from: Node,
+    to: Node,
+    class: Class,
+    earliest_out: Time,
+    latest_out: Time,
+    clearance: Time,
+) -> Result<Found, Memory>
+    requires segments { length store.now.lists ≡ length airport.now.segments }
+    requires horizon { All (All (λ w. w.until ≤ airport.now.horizon)) (windows_of store.now) }
+    requires times { earliest_out < 2 ^ 31 }
+    ensures { IfOk result (AnswersDeparture (conditions_in_windows airport.now class clearance (windows_of store.now)) from (ReachesNodeWithin (layout_of airport.now) to earliest_out latest_out)) }
+{
+    let mut room = SearchRoom::new(alloc)?;
+    depart_in(
+        alloc,
+        &mut room,
+        airport,
+        store,
+        from,
+        to,
+        class,
+        earliest_out,
+        latest_out,
+        clearance,
+    )
+}
+
+/// The same in kept room. What was left there by an earlier search does not matter.
+pub fn depart_in(
+    alloc: Global,
+    room: &mut SearchRoom,
+    airport: &Airport,
+    store: &WindowStore,
+    from: Node,
+    to: Node,
+    class: Class,
+    earliest_out: Time,
+    latest_out: Time,
+    clearance: Time,
+) -> Result<Found, Memory>
+    requires segments { length store.now.lists ≡ length airport.now.segments }
+    requires horizon { All (All (λ w. w.until ≤ airport.now.horizon)) (windows_of store.now) }
+    requires times { earliest_out < 2 ^ 31 }
+    ensures { IfOk result (AnswersDeparture (conditions_in_windows airport.now class clearance (windows_of store.now)) from (ReachesNodeWithin (layout_of airport.now) to earliest_out latest_out)) }
+{
+    // With the horizon comes that the airport keeps the rules.
+    let _horizon = airport.horizon();
+    room.cells.lay(airport.graph(), store)?;
+    search_among(
+        alloc,
+        &mut room.labels,
+        airport,
+        store,
+        &room.cells,
+        from,
+        to,
+        class,
+        earliest_out,
+        latest_out,
+        clearance,
+    )
+}
+
+/// The same over the cells that are laid.
+fn search_among<'x>(
+    alloc: Global,
+    labels: &mut LabelRoom,
+    airport: &'x Airport,
+    store: &'x WindowStore,
+    cells: &'x PlaceCells,
+    from: Node,
+    to: Node,
+    class: Class,
+    earliest_out: Time,
+    latest_out: Time,
+    clearance: Time,
+) -> Result<Found, Memory>
+    requires lists { AreWindowLists airport.now (windows_of store.now) }
+    requires searched { AreSearched (windows_of store.now) cells.now }
+    requires rules { IsWellFormed airport.now }
+    requires times { earliest_out < 2 ^ 31 }
+    ensures { IfOk result (AnswersDeparture (conditions_in_windows airport.now class clearance (windows_of store.now)) from (ReachesNodeWithin (layout_of airport.now) to earliest_out latest_out)) }
+{
+    let ground = SearchGround {
+        graph: airport.graph(),
+        classes: airport.classes(),
+        store,
+        cells,
+        class,
+        horizon: airport.horizon(),
+        clearance,
+    };
+    let asked = DepartureCells {
+        ground: &ground,
+        from,
+        to,
+        earliest_out,
+        latest_out,
+    };
+    let label_search::Found { values, route } = latest_entries(alloc, labels, &asked)?;
+    let labels = rows_of(alloc, &cells.cells, &values)?;
+    match route {
+        None => Ok(Found::NoRoute { labels }),
+        Some(route) => {
+            let steps = steps_of(alloc, &cells.cells, &route.steps)?;
+            Ok(Found::Route { steps, labels })
+        }
+    }
+}

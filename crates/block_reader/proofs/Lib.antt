@@ -1,0 +1,9 @@
+pub mod Pieces
+pub mod Decimals
+pub mod RowLoop
+pub mod Spellings
+pub mod Words
+pub mod Places
+pub mod RefusalLaws
+pub mod BlockLaws
+pub mod ReadLaws

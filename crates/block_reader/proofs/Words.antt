@@ -1,0 +1,96 @@
+-- The words of a block, each read as what it was written for.
+use Rattle.std.proofs.Common.{◌≡◌, ◌<◌, ◌≤◌, ◌^◌, ◌==◌, ◌∷◌, [], ℕ, Bool, true, false, cond, IsTrue, List, Some, None, decimal, refl, subst, arith, rules, inl, inr}
+use Rattle.std.specs.List.{list_all}
+use Rattle.std.specs.Char.{is_ascii_digit}
+use Rattle.std.proofs.lemmas.Bool.{cases_Bool}
+use Rattle.std.proofs.lemmas.Bool.Decides.{nat_tests}
+use Rattle.std.proofs.lemmas.Fmt.{digits_decimal}
+use Rattle.taxi_base.specs.Words.{is_name, is_name_byte}
+use Rattle.taxi_text.specs.Fields.{name_of}
+use Rattle.certificate.specs.Printable.{IsShort, IsCount, IsName}
+use Rattle.block_reader.specs.Fields.{number_of, count_of, some_count_of, step_number_of}
+use Rattle.block_reader.proofs.Pieces.{IsPlain}
+use Rattle.block_reader.proofs.Decimals.{numerals, decimal-again, decimal-only}
+use Rattle.block_reader.proofs.Spellings.{some-both, IsWord}
+
+-- ---- bytes that do not end a word
+
+all-plain : (test : ℕ → Bool) → ((b : ℕ) → test b ≡ true → 32 < b) → (word : List ℕ) → list_all test word ≡ true → IsPlain word
+all-plain test each [] h = tt
+all-plain test each (b ∷ word) h = elim (cases_Bool (test b)) [
+  | inl passes ↦ let k = rw passes at h in (each b passes, all-plain test each word k)
+  | inr fails ↦ let k = rw fails at h in absurd cc
+]
+
+digit-plain : (b : ℕ) → is_ascii_digit b ≡ true → 32 < b
+digit-plain b h = grind (arith, nat_tests, h)
+
+name_byte-plain : (b : ℕ) → is_name_byte b ≡ true → 32 < b
+name_byte-plain b h = grind (arith, nat_tests, h)
+
+decimal-plain : (n : ℕ) → n < 2 ^ 64 → IsPlain (decimal n)
+decimal-plain n fits = all-plain is_ascii_digit digit-plain (decimal n) (digits_decimal numerals n fits)
+
+-- ---- numbers
+
+pub number-word : IsWord IsShort decimal number_of
+number-word = record {
+  again = λ n small. decimal-again 7 n (omega arith) (omega arith) small (omega (arith, small));
+  only = λ w n e. decimal-only 7 n w (omega arith) e;
+  plain = λ n small. decimal-plain n (omega (arith, small));
+}
+
+pub count-word : IsWord IsCount decimal count_of
+count-word = record {
+  again = λ n small. decimal-again 10 n (omega arith) (omega arith) small (omega (arith, small));
+  only = λ w n e. decimal-only 10 n w (omega arith) e;
+  plain = λ n small. decimal-plain n (omega (arith, small));
+}
+
+kept : {A : Type 0} (b : Bool) (x y : A) → cond b (Some x) None ≡ Some y → (b ≡ true) × (x ≡ y)
+kept true x y e = (refl, cc)
+kept false x y e = absurd cc
+
+left : {A : Type 0} (b : Bool) (x y : A) → cond b None (Some x) ≡ Some y → (b ≡ false) × (x ≡ y)
+left true x y e = absurd cc
+left false x y e = (refl, cc)
+
+pub some_count-word : IsWord (λ n. (0 < n) × IsCount n) decimal some_count_of
+some_count-word = record {
+  again = λ n good. rw (count-word.again n good.1) (let some : (n == 0) ≡ false = (let k = good.0 in grind (arith, nat_tests, k)) in rw some refl);
+  only = λ w n e.
+      let a = some-both (count_of w) _ n e in
+      let b = left (a.0 == 0) a.0 n a.2 in
+      let c = count-word.only w a.0 a.1 in
+      let some : 0 < a.0 = (let k = b.0 in grind (arith, nat_tests, k)) in
+      subst (λ (m : ℕ). ((0 < m) × IsCount m) × (w ≡ decimal m)) b.1 ((some, c.0), c.1);
+  plain = λ n good. count-word.plain n good.1;
+}
+
+pub step_number-word : IsWord (λ n. (1 ≤ n) × (n ≤ 256)) decimal step_number_of
+step_number-word = record {
+  again = λ n good. rw (number-word.again n (omega (arith, good.1))) (grind (arith, nat_tests, good.0, good.1));
+  only = λ w n e.
+      let a = some-both (number_of w) _ n e in
+      let b = kept _ a.0 n a.2 in
+      let c = number-word.only w a.0 a.1 in
+      let low : 1 ≤ a.0 = (let k = b.0 in grind (arith, nat_tests, k)) in
+      let high : a.0 ≤ 256 = (let k = b.0 in grind (arith, nat_tests, k)) in
+      subst (λ (m : ℕ). ((1 ≤ m) × (m ≤ 256)) × (w ≡ decimal m)) b.1 ((low, high), c.1);
+  plain = λ n good. number-word.plain n (omega (arith, good.1));
+}
+
+-- ---- names
+
+name-parts : (name : List ℕ) → IsName name → list_all is_name_byte name ≡ true
+name-parts name h = search rules
+
+pub name-plain : (name : List ℕ) → IsName name → IsPlain name
+name-plain name h = all-plain is_name_byte name_byte-plain name (name-parts name h)
+
+pub name-word : IsWord IsName (λ name. name) name_of
+name-word = record {
+  again = λ name good. let e : is_name name ≡ true = search rules in rw e refl;
+  only = λ w name e. let a = kept (is_name w) w name e in (subst (λ (n : List ℕ). IsTrue (is_name n)) a.1 (search rules), a.1);
+  plain = λ name good. name-plain name good;
+}

@@ -1,0 +1,112 @@
+-- How each kind of block is read.
+use Rattle.std.specs.Prelude.{ℕ, List, Option, Some, None, option_map, codes, bytes_eq, if◌then◌else◌}
+use Rattle.taxi_base.specs.declared.rows.Step.{Step}
+use Rattle.taxi_base.specs.declared.rows.Span.{Span}
+use Rattle.taxi_base.specs.declared.rows.LabelRow.{LabelRow}
+use Rattle.taxi_base.specs.declared.answers.StepCause.{StepCause}
+use Rattle.taxi_base.specs.declared.answers.StepCause.TheVariants.{ClassBarred, BadTurn, TooFast, PastHorizon, Taken}
+use Rattle.taxi_base.specs.declared.answers.StepFault.{StepFault}
+use Rattle.taxi_base.specs.declared.answers.Refusal.{Refusal}
+use Rattle.taxi_base.specs.declared.answers.Refusal.TheVariants as refusal
+use Rattle.taxi_base.specs.Airport.{Airport}
+use Rattle.taxi_text.specs.Commands.{◌>>=◌}
+use Rattle.taxi_text.specs.Fields.{name_of}
+use Rattle.certificate.specs.declared.block.Block.{Block}
+use Rattle.certificate.specs.declared.block.Block.TheVariants.{Refused, Filed, Cancelled, Route, NoRoute, Windows}
+use Rattle.block_reader.specs.Fields.{number_of, count_of, some_count_of, step_number_of, segment_of_word, arc_of_word}
+use Rattle.block_reader.specs.Reading.{after, word_then, word_last, made, either, rows_at}
+
+-- ---- rows
+
+unfoldable pub step_at : Airport → List ℕ → Option (Step × List ℕ)
+step_at airport =
+    after (codes "step ") (made (λ p. record { arc = p.0; enter = p.1.0; leave = p.1.1 })
+    (word_then (arc_of_word airport) (word_then number_of (word_last number_of))))
+
+unfoldable pub label_at : Airport → List ℕ → Option (LabelRow × List ℕ)
+label_at airport =
+    after (codes "label ") (made (λ p. record { arc = p.0; from = p.1.0; until = p.1.1.0; value = p.1.1.1 })
+    (word_then (arc_of_word airport) (word_then number_of (word_then number_of (word_last number_of)))))
+
+unfoldable pub window_at : Airport → List ℕ → Option (Span × List ℕ)
+window_at airport =
+    after (codes "window ") (made (λ p. record { from = p.0; until = p.1 }) (word_then number_of (word_last number_of)))
+
+-- ---- refusals
+
+unfoldable pub plain_cause_of : List ℕ → Option StepCause
+plain_cause_of word =
+    if bytes_eq word (codes "class-barred") then Some ClassBarred
+    else (if bytes_eq word (codes "bad-turn") then Some BadTurn
+    else (if bytes_eq word (codes "too-fast") then Some TooFast
+    else (if bytes_eq word (codes "past-horizon") then Some PastHorizon
+    else None)))
+
+unfoldable pub cause_at : List ℕ → Option (StepCause × List ℕ)
+cause_at = either (codes "taken ") (made (λ p. Taken p.0 p.1) (word_then number_of (word_last name_of))) (word_last plain_cause_of)
+
+unfoldable pub fault_at : List ℕ → Option (StepFault × List ℕ)
+fault_at = made (λ p. record { number = p.0; cause = p.1 }) (word_then step_number_of cause_at)
+
+unfoldable pub plain_refusal_of : List ℕ → Option Refusal
+plain_refusal_of word =
+    if bytes_eq word (codes "bad-line") then Some refusal.BadLine
+    else (if bytes_eq word (codes "in-force") then Some refusal.InForce
+    else (if bytes_eq word (codes "unknown-class") then Some refusal.UnknownClass
+    else (if bytes_eq word (codes "unknown-node") then Some refusal.UnknownNode
+    else (if bytes_eq word (codes "wrong-kind") then Some refusal.WrongKind
+    else (if bytes_eq word (codes "unknown-segment") then Some refusal.UnknownSegment
+    else (if bytes_eq word (codes "not-in-force") then Some refusal.NotInForce
+    else (if bytes_eq word (codes "not-routed") then Some refusal.NotRouted
+    else (if bytes_eq word (codes "not-arrival") then Some refusal.NotArrival
+    else (if bytes_eq word (codes "full") then Some refusal.Full
+    else (if bytes_eq word (codes "not-built") then Some refusal.NotBuilt
+    else (if bytes_eq word (codes "memory") then Some refusal.Memory
+    else None)))))))))))
+
+unfoldable pub refusal_at : List ℕ → Option (Refusal × List ℕ)
+refusal_at =
+    either (codes "already-done ") (made refusal.AlreadyDone (word_last number_of))
+    (either (codes "already-moving ") (made refusal.AlreadyMoving (word_last number_of))
+    (either (codes "step ") (made refusal.Step fault_at) (word_last plain_refusal_of)))
+
+-- ---- blocks, behind their first word
+
+unfoldable pub refused_at : List ℕ → Option (Block × List ℕ)
+refused_at = made Refused refusal_at
+
+unfoldable pub filed_at : List ℕ → Option (Block × List ℕ)
+filed_at = made (λ p. Filed p.0 p.1.0 p.1.1) (word_then name_of (word_then number_of (word_last number_of)))
+
+unfoldable pub cancelled_at : List ℕ → Option (Block × List ℕ)
+cancelled_at = made Cancelled (word_last name_of)
+
+-- a flight, a second, how many steps and how many labels
+unfoldable pub route_head_at : List ℕ → Option ((List ℕ × (ℕ × (ℕ × ℕ))) × List ℕ)
+route_head_at = word_then name_of (word_then number_of (word_then some_count_of (word_last count_of)))
+
+unfoldable pub route_at : Airport → List ℕ → Option (Block × List ℕ)
+route_at airport bytes =
+    route_head_at bytes >>= (λ head.
+    rows_at (step_at airport) head.0.1.1.0 head.1 >>= (λ steps.
+    option_map (λ labels. (Route head.0.0 head.0.1.0 steps.0 labels.0, labels.1)) (rows_at (label_at airport) head.0.1.1.1 steps.1)))
+
+unfoldable pub no_route_at : Airport → List ℕ → Option (Block × List ℕ)
+no_route_at airport bytes =
+    word_last count_of bytes >>= (λ count. option_map (λ labels. (NoRoute labels.0, labels.1)) (rows_at (label_at airport) count.0 count.1))
+
+unfoldable pub windows_at : Airport → List ℕ → Option (Block × List ℕ)
+windows_at airport bytes =
+    word_then (segment_of_word airport) (word_last count_of) bytes >>= (λ head.
+    option_map (λ windows. (Windows head.0.0 windows.0, windows.1)) (rows_at (window_at airport) head.0.1 head.1))
+
+-- ---- any block
+
+unfoldable pub block_at : Airport → List ℕ → Option (Block × List ℕ)
+block_at airport =
+    either (codes "route ") (route_at airport)
+    (either (codes "no-route ") (no_route_at airport)
+    (either (codes "refused ") refused_at
+    (either (codes "filed ") filed_at
+    (either (codes "cancelled ") cancelled_at
+    (after (codes "windows ") (windows_at airport))))))

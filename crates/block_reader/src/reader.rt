@@ -1,0 +1,173 @@
+//! Whole blocks.
+ghost use Rattle.block_reader.specs.Reading.{word_then, word_last, Finds, IsRead};
+ghost use Rattle.certificate.specs.declared.block.Block.{Block as Plain};
+ghost use Rattle.block_reader.specs.Read.{BeginsWith, IsBlockRead, Reads};
+ghost use Rattle.block_reader.specs.Fields.{count_of, segment_of_word};
+ghost use Rattle.block_reader.specs.Blocks.{refused_at, filed_at, cancelled_at, route_head_at, route_at, no_route_at, windows_at, block_at};
+
+use crate::fields::{
+    behind, count_field, name_field, number_field, segment_field, some_count_field,
+};
+use crate::refusal::read_refusal;
+use crate::refused::BlockRefused;
+use crate::rows::read_rows;
+use airport_file::Airport;
+use certificate::Block;
+use std::alloc::Global;
+use taxi_base::{LabelRow, Name, Segment, Span, Step, Time};
+
+/// The printable block that the bytes begin with, and the length of its text. `NotABlock` exactly where they begin with
+/// none. Rows that a count tells of and that aren't there take no room.
+pub fn read_block(
+    alloc: Global,
+    airport: &Airport,
+    bytes: &[u8],
+) -> Result<(Block, usize), BlockRefused>
+    ensures found { IsBlockRead airport.now bytes.now result }
+    ensures only { (block : Plain) → BeginsWith airport.now bytes.now block → Reads airport.now block result }
+{
+    // The airport keeps its rules, so each name is that of one thing.
+    let _ = airport.horizon();
+    match read_any(alloc, airport, bytes) {
+        Ok((block, rest)) => Ok((block, bytes.len() - rest.len())),
+        Err(why) => Err(why),
+    }
+}
+
+#[tactic(auto, unfolding(crate::specs::Blocks::refused_at))]
+fn read_refused(bytes: &[u8]) -> Result<(Block, &[u8]), BlockRefused>
+    ensures { IsRead (λ x. (x.0, x.1.now)) result (refused_at bytes.now) }
+{
+    let Some((why, rest)) = read_refusal(bytes) else {
+        return Err(BlockRefused::NotABlock);
+    };
+    Ok((Block::Refused(why), rest))
+}
+
+#[tactic(auto, unfolding(crate::specs::Blocks::filed_at))]
+fn read_filed(bytes: &[u8]) -> Result<(Block, &[u8]), BlockRefused>
+    ensures { IsRead (λ x. (x.0, x.1.now)) result (filed_at bytes.now) }
+{
+    let Some((flight, rest)) = name_field(b' ', bytes) else {
+        return Err(BlockRefused::NotABlock);
+    };
+    let Some((start, rest)) = number_field(b' ', rest) else {
+        return Err(BlockRefused::NotABlock);
+    };
+    let Some((end, rest)) = number_field(b'\n', rest) else {
+        return Err(BlockRefused::NotABlock);
+    };
+    Ok((Block::Filed { flight, start, end }, rest))
+}
+
+#[tactic(auto, unfolding(crate::specs::Blocks::cancelled_at))]
+fn read_cancelled(bytes: &[u8]) -> Result<(Block, &[u8]), BlockRefused>
+    ensures { IsRead (λ x. (x.0, x.1.now)) result (cancelled_at bytes.now) }
+{
+    let Some((flight, rest)) = name_field(b'\n', bytes) else {
+        return Err(BlockRefused::NotABlock);
+    };
+    Ok((Block::Cancelled { flight }, rest))
+}
+
+#[tactic(auto, unfolding(crate::specs::Blocks::route_head_at))]
+fn route_head(bytes: &[u8]) -> Option<((Name, (Time, (u64, u64))), &[u8])>
+    ensures { Finds (λ x. (x.0, x.1.now)) result (route_head_at bytes.now) }
+{
+    let Some((flight, rest)) = name_field(b' ', bytes) else {
+        return None;
+    };
+    let (second, rest) = number_field(b' ', rest)?;
+    let (steps, rest) = some_count_field(b' ', rest)?;
+    let (labels, rest) = count_field(b'\n', rest)?;
+    Some(((flight, (second, (steps, labels))), rest))
+}
+
+#[tactic(auto, unfolding(crate::specs::Blocks::route_at))]
+fn read_route<'a>(
+    alloc: Global,
+    airport: &Airport,
+    bytes: &'a [u8],
+) -> Result<(Block, &'a [u8]), BlockRefused>
+    ensures { IsRead (λ x. (x.0, x.1.now)) result (route_at airport.now bytes.now) }
+{
+    let Some(((flight, (second, (steps, labels))), rest)) = route_head(bytes) else {
+        return Err(BlockRefused::NotABlock);
+    };
+    let (steps, rest) = read_rows::<Step>(alloc, airport, steps, rest)?;
+    let (labels, rest) = read_rows::<LabelRow>(alloc, airport, labels, rest)?;
+    let block = Block::Route {
+        flight,
+        second,
+        steps,
+        labels,
+    };
+    Ok((block, rest))
+}
+
+#[tactic(auto, unfolding(crate::specs::Blocks::no_route_at))]
+fn read_no_route<'a>(
+    alloc: Global,
+    airport: &Airport,
+    bytes: &'a [u8],
+) -> Result<(Block, &'a [u8]), BlockRefused>
+    ensures { IsRead (λ x. (x.0, x.1.now)) result (no_route_at airport.now bytes.now) }
+{
+    let Some((labels, rest)) = count_field(b'\n', bytes) else {
+        return Err(BlockRefused::NotABlock);
+    };
+    let (labels, rest) = read_rows::<LabelRow>(alloc, airport, labels, rest)?;
+    Ok((Block::NoRoute { labels }, rest))
+}
+
+fn windows_head<'a>(airport: &Airport, bytes: &'a [u8]) -> Option<((Segment, u64), &'a [u8])>
+    ensures { Finds (λ x. (x.0, x.1.now)) result (word_then (segment_of_word airport.now) (word_last count_of) bytes.now) }
+{
+    let (segment, rest) = segment_field(airport, b' ', bytes)?;
+    let (windows, rest) = count_field(b'\n', rest)?;
+    Some(((segment, windows), rest))
+}
+
+#[tactic(auto, unfolding(crate::specs::Blocks::windows_at))]
+fn read_windows<'a>(
+    alloc: Global,
+    airport: &Airport,
+    bytes: &'a [u8],
+) -> Result<(Block, &'a [u8]), BlockRefused>
+    ensures { IsRead (λ x. (x.0, x.1.now)) result (windows_at airport.now bytes.now) }
+{
+    let Some(((segment, windows), rest)) = windows_head(airport, bytes) else {
+        return Err(BlockRefused::NotABlock);
+    };
+    let (windows, rest) = read_rows::<Span>(alloc, airport, windows, rest)?;
+    Ok((Block::Windows { segment, windows }, rest))
+}
+
+#[tactic(auto, unfolding(crate::specs::Blocks::block_at))]
+fn read_any<'a>(
+    alloc: Global,
+    airport: &Airport,
+    bytes: &'a [u8],
+) -> Result<(Block, &'a [u8]), BlockRefused>
+    ensures { IsRead (λ x. (x.0, x.1.now)) result (block_at airport.now bytes.now) }
+{
+    if let Some(rest) = behind(b"route ", bytes) {
+        return read_route(alloc, airport, rest);
+    }
+    if let Some(rest) = behind(b"no-route ", bytes) {
+        return read_no_route(alloc, airport, rest);
+    }
+    if let Some(rest) = behind(b"refused ", bytes) {
+        return read_refused(rest);
+    }
+    if let Some(rest) = behind(b"filed ", bytes) {
+        return read_filed(rest);
+    }
+    if let Some(rest) = behind(b"cancelled ", bytes) {
+        return read_cancelled(rest);
+    }
+    match behind(b"windows ", bytes) {
+        Some(rest) => read_windows(alloc, airport, rest),
+        None => Err(BlockRefused::NotABlock),
+    }
+}

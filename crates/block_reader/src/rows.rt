@@ -1,0 +1,87 @@
+//! Rows, each of one line.
+ghost use Rattle.std.specs.Prelude.{ℕ, List as Items, Option as Maybe};
+ghost use Rattle.taxi_base.specs.Airport.{Airport as Plain};
+ghost use Rattle.block_reader.specs.Reading.{rows_at, Finds, IsRead};
+ghost use Rattle.block_reader.specs.Blocks.{step_at, label_at, window_at};
+
+use crate::fields::{arc_field, behind, number_field};
+use crate::refused::BlockRefused;
+use airport_file::Airport;
+use std::alloc::Global;
+use taxi_base::{LabelRow, List, Span, Step};
+
+/// What is written as one line.
+pub(crate) trait Row: Copy {
+    /// How the line is read.
+    ghost row_at: { Plain → Items ℕ → Maybe (Self × Items ℕ) };
+
+    fn read<'a>(airport: &Airport, bytes: &'a [u8]) -> Option<(Self, &'a [u8])>
+        ensures { Finds (λ x. (x.0, x.1.now)) result (row_at airport.now bytes.now) };
+}
+
+impl Row for Step {
+    ghost row_at = { step_at };
+
+    #[tactic(auto, unfolding(crate::specs::Blocks::step_at))]
+    fn read<'a>(airport: &Airport, bytes: &'a [u8]) -> Option<(Step, &'a [u8])> {
+        let rest = behind(b"step ", bytes)?;
+        let (arc, rest) = arc_field(airport, b' ', rest)?;
+        let (enter, rest) = number_field(b' ', rest)?;
+        let (leave, rest) = number_field(b'\n', rest)?;
+        Some((Step { arc, enter, leave }, rest))
+    }
+}
+
+impl Row for LabelRow {
+    ghost row_at = { label_at };
+
+    #[tactic(auto, unfolding(crate::specs::Blocks::label_at))]
+    fn read<'a>(airport: &Airport, bytes: &'a [u8]) -> Option<(LabelRow, &'a [u8])> {
+        let rest = behind(b"label ", bytes)?;
+        let (arc, rest) = arc_field(airport, b' ', rest)?;
+        let (from, rest) = number_field(b' ', rest)?;
+        let (until, rest) = number_field(b' ', rest)?;
+        let (value, rest) = number_field(b'\n', rest)?;
+        let row = LabelRow {
+            arc,
+            from,
+            until,
+            value,
+        };
+        Some((row, rest))
+    }
+}
+
+impl Row for Span {
+    ghost row_at = { window_at };
+
+    #[tactic(auto, unfolding(crate::specs::Blocks::window_at))]
+    fn read<'a>(airport: &Airport, bytes: &'a [u8]) -> Option<(Span, &'a [u8])> {
+        let _names = airport;
+        let rest = behind(b"window ", bytes)?;
+        let (from, rest) = number_field(b' ', rest)?;
+        let (until, rest) = number_field(b'\n', rest)?;
+        Some((Span { from, until }, rest))
+    }
+}
+
+/// So many rows. Room is taken for each only once it is read.
+pub(crate) fn read_rows<'a, R: Row>(
+    alloc: Global,
+    airport: &Airport,
+    count: u64,
+    bytes: &'a [u8],
+) -> Result<(List<R>, &'a [u8]), BlockRefused>
+    ensures { IsRead (λ x. (x.0, x.1.now)) result (rows_at (R.row_at airport.now) count bytes.now) }
+{
+    let mut rows = List::new(alloc);
+    let mut rest = bytes;
+    for _ in 0..count {
+        let Some(row) = R::read(airport, rest) else {
+            return Err(BlockRefused::NotABlock);
+        };
+        rows.push(row.0)?;
+        rest = row.1;
+    }
+    Ok((rows, rest))
+}

@@ -1,0 +1,202 @@
+-- A route that passes is the best walk that is sought, and where it passes that there is none there is none.
+use Rattle.std.proofs.Common.{◌≡◌, ℕ, Bool, true, false, List, Option, Some, None, option_map, inl, inr, refl, sym, subst}
+use Rattle.std.specs.Prelude.{MatchOption, Contains, ⊤}
+use Rattle.std.proofs.lemmas.Option.{none-some}
+use Rattle.std.proofs.lemmas.List.Elements.{All-contains}
+use Rattle.taxi_base.specs.declared.numbers.Class.{Class}
+use Rattle.taxi_base.specs.declared.numbers.Node.{Node}
+use Rattle.taxi_base.specs.declared.rows.Step.{Step}
+use Rattle.taxi_base.specs.declared.answers.Flight.{Flight}
+use Rattle.taxi_base.specs.declared.answers.Request.{Request}
+use Rattle.taxi_base.specs.declared.answers.Request.TheVariants as request
+use Rattle.taxi_base.specs.declared.answers.Refusal.{Refusal}
+use Rattle.taxi_base.specs.declared.answers.Refusal.TheVariants as refusal
+use Rattle.taxi_base.specs.Airport.{Airport, IsWellFormed, class_named, node_named}
+use Rattle.taxi_base.specs.Walks.{Conditions, Meets}
+use Rattle.taxi_base.specs.State.{State, flight_named, without, holds_in, conditions_of, IsSound}
+use Rattle.taxi_base.specs.Again.{retargeted}
+use Rattle.taxi_base.proofs.AgainLaws.{frozen-meets}
+use Rattle.taxi_base.proofs.StateLaws.{IsSound-with_flight, IsSound-with_route}
+use Rattle.taxi_base.proofs.WalkLaws.{Meets-IsFeasibleWalk}
+use Rattle.taxi_text.specs.declared.command.Command.{Command}
+use Rattle.taxi_text.specs.declared.command.Command.TheVariants as command
+use Rattle.taxi_text.specs.Commands.{command_of}
+use Rattle.walk_labels.specs.Places.{AreFit}
+use Rattle.walk_labels.proofs.FitConditions.{among_fit}
+use Rattle.certificate.specs.declared.block.Block.{Block}
+use Rattle.certificate.specs.declared.block.Block.TheVariants.{Refused, Filed, Cancelled, Route, NoRoute, Windows}
+use Rattle.certificate.specs.declared.rule.Rule.{Rule}
+use Rattle.certificate.specs.declared.rule.Rule.TheVariants as rule
+use Rattle.certificate.specs.Asked.{arrival_named, departure_named}
+use Rattle.certificate.specs.Refusals.{first_refusal}
+use Rattle.certificate.specs.CarriedOut.{second_of, routed_flight, IsCarriedOut}
+use Rattle.certificate.specs.Replies.{refusal_due}
+use Rattle.certificate.specs.Sought.{UnderWay, Sought, sought_new, sought_again, sought_by_class, sought_of, sought_by, IsWalkOnFor, IsWalkFor}
+use Rattle.certificate.specs.Passes.{IsFormOf, IsAsAsked, KeepsReply, KeepsSought, Keeps, IsPassed, TellsBest}
+use Rattle.certificate.proofs.FiledLaws.{and_then-some, map-some}
+use Rattle.certificate.proofs.FlightLaws.{flight_named-there}
+use Rattle.certificate.proofs.RefusalLaws.{HasRoom, arrival-has_room, departure-has_room}
+use Rattle.certificate.proofs.ReplyLaws.{due-kept}
+use Rattle.certificate.proofs.TablesKept.{IsUnderWay, table-best, table-none}
+use Rattle.certificate.proofs.PassLaws.{none-due, route-table, no_route-table}
+
+module _ (airport : Airport) (state : State) (well : IsWellFormed airport) (sound : IsSound airport state) where
+  -- ---- what is sought is sought rightly
+
+  -- walks can be searched, the flight under way is on a feasible walk, and with a walk that is sought the state stays sound
+  record IsRight (s : Sought) : Type 0 where
+    fit : AreFit s.conditions
+    way : IsUnderWay s.conditions s.under_way
+    stays_sound : (steps : List Step) → IsWalkFor s steps → IsSound airport (s.with_steps steps)
+
+  new-right : (name : List ℕ) (class : Class) (request : Request) → HasRoom state name → IsRight (sought_new airport state name class request)
+  new-right name class request room = record {
+    fit = among_fit airport class (holds_in airport state) well;
+    way = tt;
+    stays_sound = λ steps met. IsSound-with_flight airport (routed_flight name class request steps) state sound room.room room.absent met;
+  }
+
+  class-right : (name class_name : List ℕ) (asked : Option Request) (s : Sought) → HasRoom state name → sought_by_class airport state name class_name asked ≡ Some s → IsRight s
+  class-right name class_name asked s room e =
+      let class = and_then-some (λ class. option_map (sought_new airport state name class) asked) (class_named airport class_name) s e in
+      let request = map-some (sought_new airport state name class.0) asked s class.2 in
+      subst IsRight request.2 (new-right name class.0 request.0 room)
+
+  module _ (name : List ℕ) (time : ℕ) (flight : Flight) (in_force : flight_named name state.flights ≡ Some flight) where
+    abbrev c : Conditions
+    c = conditions_of airport state flight
+
+    abbrev way : UnderWay
+    way = record { steps = flight.steps; time = time }
+
+    there : Contains state.flights flight
+    there = flight_named-there name state.flights flight in_force
+
+    met : Meets c flight.request flight.steps
+    met = All-contains (λ f. Meets (conditions_of airport state f) f.request f.steps) state.flights flight sound.requests there
+
+    again-right : (may_be_none : Bool) (r : Request) → ((steps : List Step) → IsWalkOnFor c r way steps → Meets c r steps) → IsRight (sought_again airport state name time may_be_none flight r)
+    again-right may_be_none r meets = record {
+      fit = among_fit airport flight.class (holds_in airport (without flight.name state)) well;
+      way = Meets-IsFeasibleWalk c flight.request flight.steps met;
+      stays_sound = λ steps on. IsSound-with_route airport flight state r steps sound there (meets steps on);
+    }
+
+    own-meets : (r : Request) → Meets c r flight.steps → (steps : List Step) → IsWalkOnFor c r way steps → Meets c r steps
+    own-meets request.Filed met steps on = absurd on
+    own-meets (request.Arrival from to asked hold) met steps on = frozen-meets c flight.steps time to (request.Arrival from to asked hold) steps met on
+    own-meets (request.Departure from to asked queue) met steps on = frozen-meets c flight.steps time to (request.Departure from to asked queue) steps met on
+
+    other-meets : (r : Request) (target : Node) → Meets c r flight.steps → (steps : List Step) → IsWalkOnFor c (retargeted r target) way steps → Meets c (retargeted r target) steps
+    other-meets request.Filed target met steps on = absurd on
+    other-meets (request.Arrival from to asked hold) target met steps on = frozen-meets c flight.steps time target (request.Arrival from to asked hold) steps met on
+    other-meets (request.Departure from to asked queue) target met steps on = frozen-meets c flight.steps time target (request.Departure from to asked queue) steps met on
+
+  sought-right : (command : Command) (s : Sought) → first_refusal airport state command ≡ None → sought_of airport state command ≡ Some s → IsRight s
+  sought-right (command.File flight class start steps) s none e = absurd (none-some s e)
+  sought-right (command.Arrival flight class from to time hold) s none e =
+      class-right flight class (arrival_named airport from to time hold) s (arrival-has_room airport state flight class from to time hold none) e
+  sought-right (command.Departure flight class from to time queue) s none e =
+      class-right flight class (departure_named airport from to time queue) s (departure-has_room airport state flight class from to time queue none) e
+  sought-right (command.Cancel flight) s none e = absurd (none-some s e)
+  sought-right (command.Reroute name time) s none e =
+      let flight = map-some (λ flight. sought_again airport state name time false flight flight.request) (flight_named name state.flights) s e in
+      subst IsRight flight.2 (again-right name time flight.0 flight.1 false flight.0.request (own-meets name time flight.0 flight.1 flight.0.request (met name time flight.0 flight.1)))
+  sought-right (command.Divert name time node) s none e =
+      let flight = and_then-some (λ flight. option_map (λ target. sought_again airport state name time true flight (retargeted flight.request target)) (node_named airport node))
+      (flight_named name state.flights) s e in
+      let target = map-some (λ target. sought_again airport state name time true flight.0 (retargeted flight.0.request target)) (node_named airport node) s flight.2 in
+      subst IsRight target.2
+      (again-right name time flight.0 flight.1 true (retargeted flight.0.request target.0) (other-meets name time flight.0 flight.1 flight.0.request target.0 (met name time flight.0 flight.1)))
+  sought-right (command.Windows segment) s none e = absurd (none-some s e)
+  sought-right (command.Occupancy segment) s none e = absurd (none-some s e)
+  sought-right command.Timetable s none e = absurd (none-some s e)
+
+  -- ---- a route, or that there is none, answers a command that seeks a walk
+
+  -- whether a block tells of a search
+  abbrev IsFound : Block → Type 0
+  IsFound (Route name second steps labels) = ⊤
+  IsFound (NoRoute labels) = ⊤
+  IsFound _ = ⊥
+
+  -- what answers a command that seeks none tells of no search
+  plain-none : (command : Command) (block : Block) (after : State) → first_refusal airport state command ≡ None → sought_of airport state command ≡ None
+      → IsCarriedOut airport state command block after → IsFound block → ⊥
+  plain-none (command.File flight class start steps) block after none e done told = subst IsFound done.reply.0 told
+  plain-none (command.Arrival flight class from to time hold) block after none e done told = absurd (cc (rw (done.class_known, done.nodes_known) at e))
+  plain-none (command.Departure flight class from to time queue) block after none e done told = absurd (cc (rw (done.class_known, done.nodes_known) at e))
+  plain-none (command.Cancel flight) block after none e done told = subst IsFound done.0 told
+  plain-none (command.Reroute flight time) block after none e done told = absurd (cc (rw done.in_force at e))
+  plain-none (command.Divert flight time node) block after none e done told = absurd (cc (rw (done.in_force, done.meant) at e))
+  plain-none (command.Windows segment) block after none e done told = subst IsFound done.reply.0 told
+  plain-none (command.Occupancy segment) block after none e done told = done
+  plain-none command.Timetable block after none e done told = done
+
+  -- what is sought by a line that is answered so
+  record IsSoughtBy (line : List ℕ) (block : Block) : Type 0 where
+    s : Sought
+    by : sought_by airport state line ≡ Some s
+    right : IsRight s
+
+  sought-there : (line : List ℕ) (block : Block) → IsFound block → KeepsReply airport state line block → IsSoughtBy line block
+  sought-there line block told (inl memory) = absurd (subst IsFound memory.1 told)
+  sought-there line block told (inr form) = go (command_of line) refl form where
+    go : (o : Option Command) → command_of line ≡ o
+        → MatchOption o (block ≡ Refused refusal.BadLine) (λ command. MatchOption (refusal_due airport state command) (IsAsAsked airport state command block) (λ why. block ≡ Refused why))
+        → IsSoughtBy line block
+    go None read is = absurd (subst IsFound is told)
+    go (Some command) read form = by_refusal (refusal_due airport state command) refl form where
+      by_sought : first_refusal airport state command ≡ None → (o : Option Sought) → sought_of airport state command ≡ o
+          → MatchOption o ((after : State) × IsCarriedOut airport state command block after) (λ s. IsFormOf s block) → IsSoughtBy line block
+      by_sought none None e done = absurd (plain-none command block done.0 none e done.1 told)
+      by_sought none (Some s) e form = record { s = s; by = rw read e; right = sought-right command s none e }
+
+      by_refusal : (o : Option Refusal) → refusal_due airport state command ≡ o → MatchOption o (IsAsAsked airport state command block) (λ why. block ≡ Refused why) → IsSoughtBy line block
+      by_refusal None none asked = by_sought (none-due airport state command none) (sought_of airport state command) refl asked
+      by_refusal (Some why) e is = absurd (subst IsFound is told)
+
+  -- the rules for what is sought
+  sought-rules : (line : List ℕ) (block : Block) (s : Sought) → sought_by airport state line ≡ Some s → ((r : Rule) → Keeps airport state line block r) → (r : Rule) → KeepsSought r s block
+  sought-rules line block s by keeps rule.Reply = tt
+  sought-rules line block s by keeps rule.Walk = rw by at (keeps rule.Walk)
+  sought-rules line block s by keeps rule.Rows = rw by at (keeps rule.Rows)
+  sought-rules line block s by keeps rule.Start = rw by at (keeps rule.Start)
+  sought-rules line block s by keeps rule.Step = rw by at (keeps rule.Step)
+  sought-rules line block s by keeps rule.Target = rw by at (keeps rule.Target)
+
+  -- what passes tells the best walk that is sought, or that there is none
+  pub passed-best : (line : List ℕ) (block : Block) (after : State) → IsPassed airport state line block after → TellsBest airport state line block
+  passed-best line (Route name second steps labels) after passed =
+      let there = sought-there line (Route name second steps labels) tt (passed.keeps rule.Reply) in
+      let s = there.s in
+      let rules = sought-rules line (Route name second steps labels) s there.by passed.keeps in
+      let walk = rules rule.Walk in (
+        s,
+        there.by,
+        table-best s.conditions there.right.fit s.request s.under_way there.right.way steps labels walk.0
+            (route-table s name (second_of s.request steps) steps labels (λ r. subst (λ n. KeepsSought r s (Route name n steps labels)) (sym walk.1) (rules r))),
+        walk.1,
+      )
+  passed-best line (NoRoute labels) after passed =
+      let there = sought-there line (NoRoute labels) tt (passed.keeps rule.Reply) in
+      let s = there.s in
+      let rules = sought-rules line (NoRoute labels) s there.by passed.keeps in
+      (s, there.by, table-none s.conditions there.right.fit s.request s.under_way there.right.way labels (no_route-table s labels rules))
+  passed-best line (Refused why) after passed = tt
+  passed-best line (Filed name start end) after passed = tt
+  passed-best line (Cancelled name) after passed = tt
+  passed-best line (Windows segment windows) after passed = tt
+
+  -- and leaves the state sound
+  pub passed-sound : (line : List ℕ) (block : Block) (after : State) → IsPassed airport state line block after → IsSound airport after
+  passed-sound line (Route name second steps labels) after passed =
+      let there = sought-there line (Route name second steps labels) tt (passed.keeps rule.Reply) in
+      let walk = sought-rules line (Route name second steps labels) there.s there.by passed.keeps rule.Walk in
+      let is : after ≡ there.s.with_steps steps = rw there.by at passed.after_it in
+      subst (IsSound airport) (sym is) (there.right.stays_sound steps walk.0)
+  passed-sound line (NoRoute labels) after passed = subst (IsSound airport) (sym passed.after_it) sound
+  passed-sound line (Refused why) after passed = subst (IsSound airport) (sym passed.after_it) sound
+  passed-sound line (Filed name start end) after passed = (due-kept airport state sound line (Filed name start end) after passed.after_it).stays_sound
+  passed-sound line (Cancelled name) after passed = (due-kept airport state sound line (Cancelled name) after passed.after_it).stays_sound
+  passed-sound line (Windows segment windows) after passed = subst (IsSound airport) (sym passed.after_it) sound

@@ -1,0 +1,184 @@
+-- A line has one due reply: what carries a command out is one block and one state.
+use Rattle.std.proofs.Common.{◌≡◌, ℕ, ◌+◌, ◌-◌, ◌≤◌, max, ◌&&◌, cond, Bool, true, false, nat_lt, List, length, IsFalse, Option, Some, None, refl, sym, ◌∙◌, ap, subst}
+use Rattle.std.specs.Prelude.{MatchOption}
+use Rattle.std.proofs.lemmas.Bool.{le-ltb}
+use Rattle.taxi_base.specs.declared.numbers.Class.{Class}
+use Rattle.taxi_base.specs.declared.numbers.Node.{Node}
+use Rattle.taxi_base.specs.declared.numbers.Segment.{Segment}
+use Rattle.taxi_base.specs.declared.rows.Step.{Step}
+use Rattle.taxi_base.specs.declared.answers.Flight.{Flight}
+use Rattle.taxi_base.specs.declared.answers.Found.{Found}
+use Rattle.taxi_base.specs.declared.answers.Found.TheVariants as found
+use Rattle.taxi_base.specs.declared.answers.Request.{Request}
+use Rattle.taxi_base.specs.declared.answers.Request.TheVariants as request
+use Rattle.taxi_base.specs.declared.answers.Refusal.{Refusal}
+use Rattle.taxi_base.specs.declared.answers.Refusal.TheVariants as refusal
+use Rattle.taxi_base.specs.Airport.{Airport, IsWellFormed, layout_of, class_named, node_named, segment_named}
+use Rattle.taxi_base.specs.Windows.{Hold, is_free}
+use Rattle.taxi_base.specs.Walks.{Conditions, free_among, conditions_among, LeavesNodeWithin, ReachesNodeWithin, Resumes, begin_of, end_of}
+use Rattle.taxi_base.specs.Labels.{IsTable, IsExitBefore, IsEntryAfter, AnswersArrival, AnswersDeparture}
+use Rattle.taxi_base.specs.State.{State, with_flight, with_route, without, holds_in, step_begun, steps_done}
+use Rattle.taxi_base.specs.Again.{retargeted, IsTarget, after_steps, AnswersAgain}
+use Rattle.taxi_base.proofs.AirportLaws.{seconds-range}
+use Rattle.taxi_base.proofs.LabelLaws.{HasOneFirstStep, HasOneFirstStep-leaves, HasOneFirstStep-resumes, IsPickedArrival-same, IsPickedDeparture-same, IsTable-same}
+use Rattle.taxi_text.specs.declared.command.Command.{Command}
+use Rattle.taxi_text.specs.declared.command.Command.TheVariants as command
+use Rattle.taxi_text.specs.Commands.{command_of}
+use Rattle.certificate.specs.declared.block.Block.{Block}
+use Rattle.certificate.specs.Asked.{filed_steps, arrival_named, departure_named, AnswersRequest}
+use Rattle.certificate.specs.Refusals.{first_refusal}
+use Rattle.certificate.specs.CarriedOut.{Reply, IsOf, filed_reply, found_reply, routed_flight, IsRouted, IsRoutedAgain, cancelled_reply, windows_reply, IsCarriedOut}
+use Rattle.certificate.specs.Replies.{refused, is_built, IsDueTo, IsDue}
+
+-- what is found under one name is one thing
+one-some : {X : Type 0} (o : Option X) (x y : X) → o ≡ Some x → o ≡ Some y → x ≡ y
+one-some o x y a b = same x y (sym a ∙ b) where
+  same : {X : Type 0} (x y : X) → ◌≡◌ {A = Option X} (Some x) (Some y) → x ≡ y
+  same x y e = cc
+
+-- ---- what a search finds is one answer
+
+AnswersArrival-same : (c : Conditions) (Begins : Step → Type 0) (to : Node) → HasOneFirstStep c Begins → (f g : Found)
+    → AnswersArrival c Begins to f → AnswersArrival c Begins to g → f ≡ g
+AnswersArrival-same c Begins to one (found.Route steps labels) (found.Route others rows) a b =
+    let same : steps ≡ others = IsPickedArrival-same c Begins to one steps others a.1 b.1 in
+    let tables : labels ≡ rows =
+    IsTable-same (IsExitBefore c Begins (Some (end_of steps))) labels rows a.2 (subst (λ s. IsTable (IsExitBefore c Begins (Some (end_of s))) rows) (sym same) b.2) in
+    λ i. found.Route (same i) (tables i)
+AnswersArrival-same c Begins to one (found.Route steps labels) (found.NoRoute rows) a b = absurd (b.0 steps a.0.one)
+AnswersArrival-same c Begins to one (found.NoRoute labels) (found.Route others rows) a b = absurd (a.0 others b.0.one)
+AnswersArrival-same c Begins to one (found.NoRoute labels) (found.NoRoute rows) a b = ap found.NoRoute (IsTable-same (IsExitBefore c Begins None) labels rows a.1 b.1)
+
+AnswersDeparture-same : (c : Conditions) (from : Node) (Ends : Step → Type 0) (f g : Found)
+    → AnswersDeparture c from Ends f → AnswersDeparture c from Ends g → f ≡ g
+AnswersDeparture-same c from Ends (found.Route steps labels) (found.Route others rows) a b =
+    let same : steps ≡ others = IsPickedDeparture-same c Ends from steps others a.1 b.1 in
+    let tables : labels ≡ rows =
+    IsTable-same (IsEntryAfter c Ends (Some (begin_of steps))) labels rows a.2 (subst (λ s. IsTable (IsEntryAfter c Ends (Some (begin_of s))) rows) (sym same) b.2) in
+    λ i. found.Route (same i) (tables i)
+AnswersDeparture-same c from Ends (found.Route steps labels) (found.NoRoute rows) a b = absurd (b.0 steps a.0.one)
+AnswersDeparture-same c from Ends (found.NoRoute labels) (found.Route others rows) a b = absurd (a.0 others b.0.one)
+AnswersDeparture-same c from Ends (found.NoRoute labels) (found.NoRoute rows) a b = ap found.NoRoute (IsTable-same (IsEntryAfter c Ends None) labels rows a.1 b.1)
+
+-- no second from the horizon on is free
+free_among-past : (airport : Airport) (holds : List Hold) (s : Segment) (t : ℕ) → airport.horizon ≤ t → IsFalse (free_among airport holds s t)
+free_among-past airport holds s t past =
+    go (nat_lt s.0 (length airport.segments)) (is_free airport.conflicts airport.horizon holds s t) (rw (le-ltb t airport.horizon past) refl)
+  where
+    go : (a b : Bool) → IsFalse b → IsFalse (a && b)
+    go true b e = e
+    go false b e = refl
+
+module _ (airport : Airport) (well : IsWellFormed airport) (class : Class) (holds : List Hold) where
+  abbrev c : Conditions
+  c = conditions_among airport class holds
+
+  one_first_step : (node : Node) (earliest latest : ℕ) → HasOneFirstStep c (LeavesNodeWithin (layout_of airport) node earliest latest)
+  one_first_step node earliest latest =
+      HasOneFirstStep-leaves c (layout_of airport) node earliest latest (free_among-past airport holds) (λ s k e. (seconds-range airport class s k well e).0)
+
+  AnswersRequest-same : (request : Request) (f g : Found) → AnswersRequest c request f → AnswersRequest c request g → f ≡ g
+  AnswersRequest-same request.Filed f g a b = absurd a
+  AnswersRequest-same (request.Arrival from to time hold) f g a b =
+      AnswersArrival-same c (LeavesNodeWithin (layout_of airport) from time (time + hold)) to (one_first_step from time (time + hold)) f g a b
+  AnswersRequest-same (request.Departure from to time queue) f g a b =
+      AnswersDeparture-same c from (ReachesNodeWithin (layout_of airport) to (time - queue) time) f g a b
+
+  AnswersAgain-same : (old : List Step) (time : ℕ) (target : Node) (request : Request) (f g : Found)
+      → AnswersAgain c old time target request f → AnswersAgain c old time target request g → f ≡ g
+  AnswersAgain-same old time target request.Filed f g a b = absurd a
+  AnswersAgain-same old time target (request.Departure from to asked queue) f g a b =
+      AnswersDeparture-same c from (ReachesNodeWithin (layout_of airport) target (asked - queue) asked) f g a b
+  AnswersAgain-same old time target (request.Arrival from to asked hold) f g a b = go (step_begun time old) a b where
+    Leaves : Step → Type 0
+    Leaves = LeavesNodeWithin (layout_of airport) from (max asked time) (asked + hold)
+
+    GoesOn : Step → Found → Type 0
+    GoesOn begun h = (rest : Found) × (h ≡ after_steps (steps_done time old) rest) × AnswersArrival c (Resumes begun time) target rest
+
+    go : (o : Option Step) → MatchOption o (AnswersArrival c Leaves target f) (λ begun. GoesOn begun f) → MatchOption o (AnswersArrival c Leaves target g) (λ begun. GoesOn begun g) → f ≡ g
+    go None a b = AnswersArrival-same c Leaves target (one_first_step from (max asked time) (asked + hold)) f g a b
+    go (Some begun) a b =
+        let rests : a.0 ≡ b.0 = AnswersArrival-same c (Resumes begun time) target (HasOneFirstStep-resumes c begun time) a.0 b.0 a.2 b.2 in
+        a.1 ∙ ap (after_steps (steps_done time old)) rests ∙ sym b.1
+
+-- ---- a command is carried out in one way
+
+abbrev pub AreSame : Block → State → Block → State → Type 0
+AreSame block after other others = (block ≡ other) × (after ≡ others)
+
+module _ (block : Block) (after : State) (other : Block) (others : State) where
+  of_one : (reply : Reply) → IsOf reply block after → IsOf reply other others → AreSame block after other others
+  of_one reply a b = (a.0 ∙ sym b.0, a.1 ∙ sym b.1)
+
+  of_same : (p q : Reply) → p ≡ q → IsOf p block after → IsOf q other others → AreSame block after other others
+  of_same p q same a b = of_one p a (subst (λ (r : Reply). IsOf r other others) (sym same) b)
+
+  module _ (airport : Airport) (state : State) where
+    pub IsRouted-same : IsWellFormed airport → (name class : List ℕ) (asked : Option Request)
+        → IsRouted airport state name class asked block after → IsRouted airport state name class asked other others → AreSame block after other others
+    IsRouted-same well name class asked a b =
+        let classes : a.class ≡ b.class = one-some (class_named airport class) a.class b.class a.class_known b.class_known in
+        let requests : a.request ≡ b.request = one-some asked a.request b.request a.nodes_known b.nodes_known in
+        let answers : AnswersRequest (conditions_among airport a.class (holds_in airport state)) a.request b.found =
+        subst (λ r. AnswersRequest (conditions_among airport a.class (holds_in airport state)) r b.found) (sym requests)
+        (subst (λ k. AnswersRequest (conditions_among airport k (holds_in airport state)) b.request b.found) (sym classes) b.answers) in
+        let founds : a.found ≡ b.found = AnswersRequest-same airport well a.class (holds_in airport state) a.request a.found b.found a.answers answers in
+        of_same (found_reply state name a.request (λ steps. with_flight (routed_flight name a.class a.request steps) state) a.found)
+        (found_reply state name b.request (λ steps. with_flight (routed_flight name b.class b.request steps) state) b.found)
+        (λ i. found_reply state name (requests i) (λ steps. with_flight (routed_flight name (classes i) (requests i) steps) state) (founds i)) a.reply b.reply
+
+    -- where a request means one node
+    pub IsRoutedAgain-same : IsWellFormed airport → (name : List ℕ) (time : ℕ) (IsMeant : Request → Node → Type 0)
+        → ((request : Request) (m n : Node) → IsMeant request m → IsMeant request n → m ≡ n)
+        → IsRoutedAgain airport state name time IsMeant block after → IsRoutedAgain airport state name time IsMeant other others → AreSame block after other others
+    IsRoutedAgain-same well name time IsMeant one a b =
+        let flights : a.flight ≡ b.flight = one-some _ a.flight b.flight a.in_force b.in_force in
+        let meant : IsMeant a.flight.request b.target = subst (λ (f : Flight). IsMeant f.request b.target) (sym flights) b.meant in
+        let targets : a.target ≡ b.target = one a.flight.request a.target b.target a.meant meant in
+        let holds : List Hold = holds_in airport (without a.flight.name state) in
+        let answers : AnswersAgain (conditions_among airport a.flight.class holds) a.flight.steps time a.target a.flight.request b.found =
+        subst (λ n. AnswersAgain (conditions_among airport a.flight.class holds) a.flight.steps time n a.flight.request b.found) (sym targets)
+        (subst (λ (f : Flight). AnswersAgain (conditions_among airport f.class (holds_in airport (without f.name state))) f.steps time b.target f.request b.found) (sym flights) b.answers) in
+        let founds : a.found ≡ b.found = AnswersAgain-same airport well a.flight.class holds a.flight.steps time a.target a.flight.request a.found b.found a.answers answers in
+        of_same (found_reply state name a.flight.request (λ steps. with_route a.flight (retargeted a.flight.request a.target) steps state) a.found)
+        (found_reply state name b.flight.request (λ steps. with_route b.flight (retargeted b.flight.request b.target) steps state) b.found)
+        (λ i. found_reply state name (flights i).request (λ steps. with_route (flights i) (retargeted (flights i).request (targets i)) steps state) (founds i)) a.reply b.reply
+
+    one-target : (request : Request) (m n : Node) → IsTarget request m → IsTarget request n → m ≡ n
+    one-target request.Filed m n a b = absurd a
+    one-target (request.Arrival from to time hold) m n a b = sym a ∙ b
+    one-target (request.Departure from to time queue) m n a b = sym a ∙ b
+
+    pub IsCarriedOut-same : IsWellFormed airport → (c : Command) → IsCarriedOut airport state c block after → IsCarriedOut airport state c other others → AreSame block after other others
+    IsCarriedOut-same well (command.File flight class start filed) a b =
+        let classes : a.class ≡ b.class = one-some (class_named airport class) a.class b.class a.class_known b.class_known in
+        let steps : a.steps ≡ b.steps = one-some (filed_steps airport start filed) a.steps b.steps a.steps_known b.steps_known in
+        of_same (filed_reply state flight a.class a.steps) (filed_reply state flight b.class b.steps) (λ i. filed_reply state flight (classes i) (steps i)) a.reply b.reply
+    IsCarriedOut-same well (command.Arrival flight class from to time hold) a b = IsRouted-same well flight class (arrival_named airport from to time hold) a b
+    IsCarriedOut-same well (command.Departure flight class from to time queue) a b = IsRouted-same well flight class (departure_named airport from to time queue) a b
+    IsCarriedOut-same well (command.Cancel flight) a b = of_one (cancelled_reply state flight) a b
+    IsCarriedOut-same well (command.Reroute flight time) a b = IsRoutedAgain-same well flight time IsTarget one-target a b
+    IsCarriedOut-same well (command.Divert flight time node) a b =
+        IsRoutedAgain-same well flight time (λ asked target. node_named airport node ≡ Some target) (λ asked m n p q. one-some (node_named airport node) m n p q) a b
+    IsCarriedOut-same well (command.Windows segment) a b =
+        let segments : a.segment ≡ b.segment = one-some (segment_named airport segment) a.segment b.segment a.known b.known in
+        of_same (windows_reply airport state a.segment) (windows_reply airport state b.segment) (ap (windows_reply airport state) segments) a.reply b.reply
+    IsCarriedOut-same well (command.Occupancy segment) a b = absurd a
+    IsCarriedOut-same well command.Timetable a b = absurd a
+
+    IsDueTo-same : IsWellFormed airport → (c : Command) → IsDueTo airport state c block after → IsDueTo airport state c other others → AreSame block after other others
+    IsDueTo-same well c a b = go (cond (is_built c) (first_refusal airport state c) (Some refusal.NotBuilt)) a b where
+      go : (o : Option Refusal) → MatchOption o (IsCarriedOut airport state c block after) (λ why. IsOf (refused state why) block after)
+          → MatchOption o (IsCarriedOut airport state c other others) (λ why. IsOf (refused state why) other others) → AreSame block after other others
+      go None a b = IsCarriedOut-same well c a b
+      go (Some why) a b = of_one (refused state why) a b
+
+    -- a line is due one reply
+    pub IsDue-same : IsWellFormed airport → (line : List ℕ) → IsDue airport state line block after → IsDue airport state line other others → AreSame block after other others
+    unfolding IsDue
+    IsDue-same well line a b = go (command_of line) a b where
+      go : (o : Option Command) → MatchOption o (IsOf (refused state refusal.BadLine) block after) (λ c. IsDueTo airport state c block after)
+          → MatchOption o (IsOf (refused state refusal.BadLine) other others) (λ c. IsDueTo airport state c other others) → AreSame block after other others
+      go None a b = of_one (refused state refusal.BadLine) a b
+      go (Some c) a b = IsDueTo-same well c a b

@@ -1,0 +1,354 @@
+-- The block that is due passes, and what passes is the best.
+use Rattle.std.proofs.Common.{◌≡◌, ℕ, ◌<◌, cond, Bool, true, false, List, inl, inr, Option, Some, None, refl, sym, subst, arith}
+use Rattle.std.specs.Prelude.{MatchOption, IsTrue}
+use Rattle.std.proofs.lemmas.List.Elements.{All-contains}
+use Rattle.taxi_base.specs.declared.numbers.Class.{Class}
+use Rattle.taxi_base.specs.declared.numbers.Node.{Node}
+use Rattle.taxi_base.specs.declared.rows.Step.{Step}
+use Rattle.taxi_base.specs.declared.rows.LabelRow.{LabelRow}
+use Rattle.taxi_base.specs.declared.answers.Flight.{Flight}
+use Rattle.taxi_base.specs.declared.answers.Found.{Found}
+use Rattle.taxi_base.specs.declared.answers.Found.TheVariants as found
+use Rattle.taxi_base.specs.declared.answers.Request.{Request}
+use Rattle.taxi_base.specs.declared.answers.Request.TheVariants as request
+use Rattle.taxi_base.specs.declared.answers.Refusal.{Refusal}
+use Rattle.taxi_base.specs.declared.answers.Refusal.TheVariants as refusal
+use Rattle.taxi_base.specs.Airport.{Airport, IsWellFormed, class_named, node_named}
+use Rattle.taxi_base.specs.Walks.{Conditions, IsFeasibleWalk, Meets, begin_of, end_of}
+use Rattle.taxi_base.specs.State.{State, flight_named, with_flight, with_route, holds_in, without, conditions_of, IsFrozenWalk, IsSound}
+use Rattle.taxi_base.specs.Faults.{conditions_in}
+use Rattle.taxi_base.specs.Again.{retargeted, IsTarget, MayGoAgain, AnswersAgain}
+use Rattle.taxi_base.proofs.AgainLaws.{again-best, old-frozen}
+use Rattle.taxi_base.proofs.WalkLaws.{Meets-IsFeasibleWalk}
+use Rattle.taxi_text.specs.declared.command.Command.{Command}
+use Rattle.taxi_text.specs.declared.command.Command.TheVariants as command
+use Rattle.taxi_text.specs.Commands.{command_of}
+use Rattle.walk_labels.specs.Places.{AreFit}
+use Rattle.walk_labels.proofs.FitConditions.{among_fit}
+use Rattle.certificate.specs.declared.block.Block.{Block}
+use Rattle.certificate.specs.declared.block.Block.TheVariants.{Refused, Filed, Cancelled, Route, NoRoute, Windows}
+use Rattle.certificate.specs.declared.rule.Rule.{Rule}
+use Rattle.certificate.specs.declared.rule.Rule.TheVariants as rule
+use Rattle.certificate.specs.Asked.{arrival_named, departure_named, AnswersRequest}
+use Rattle.certificate.specs.Refusals.{first_refusal}
+use Rattle.certificate.specs.CarriedOut.{Reply, IsOf, second_of, found_reply, routed_flight, IsRouted, IsRoutedAgain, windows_among, IsCarriedOut}
+use Rattle.certificate.specs.Replies.{refused, is_built, refusal_due, IsDueTo, IsDue, IsReply, as_due, no_memory}
+use Rattle.certificate.specs.Sought.{UnderWay, Sought, sought_new, sought_again, sought_by_class, sought_of, sought_by, search_of, IsWalkOnFor}
+use Rattle.certificate.specs.TableRules.{KeepsTable}
+use Rattle.certificate.specs.Passes.{IsFormOf, KeepsReply, KeepsWalk, OfTable, KeepsSought, Keeps, IsAfter, IsPassed}
+use Rattle.certificate.proofs.FlightLaws.{flight_named-there}
+use Rattle.certificate.proofs.AgainRefusals.{reroute-may, divert-before}
+use Rattle.certificate.proofs.FoundLaws.{found-meets, best-one, second-retargeted}
+use Rattle.certificate.proofs.TablesKept.{HasKeptTable, new-table, again-table, IsBefore}
+
+-- a command that is due no refusal is refused nothing
+pub none-due : (airport : Airport) (state : State) (c : Command) → refusal_due airport state c ≡ None → first_refusal airport state c ≡ None
+none-due airport state c none = go (is_built c) (first_refusal airport state c) none where
+  go : (b : Bool) (o : Option Refusal) → cond b o (Some refusal.NotBuilt) ≡ None → o ≡ None
+  go true o e = e
+  go false o e = absurd (cc e)
+
+-- ---- what passes where a walk is sought
+
+-- the steps afterwards
+abbrev AfterOf : State → Sought → Block → State → Type 0
+AfterOf state s (Route name second steps labels) after = after ≡ s.with_steps steps
+AfterOf state s _ after = after ≡ state
+
+record PassesSought (state : State) (s : Sought) (block : Block) (after : State) : Type 0 where
+  form : IsFormOf s block
+  walk : KeepsWalk s block
+  table : OfTable (KeepsTable s.conditions) s block
+  after_it : AfterOf state s block after
+
+-- ---- the rules for a table, at once and one after the other
+
+match-weaker : {X : Type 0} (o : Option X) (P Q : X → Type 0) → ((x : X) → P x → Q x) → MatchOption o ⊥ P → MatchOption o ⊥ Q
+match-weaker None P Q weaker h = h
+match-weaker (Some x) P Q weaker h = weaker x h
+
+match-four : {X : Type 0} (o : Option X) (P Q R S : X → Type 0) → MatchOption o ⊥ P → MatchOption o ⊥ Q → MatchOption o ⊥ R → MatchOption o ⊥ S
+    → MatchOption o ⊥ (λ x. P x × Q x × R x × S x)
+match-four None P Q R S p q r s = p
+match-four (Some x) P Q R S p q r s = (p, q, r, s)
+
+-- a block with a table, or none
+sought-keeps : (s : Sought) (block : Block) → KeepsWalk s block → OfTable (KeepsTable s.conditions) s block → (r : Rule) → KeepsSought r s block
+sought-keeps s block walk table rule.Reply = tt
+sought-keeps s block walk table rule.Walk = walk
+sought-keeps s (Route name second steps labels) walk table rule.Rows = match-weaker (search_of s.request s.under_way) _ _ (λ x k. k.rows_kept) table
+sought-keeps s (Route name second steps labels) walk table rule.Start = match-weaker (search_of s.request s.under_way) _ _ (λ x k. k.start_kept) table
+sought-keeps s (Route name second steps labels) walk table rule.Step = match-weaker (search_of s.request s.under_way) _ _ (λ x k. k.step_kept) table
+sought-keeps s (Route name second steps labels) walk table rule.Target = match-weaker (search_of s.request s.under_way) _ _ (λ x k. k.target_kept) table
+sought-keeps s (NoRoute labels) walk table rule.Rows = match-weaker (search_of s.request s.under_way) _ _ (λ x k. k.rows_kept) table
+sought-keeps s (NoRoute labels) walk table rule.Start = match-weaker (search_of s.request s.under_way) _ _ (λ x k. k.start_kept) table
+sought-keeps s (NoRoute labels) walk table rule.Step = match-weaker (search_of s.request s.under_way) _ _ (λ x k. k.step_kept) table
+sought-keeps s (NoRoute labels) walk table rule.Target = match-weaker (search_of s.request s.under_way) _ _ (λ x k. k.target_kept) table
+sought-keeps s (Refused why) walk table rule.Rows = tt
+sought-keeps s (Refused why) walk table rule.Start = tt
+sought-keeps s (Refused why) walk table rule.Step = tt
+sought-keeps s (Refused why) walk table rule.Target = tt
+sought-keeps s (Filed name start end) walk table rule.Rows = tt
+sought-keeps s (Filed name start end) walk table rule.Start = tt
+sought-keeps s (Filed name start end) walk table rule.Step = tt
+sought-keeps s (Filed name start end) walk table rule.Target = tt
+sought-keeps s (Cancelled name) walk table rule.Rows = tt
+sought-keeps s (Cancelled name) walk table rule.Start = tt
+sought-keeps s (Cancelled name) walk table rule.Step = tt
+sought-keeps s (Cancelled name) walk table rule.Target = tt
+sought-keeps s (Windows segment windows) walk table rule.Rows = tt
+sought-keeps s (Windows segment windows) walk table rule.Start = tt
+sought-keeps s (Windows segment windows) walk table rule.Step = tt
+sought-keeps s (Windows segment windows) walk table rule.Target = tt
+
+pub route-table : (s : Sought) (name : List ℕ) (second : ℕ) (steps : List Step) (labels : List LabelRow) → ((r : Rule) → KeepsSought r s (Route name second steps labels))
+    → HasKeptTable s.conditions (search_of s.request s.under_way) (Some second) labels
+route-table s name second steps labels keeps =
+    match-weaker (search_of s.request s.under_way) _ _ (λ x k. record { rows_kept = k.0; start_kept = k.1; step_kept = k.2; target_kept = k.3 })
+    (match-four (search_of s.request s.under_way) _ _ _ _ (keeps rule.Rows) (keeps rule.Start) (keeps rule.Step) (keeps rule.Target))
+
+pub no_route-table : (s : Sought) (labels : List LabelRow) → ((r : Rule) → KeepsSought r s (NoRoute labels))
+    → HasKeptTable s.conditions (search_of s.request s.under_way) None labels
+no_route-table s labels keeps =
+    match-weaker (search_of s.request s.under_way) _ _ (λ x k. record { rows_kept = k.0; start_kept = k.1; step_kept = k.2; target_kept = k.3 })
+    (match-four (search_of s.request s.under_way) _ _ _ _ (keeps rule.Rows) (keeps rule.Start) (keeps rule.Step) (keeps rule.Target))
+
+module _ (airport : Airport) (state : State) (well : IsWellFormed airport) (sound : IsSound airport state) where
+  -- ---- what is carried out for a new flight
+
+  of-reply : (s : Sought) (reply : Reply) (block : Block) (after : State) → IsOf reply block after → PassesSought state s reply.block reply.after → PassesSought state s block after
+  of-reply s reply block after of passes = rw (of.0, of.1) passes
+
+  new-sought : (name class_name : List ℕ) (asked : Option Request) (class : Class) (request : Request) → class_named airport class_name ≡ Some class → asked ≡ Some request
+      → sought_by_class airport state name class_name asked ≡ Some (sought_new airport state name class request)
+  new-sought name class_name asked class request known named = rw (known, named) refl
+
+  new-fit : (class : Class) → AreFit (conditions_in airport class state)
+  new-fit class = among_fit airport class (holds_in airport state) well
+
+  new-passes : (name class_name : List ℕ) (asked : Option Request) (block : Block) (after : State) → IsRouted airport state name class_name asked block after
+      → (s : Sought) × (sought_by_class airport state name class_name asked ≡ Some s) × PassesSought state s block after
+  new-passes name class_name asked block after done =
+      (s, new-sought name class_name asked done.class done.request done.class_known done.nodes_known, go done.found done.answers done.reply)
+    where
+      s : Sought
+      s = sought_new airport state name done.class done.request
+
+      go : (answer : Found) → AnswersRequest (conditions_in airport done.class state) done.request answer
+          → IsOf (found_reply state name done.request (λ steps. with_flight (routed_flight name done.class done.request steps) state) answer) block after → PassesSought state s block after
+      go (found.Route steps labels) answers of =
+          of-reply s (record { block = Route name (second_of done.request steps) steps labels; after = with_flight (routed_flight name done.class done.request steps) state }) block after of (record {
+            form = refl;
+            walk = (found-meets (conditions_in airport done.class state) done.request steps labels answers, refl);
+            table = new-table (conditions_in airport done.class state) (new-fit done.class) done.request (found.Route steps labels) answers;
+            after_it = refl;
+          })
+      go (found.NoRoute labels) answers of =
+          of-reply s (record { block = NoRoute labels; after = state }) block after of (record {
+            form = refl;
+            walk = tt;
+            table = new-table (conditions_in airport done.class state) (new-fit done.class) done.request (found.NoRoute labels) answers;
+            after_it = refl;
+          })
+
+  -- ---- what is carried out for a flight in force
+
+  module _ (name : List ℕ) (time : ℕ) (flight : Flight) (in_force : flight_named name state.flights ≡ Some flight) where
+    abbrev c : Conditions
+    c = conditions_of airport state flight
+
+    abbrev way : UnderWay
+    way = record { steps = flight.steps; time = time }
+
+    fit : AreFit c
+    fit = among_fit airport flight.class (holds_in airport (without flight.name state)) well
+
+    met : Meets c flight.request flight.steps
+    met = All-contains (λ f. Meets (conditions_of airport state f) f.request f.steps) state.flights flight sound.requests (flight_named-there name state.flights flight in_force)
+
+    walk : IsFeasibleWalk c flight.steps
+    walk = Meets-IsFeasibleWalk c flight.request flight.steps met
+
+    -- what is meant of a request with another target
+    frozen-meant : (target : Node) (r : Request) (steps : List Step) → IsFrozenWalk c flight.steps time target r steps → IsWalkOnFor c (retargeted r target) way steps
+    frozen-meant target request.Filed steps frozen = absurd frozen
+    frozen-meant target (request.Arrival from to asked hold) steps frozen = frozen
+    frozen-meant target (request.Departure from to asked queue) steps frozen = frozen
+
+    again-passes : (may_be_none : Bool) (target : Node) → IsBefore flight.steps time flight.request → (answer : Found) → AnswersAgain c flight.steps time target flight.request answer
+        → (((labels : List LabelRow) → answer ≡ found.NoRoute labels → IsTrue may_be_none)) → (block : Block) (after : State)
+        → IsOf (found_reply state name flight.request (λ steps. with_route flight (retargeted flight.request target) steps state) answer) block after
+        → PassesSought state (sought_again airport state name time may_be_none flight (retargeted flight.request target)) block after
+    again-passes may_be_none target before (found.Route steps labels) answers none block after of =
+        let second = second-retargeted flight.request target steps in
+        of-reply (sought_again airport state name time may_be_none flight (retargeted flight.request target))
+        (record { block = Route name (second_of flight.request steps) steps labels; after = with_route flight (retargeted flight.request target) steps state }) block after of (record {
+          form = refl;
+          walk = (
+            frozen-meant target flight.request steps
+                (best-one flight.request (IsFrozenWalk c flight.steps time target flight.request) steps (again-best c flight.steps time target walk flight.request (found.Route steps labels) answers)),
+            second,
+          );
+          table = subst (λ n. HasKeptTable c (search_of (retargeted flight.request target) (Some way)) (Some n) labels) second
+              (again-table c fit flight.steps walk time target flight.request before (found.Route steps labels) answers);
+          after_it = refl;
+        })
+    again-passes may_be_none target before (found.NoRoute labels) answers none block after of =
+        of-reply (sought_again airport state name time may_be_none flight (retargeted flight.request target)) (record { block = NoRoute labels; after = state }) block after of (record {
+          form = none labels refl;
+          walk = tt;
+          table = again-table c fit flight.steps walk time target flight.request before (found.NoRoute labels) answers;
+          after_it = refl;
+        })
+
+    -- a reroute is never answered that there is no walk: the old steps are one
+    old-none : (target : Node) → MayGoAgain time flight.request flight.steps → IsTarget flight.request target → (labels : List LabelRow)
+        → AnswersAgain c flight.steps time target flight.request (found.NoRoute labels) → ⊥
+    old-none target may same labels answers =
+        again-best c flight.steps time target walk flight.request (found.NoRoute labels) answers flight.steps
+        (old-frozen c flight.steps time target flight.request met may same)
+
+    same-request : (r : Request) (target : Node) → IsTarget r target → retargeted r target ≡ r
+    same-request request.Filed target same = refl
+    same-request (request.Arrival from to asked hold) target same = λ i. request.Arrival from (sym same i) asked hold
+    same-request (request.Departure from to asked queue) target same = λ i. request.Departure from (sym same i) asked queue
+
+    may-before : (r : Request) → MayGoAgain time r flight.steps → IsBefore flight.steps time r
+    may-before request.Filed may = tt
+    may-before (request.Arrival from to asked hold) may = omega (arith, may)
+    may-before (request.Departure from to asked queue) may = tt
+
+    ended-before : (r : Request) → time < end_of flight.steps → IsBefore flight.steps time r
+    ended-before request.Filed before = tt
+    ended-before (request.Arrival from to asked hold) before = omega (arith, before)
+    ended-before (request.Departure from to asked queue) before = tt
+
+  reroute-passes : (name : List ℕ) (time : ℕ) (block : Block) (after : State) → first_refusal airport state (command.Reroute name time) ≡ None
+      → IsRoutedAgain airport state name time IsTarget block after
+      → (s : Sought) × (sought_of airport state (command.Reroute name time) ≡ Some s) × PassesSought state s block after
+  reroute-passes name time block after none done =
+      let flight = done.flight in
+      let may = reroute-may airport state name time flight done.in_force none in
+      let same = same-request name time flight done.in_force flight.request done.target done.meant in (
+        sought_again airport state name time false flight flight.request,
+        rw done.in_force refl,
+        subst (λ r. PassesSought state (sought_again airport state name time false flight r) block after) same
+            (again-passes name time flight done.in_force false done.target (may-before name time flight done.in_force flight.request may) done.found done.answers
+            (λ labels e. absurd (old-none name time flight done.in_force done.target may done.meant labels
+            (subst (AnswersAgain (conditions_of airport state flight) flight.steps time done.target flight.request) e done.answers)))
+            block after done.reply),
+      )
+
+  divert-passes : (name : List ℕ) (time : ℕ) (node : List ℕ) (block : Block) (after : State) → first_refusal airport state (command.Divert name time node) ≡ None
+      → IsRoutedAgain airport state name time (λ asked target. node_named airport node ≡ Some target) block after
+      → (s : Sought) × (sought_of airport state (command.Divert name time node) ≡ Some s) × PassesSought state s block after
+  divert-passes name time node block after none done =
+      let flight = done.flight in (
+        sought_again airport state name time true flight (retargeted flight.request done.target),
+        rw (done.in_force, done.meant) refl,
+        again-passes name time flight done.in_force true done.target
+            (ended-before name time flight done.in_force flight.request (divert-before airport state name time flight done.in_force node none)) done.found done.answers
+            (λ labels e. refl) block after done.reply,
+      )
+
+  -- ---- the due block passes
+
+  keeps-other : (line : List ℕ) (block : Block) → ((s : Sought) (r : Rule) → KeepsSought r s block) → KeepsReply airport state line block → (r : Rule) → Keeps airport state line block r
+  keeps-other line block others reply r = go (sought_by airport state line) refl r where
+    go : (o : Option Sought) → sought_by airport state line ≡ o → (r : Rule) → Keeps airport state line block r
+    go o e rule.Reply = reply
+    go None e rule.Walk = rw e tt
+    go None e rule.Rows = rw e tt
+    go None e rule.Start = rw e tt
+    go None e rule.Step = rw e tt
+    go None e rule.Target = rw e tt
+    go (Some s) e rule.Walk = rw e (others s rule.Walk)
+    go (Some s) e rule.Rows = rw e (others s rule.Rows)
+    go (Some s) e rule.Start = rw e (others s rule.Start)
+    go (Some s) e rule.Step = rw e (others s rule.Step)
+    go (Some s) e rule.Target = rw e (others s rule.Target)
+
+  refused-keeps : (why : Refusal) (s : Sought) (r : Rule) → KeepsSought r s (Refused why)
+  refused-keeps why s rule.Reply = tt
+  refused-keeps why s rule.Walk = tt
+  refused-keeps why s rule.Rows = tt
+  refused-keeps why s rule.Start = tt
+  refused-keeps why s rule.Step = tt
+  refused-keeps why s rule.Target = tt
+
+  module _ (line : List ℕ) (block : Block) (after : State) where
+    refused-passes : (why : Refusal) → IsOf (refused state why) block after → KeepsReply airport state line block → IsPassed airport state line block after
+    refused-passes why of reply = record {
+      keeps = keeps-other line block (λ s r. subst (KeepsSought r s) (sym of.0) (refused-keeps why s r)) reply;
+      after_it = subst (λ b. IsAfter airport state line b after) (sym of.0) of.1;
+    }
+
+    module _ (c : Command) (read : command_of line ≡ Some c) (none : refusal_due airport state c ≡ None) where
+      sought-after : (s : Sought) → sought_by airport state line ≡ Some s → (b : Block) → IsFormOf s b → AfterOf state s b after → IsAfter airport state line b after
+      sought-after s by (Route name second steps labels) form is = rw by is
+      sought-after s by (NoRoute labels) form is = is
+      sought-after s by (Refused why) form is = absurd form
+      sought-after s by (Filed name start end) form is = absurd form
+      sought-after s by (Cancelled name) form is = absurd form
+      sought-after s by (Windows segment windows) form is = absurd form
+
+      sought-passes : (s : Sought) × (sought_of airport state c ≡ Some s) × PassesSought state s block after → IsPassed airport state line block after
+      sought-passes p =
+          let by : sought_by airport state line ≡ Some p.0 = rw read p.1 in
+          record {
+            keeps = keeps-by p.0 by (inr (rw (read, none, p.1) p.2.form)) (sought-keeps p.0 block p.2.walk p.2.table);
+            after_it = sought-after p.0 by block p.2.form p.2.after_it;
+          }
+        where
+          keeps-by : (s : Sought) → sought_by airport state line ≡ Some s → KeepsReply airport state line block → ((r : Rule) → KeepsSought r s block) → (r : Rule) → Keeps airport state line block r
+          keeps-by s by reply others rule.Reply = reply
+          keeps-by s by reply others rule.Walk = rw by (others rule.Walk)
+          keeps-by s by reply others rule.Rows = rw by (others rule.Rows)
+          keeps-by s by reply others rule.Start = rw by (others rule.Start)
+          keeps-by s by reply others rule.Step = rw by (others rule.Step)
+          keeps-by s by reply others rule.Target = rw by (others rule.Target)
+
+    -- what answers a command that seeks no walk
+    plain-passes : (told : Block) → block ≡ told → ((s : Sought) (r : Rule) → KeepsSought r s told) → IsAfter airport state line told after → KeepsReply airport state line block
+        → IsPassed airport state line block after
+    plain-passes told is others after_told reply = record {
+      keeps = keeps-other line block (λ s r. subst (KeepsSought r s) (sym is) (others s r)) reply;
+      after_it = subst (λ b. IsAfter airport state line b after) (sym is) after_told;
+    }
+
+    carried-passes : (c : Command) → command_of line ≡ Some c → refusal_due airport state c ≡ None → first_refusal airport state c ≡ None → IsDue airport state line block after
+        → IsCarriedOut airport state c block after → IsPassed airport state line block after
+    carried-passes (command.File flight class start steps) read none first due done =
+        plain-passes (Filed flight (begin_of done.steps) (end_of done.steps)) done.reply.0 (λ s. sought-keeps s (Filed flight (begin_of done.steps) (end_of done.steps)) tt tt)
+        (subst (λ b. IsDue airport state line b after) done.reply.0 due) (inr (rw (read, none) (after, done)))
+    carried-passes (command.Arrival flight class from to time hold) read none first due done =
+        sought-passes (command.Arrival flight class from to time hold) read none (new-passes flight class (arrival_named airport from to time hold) block after done)
+    carried-passes (command.Departure flight class from to time queue) read none first due done =
+        sought-passes (command.Departure flight class from to time queue) read none (new-passes flight class (departure_named airport from to time queue) block after done)
+    carried-passes (command.Cancel flight) read none first due done =
+        plain-passes (Cancelled flight) done.0 (λ s. sought-keeps s (Cancelled flight) tt tt) (subst (λ b. IsDue airport state line b after) done.0 due) (inr (rw (read, none) (after, done)))
+    carried-passes (command.Reroute flight time) read none first due done =
+        sought-passes (command.Reroute flight time) read none (reroute-passes flight time block after first done)
+    carried-passes (command.Divert flight time node) read none first due done =
+        sought-passes (command.Divert flight time node) read none (divert-passes flight time node block after first done)
+    carried-passes (command.Windows segment) read none first due done =
+        plain-passes (Windows done.segment (windows_among airport state done.segment)) done.reply.0 (λ s. sought-keeps s (Windows done.segment (windows_among airport state done.segment)) tt tt)
+        done.reply.1 (inr (rw (read, none) (after, done)))
+    carried-passes (command.Occupancy segment) read none first due done = absurd done
+    carried-passes command.Timetable read none first due done = absurd done
+
+    pub due-passes : IsDue airport state line block after → IsPassed airport state line block after
+    unfolding IsDue
+    due-passes due = go (command_of line) refl due where
+      go : (o : Option Command) → command_of line ≡ o → MatchOption o (IsOf (refused state refusal.BadLine) block after) (λ c. IsDueTo airport state c block after) → IsPassed airport state line block after
+      go None read of = refused-passes refusal.BadLine of (inr (rw read of.0))
+      go (Some c) read due_to = by (refusal_due airport state c) refl due_to where
+        by : (o : Option Refusal) → refusal_due airport state c ≡ o → MatchOption o (IsCarriedOut airport state c block after) (λ why. IsOf (refused state why) block after) → IsPassed airport state line block after
+        by None none done = carried-passes c read none (none-due airport state c none) due done
+        by (Some why) is of = refused-passes why of (inr (rw (read, is) of.0))
+
+-- a reply to a line passes
+pub reply-passes : (airport : Airport) (state : State) (line : List ℕ) (block : Block) (after : State) → IsWellFormed airport → IsSound airport state
+    → IsReply airport state line block after → IsPassed airport state line block after
+reply-passes airport state line _ _ well sound (as_due block after due) = due-passes airport state well sound line block after due
+reply-passes airport state line _ _ well sound (no_memory other) = refused-passes airport state well sound line (Refused refusal.Memory) state refusal.Memory (refl, refl) (inl (other, refl))

@@ -1,0 +1,313 @@
+-- The blocks that are due have texts, in an airport that keeps the rules: no number in them is past the horizon.
+use Rattle.std.proofs.Common.{◌≡◌, ℕ, ◌+◌, ◌<◌, ◌≤◌, cond, not, nat_lt, Bool, true, false, List, [], ◌∷◌, length, Option, Some, None, option_map, option_and_then, IsFalse, refl, sym, subst, arith}
+use Rattle.std.specs.Prelude.{IfSome, MatchOption, All}
+use Rattle.std.specs.Option.{option_map_or}
+use Rattle.std.proofs.lemmas.Bool.{and_parts, leb-true, ltb-true}
+use Rattle.std.proofs.lemmas.List.Elements.{All-weaker, All-contains}
+use Rattle.taxi_base.specs.declared.numbers.Class.{Class}
+use Rattle.taxi_base.specs.declared.numbers.Arc.{Arc}
+use Rattle.taxi_base.specs.declared.numbers.Node.{Node}
+use Rattle.taxi_base.specs.declared.numbers.Segment.{Segment}
+use Rattle.taxi_base.specs.declared.rows.Step.{Step}
+use Rattle.taxi_base.specs.declared.rows.LabelRow.{LabelRow}
+use Rattle.taxi_base.specs.declared.answers.StepCause.{StepCause}
+use Rattle.taxi_base.specs.declared.answers.StepCause.TheVariants.{ClassBarred, BadTurn, TooFast, PastHorizon, Taken}
+use Rattle.taxi_base.specs.declared.answers.StepFault.{StepFault}
+use Rattle.taxi_base.specs.declared.answers.Flight.{Flight}
+use Rattle.taxi_base.specs.declared.answers.Found.{Found}
+use Rattle.taxi_base.specs.declared.answers.Found.TheVariants as found
+use Rattle.taxi_base.specs.declared.answers.Request.{Request}
+use Rattle.taxi_base.specs.declared.answers.Refusal.{Refusal}
+use Rattle.taxi_base.specs.declared.answers.Refusal.TheVariants as refusal
+use Rattle.taxi_base.specs.Airport.{Airport, IsWellFormed, segment_of, seconds, class_named, node_named}
+use Rattle.taxi_base.specs.Windows.{Hold}
+use Rattle.taxi_base.specs.Walks.{Conditions, free_among, hold_under, IsFeasibleWalk, Meets, begin_of, end_of}
+use Rattle.taxi_base.specs.State.{State, flight_named, with_flight, with_route, without, holds_in, conditions_of, IsSound}
+use Rattle.taxi_base.specs.Again.{retargeted, IsTarget, AnswersAgain}
+use Rattle.taxi_base.specs.Faults.{first_taken, holder_at, taken_by, conditions_in, may_follow, cause_of, fault_after, route_fault, taken_cause}
+use Rattle.taxi_base.proofs.FaultLaws.{first_taken-Some, route_fault-None}
+use Rattle.taxi_base.proofs.WalkLaws.{conditions_among-bounded, Meets-IsFeasibleWalk}
+use Rattle.taxi_text.specs.declared.command.FiledStep.{FiledStep}
+use Rattle.taxi_text.specs.declared.command.Command.{Command}
+use Rattle.taxi_text.specs.declared.command.Command.TheVariants as command
+use Rattle.taxi_text.specs.Commands.{command_of}
+use Rattle.certificate.specs.declared.block.Block.{Block}
+use Rattle.certificate.specs.declared.block.Block.TheVariants.{Refused, Filed, Cancelled, Route, NoRoute, Windows}
+use Rattle.certificate.specs.Printable.{IsShort, IsName, IsPrintableCause, IsPrintableRefusal, IsPrintableStep, IsPrintableWindow, IsPrintable}
+use Rattle.certificate.specs.Asked.{filed_steps, IsInGrammar, arrival_named, departure_named, AnswersRequest}
+use Rattle.certificate.specs.Refusals.{refused_if, first_of, of_flight, not_routed, not_arrival, already_done, already_moving, in_force, unknown_class, unknown_node, no_runway, no_stand, unknown_segment, unknown_arc, not_in_force, full, step_fails, is_filed, is_departure, first_refusal}
+use Rattle.certificate.specs.CarriedOut.{Reply, IsOf, filed_reply, IsFiled, second_of, found_reply, routed_flight, IsRouted, IsRoutedAgain, cancelled_reply, windows_among, windows_reply, IsCarriedOut}
+use Rattle.certificate.specs.Replies.{refused, is_built, IsDueTo, IsDue, HaveNames, DoesAsItSays}
+use Rattle.certificate.proofs.FiledLaws.{filed_steps-length, filed_steps-arcs, filed_steps-joined}
+use Rattle.certificate.proofs.FlightLaws.{flight_named-there}
+use Rattle.certificate.proofs.HolderNames.{holder_at-name, with_flight-names, without-names}
+use Rattle.certificate.proofs.FoundLaws.{walk-end, walk-begin, walk-second, walk-some, walk-count, walk-printable, found-meets, found_again-meets, ArePrintableLabels, found-printable, found_again-printable}
+use Rattle.certificate.proofs.GrammarLaws.{command_of-in_grammar}
+use Rattle.certificate.proofs.RefusalLaws.{none-fails, file-does_not_fail}
+use Rattle.certificate.proofs.WindowsTold.{windows_among-by, windows_among-count, segment_named-exists}
+
+module _ (airport : Airport) (state : State) (well : IsWellFormed airport) (names : HaveNames state) (sound : IsSound airport state) where
+  number : (n : ℕ) → n ≤ airport.horizon → IsShort n
+  number n by = omega (arith, by, well.horizon.1)
+
+  -- ---- a step that fails
+
+  taken-printable : (hold : Hold) → hold.span.until ≤ airport.horizon → IfSome (taken_by airport state hold) IsPrintableCause
+  taken-printable hold by = go (first_taken (free_among airport (holds_in airport state) hold.segment) hold.span) refl where
+    named : (t : ℕ) → IsShort t → (o : Option (List ℕ)) → IfSome o IsName → IfSome (option_map (λ name. Taken t name) o) IsPrintableCause
+    named t n None name = tt
+    named t n (Some by) name = (n, name)
+
+    go : (o : Option ℕ) → first_taken (free_among airport (holds_in airport state) hold.segment) hold.span ≡ o
+        → IfSome (option_and_then (λ t. option_map (λ name. Taken t name) (holder_at airport state hold.segment t)) o) IsPrintableCause
+    go None e = tt
+    go (Some t) e =
+        let at = first_taken-Some (free_among airport (holds_in airport state) hold.segment) hold.span t e in
+        named t (number t (omega (arith, at.1, by))) (holder_at airport state hold.segment t) (holder_at-name airport state hold.segment t names)
+
+  or-cause : (test : Bool) (cause : StepCause) → IsPrintableCause cause → (o : Option StepCause) → IfSome o IsPrintableCause
+      → IfSome (cond test (Some cause) o) IsPrintableCause
+  or-cause true cause fine o others = fine
+  or-cause false cause fine o others = others
+
+  cause-printable : (class : Class) (before : Option Arc) (step : Step) → IfSome (cause_of airport class state before step) IsPrintableCause
+  cause-printable class before step = go (seconds airport class (segment_of step.arc)) where
+    taken : IfSome (taken_cause airport class state step) IsPrintableCause
+    taken = taken-printable (hold_under (conditions_in airport class state) step) (omega arith)
+
+    go : (o : Option ℕ) → IfSome (option_map_or
+        (λ n. cond (not (may_follow airport before step.arc)) (Some BadTurn) (cond (nat_lt step.leave (step.enter + n)) (Some TooFast)
+        (cond (nat_lt airport.horizon step.leave) (Some PastHorizon) (taken_cause airport class state step)))) o (Some ClassBarred)) IsPrintableCause
+    go None = tt
+    go (Some n) =
+        or-cause (not (may_follow airport before step.arc)) BadTurn tt _
+        (or-cause (nat_lt step.leave (step.enter + n)) TooFast tt _
+        (or-cause (nat_lt airport.horizon step.leave) PastHorizon tt (taken_cause airport class state step) taken))
+
+  abbrev IsFaultFrom : ℕ → ℕ → StepFault → Type 0
+  IsFaultFrom first count fault = (first ≤ fault.number) × (fault.number < first + count) × IsPrintableCause fault.cause
+
+  fault-printable : (class : Class) (first : ℕ) (before : Option Arc) (steps : List Step)
+      → IfSome (fault_after airport class state first before steps) (IsFaultFrom first (length steps))
+  fault-printable class first before [] = tt
+  fault-printable class first before (s ∷ steps) =
+      go (cause_of airport class state before s) (cause-printable class before s)
+      (later (fault_after airport class state (first + 1) (Some s.arc) steps) (fault-printable class (first + 1) (Some s.arc) steps))
+    where
+      later : (o : Option StepFault) → IfSome o (IsFaultFrom (first + 1) (length steps)) → IfSome o (IsFaultFrom first (length (s ∷ steps)))
+      later None h = tt
+      later (Some fault) h = (omega (arith, h.0), omega (arith, h.1), h.2)
+
+      go : (o : Option StepCause) → IfSome o IsPrintableCause
+          → IfSome (fault_after airport class state (first + 1) (Some s.arc) steps) (IsFaultFrom first (length (s ∷ steps)))
+          → IfSome (option_map_or (λ cause. Some (record { number = first; cause = cause })) o (fault_after airport class state (first + 1) (Some s.arc) steps)) (IsFaultFrom first (length (s ∷ steps)))
+      go None h others = others
+      go (Some cause) h others = (omega arith, omega arith, h)
+
+  -- ---- refusals
+
+  abbrev IsFine : Option Refusal → Type 0
+  IsFine o = IfSome o IsPrintableRefusal
+
+  first-fine : (o : Option Refusal) (tests : List (Option Refusal)) → IsFine o → IsFine (first_of tests) → IsFine (first_of (o ∷ tests))
+  first-fine None tests one others = others
+  first-fine (Some why) tests one others = one
+
+  if-fine : (test : Bool) (why : Refusal) → IsPrintableRefusal why → IsFine (refused_if test why)
+  if-fine true why fine = fine
+  if-fine false why fine = tt
+
+  flight-fine : (name : List ℕ) (test : Flight → Option Refusal)
+      → ((flight : Flight) → IsFeasibleWalk (conditions_of airport state flight) flight.steps → IsFine (test flight)) → IsFine (of_flight state name test)
+  flight-fine name test each = go (flight_named name state.flights) refl where
+    go : (o : Option Flight) → flight_named name state.flights ≡ o → IsFine (option_and_then test o)
+    go None e = tt
+    go (Some flight) e =
+        each flight (All-contains (λ f. IsFeasibleWalk (conditions_of airport state f) f.steps) state.flights flight sound.feasible.walks (flight_named-there name state.flights flight e))
+
+  routed-fine : (name : List ℕ) → IsFine (of_flight state name not_routed)
+  routed-fine name = flight-fine name not_routed (λ flight walk. if-fine (is_filed flight.request) refusal.NotRouted tt)
+
+  arrival-fine : (name : List ℕ) → IsFine (of_flight state name not_arrival)
+  arrival-fine name = flight-fine name not_arrival (λ flight walk. if-fine (is_departure flight.request) refusal.NotArrival tt)
+
+  done-fine : (name : List ℕ) (time : ℕ) → IsFine (of_flight state name (already_done time))
+  done-fine name time =
+      flight-fine name (already_done time) (λ flight walk.
+      if-fine _ (refusal.AlreadyDone (end_of flight.steps)) (number (end_of flight.steps) (walk-end (conditions_of airport state flight) flight.steps walk)))
+
+  moving-fine : (name : List ℕ) (time : ℕ) → IsFine (of_flight state name (already_moving time))
+  moving-fine name time =
+      flight-fine name (already_moving time) (λ flight walk.
+      if-fine _ (refusal.AlreadyMoving (begin_of flight.steps)) (number (begin_of flight.steps) (walk-begin (conditions_of airport state flight) flight.steps walk)))
+
+  route-fine : (class : Class) (steps : List Step) → length steps ≤ 256 → IsFine (option_map (λ fault. refusal.Step fault) (route_fault airport class state steps))
+  unfolding route_fault
+  route-fine class steps few = of_fault (fault_after airport class state 1 None steps) (fault-printable class 1 None steps) where
+    of_fault : (o : Option StepFault) → IfSome o (IsFaultFrom 1 (length steps)) → IsFine (option_map (λ fault. refusal.Step fault) o)
+    of_fault None h = tt
+    of_fault (Some fault) h = ((h.0, omega (arith, h.1, few)), h.2)
+
+  step-fine : (class : List ℕ) (start : ℕ) (filed : List FiledStep) → length filed ≤ 256 → IsFine (step_fails airport state class start filed)
+  step-fine class start filed few = of_class (class_named airport class) where
+    of_steps : (class : Class) (o : Option (List Step)) → filed_steps airport start filed ≡ o
+        → IsFine (option_and_then (λ steps. option_map (λ fault. refusal.Step fault) (route_fault airport class state steps)) o)
+    of_steps class None e = tt
+    of_steps class (Some steps) e = route-fine class steps (omega (arith, few, filed_steps-length airport start filed steps e))
+
+    of_class : (o : Option Class)
+        → IsFine (option_and_then (λ class. option_and_then (λ steps. option_map (λ fault. refusal.Step fault) (route_fault airport class state steps)) (filed_steps airport start filed)) o)
+    of_class None = tt
+    of_class (Some class) = of_steps class (filed_steps airport start filed) refl
+
+  refusal-fine : (c : Command) → IsInGrammar c → IsFine (first_refusal airport state c)
+  refusal-fine (command.File flight class start steps) spoken =
+      first-fine (in_force state flight) _ (if-fine _ _ tt) (first-fine (unknown_class airport class) _ (if-fine _ _ tt) (first-fine (unknown_arc airport start steps) _ (if-fine _ _ tt)
+      (first-fine (full state) _ (if-fine _ _ tt) (first-fine (step_fails airport state class start steps) [] (step-fine class start steps (leb-true (length steps) 256 (and_parts _ _ spoken.1).1)) tt))))
+  refusal-fine (command.Arrival flight class from to time hold) spoken =
+      first-fine (in_force state flight) _ (if-fine _ _ tt) (first-fine (unknown_class airport class) _ (if-fine _ _ tt) (first-fine (unknown_node airport from) _ (if-fine _ _ tt)
+      (first-fine (unknown_node airport to) _ (if-fine _ _ tt) (first-fine (no_runway airport from) _ (if-fine _ _ tt) (first-fine (no_stand airport to) _ (if-fine _ _ tt)
+      (first-fine (full state) [] (if-fine _ _ tt) tt))))))
+  refusal-fine (command.Departure flight class from to time queue) spoken =
+      first-fine (in_force state flight) _ (if-fine _ _ tt) (first-fine (unknown_class airport class) _ (if-fine _ _ tt) (first-fine (unknown_node airport from) _ (if-fine _ _ tt)
+      (first-fine (unknown_node airport to) _ (if-fine _ _ tt) (first-fine (no_stand airport from) _ (if-fine _ _ tt) (first-fine (no_runway airport to) _ (if-fine _ _ tt)
+      (first-fine (full state) [] (if-fine _ _ tt) tt))))))
+  refusal-fine (command.Cancel flight) spoken = first-fine (not_in_force state flight) [] (if-fine _ _ tt) tt
+  refusal-fine (command.Reroute flight time) spoken =
+      first-fine (not_in_force state flight) _ (if-fine _ _ tt) (first-fine (of_flight state flight not_routed) _ (routed-fine flight)
+      (first-fine (of_flight state flight (already_done time)) _ (done-fine flight time) (first-fine (of_flight state flight (already_moving time)) [] (moving-fine flight time) tt)))
+  refusal-fine (command.Divert flight time node) spoken =
+      first-fine (unknown_node airport node) _ (if-fine _ _ tt) (first-fine (no_stand airport node) _ (if-fine _ _ tt) (first-fine (not_in_force state flight) _ (if-fine _ _ tt)
+      (first-fine (of_flight state flight not_routed) _ (routed-fine flight) (first-fine (of_flight state flight not_arrival) _ (arrival-fine flight)
+      (first-fine (of_flight state flight (already_done time)) [] (done-fine flight time) tt)))))
+  refusal-fine (command.Windows segment) spoken = first-fine (unknown_segment airport segment) [] (if-fine _ _ tt) tt
+  refusal-fine (command.Occupancy segment) spoken = first-fine (unknown_segment airport segment) [] (if-fine _ _ tt) tt
+  refusal-fine command.Timetable spoken = tt
+
+  -- ---- what is carried out
+
+  of-reply : (reply : Reply) (block : Block) (after : State) → IsOf reply block after → IsPrintable airport reply.block → IsPrintable airport block
+  of-reply reply block after of fine = rw of.0 fine
+
+  file-printable : (name class : List ℕ) (start : ℕ) (filed : List FiledStep) (block : Block) (after : State) → IsName name → 0 < length filed
+      → first_refusal airport state (command.File name class start filed) ≡ None → IsFiled airport state name class start filed block after → IsPrintable airport block
+  file-printable name class start filed block after named some none done =
+      let steps = done.steps in
+      let made = done.steps_known in
+      let c : Conditions = conditions_in airport done.class state in
+      let walk : IsFeasibleWalk c steps =
+      (route_fault-None airport done.class state steps (omega (arith, some, filed_steps-length airport start filed steps made))
+      (filed_steps-arcs airport start filed steps made) (filed_steps-joined airport start filed steps made)).0
+      (none-fails airport state class start filed done.class steps done.class_known made (file-does_not_fail airport state name class start filed none)) in
+      of-reply (filed_reply state name done.class steps) block after done.reply (named, (number (begin_of steps) (walk-begin c steps walk), number (end_of steps) (walk-end c steps walk)))
+
+  -- a route that was found, with its labels
+  route-printable : (c : Conditions) (name : List ℕ) (request : Request) (steps : List Step) (labels : List LabelRow) → c.airport ≡ airport → IsName name
+      → IsFeasibleWalk c steps → ArePrintableLabels airport labels → IsPrintable airport (Route name (second_of request steps) steps labels)
+  route-printable c name request steps labels same named walk fine =
+      let on : IsWellFormed c.airport = subst IsWellFormed (sym same) well in
+      let by : second_of request steps ≤ airport.horizon = subst (λ (a : Airport). second_of request steps ≤ a.horizon) same (walk-second c request steps walk) in (
+        (named, (number (second_of request steps) by, ((walk-some c steps walk, walk-count c on steps walk), fine.0))),
+        (subst (λ a. All (IsPrintableStep a) steps) same (walk-printable c on steps walk), fine.1),
+      )
+
+  routed-printable : (name class : List ℕ) (asked : Option Request) (block : Block) (after : State) → IsName name
+      → IsRouted airport state name class asked block after → IsPrintable airport block
+  routed-printable name class asked block after named done = go done.found done.answers done.reply where
+    c : Conditions
+    c = conditions_in airport done.class state
+
+    go : (answer : Found) → AnswersRequest c done.request answer
+        → IsOf (found_reply state name done.request (λ steps. with_flight (routed_flight name done.class done.request steps) state) answer) block after → IsPrintable airport block
+    go (found.NoRoute labels) answers of =
+        of-reply (record { block = NoRoute labels; after = state }) block after of
+        (found-printable c well (conditions_among-bounded airport done.class (holds_in airport state)) done.request (found.NoRoute labels) answers)
+    go (found.Route steps labels) answers of =
+        of-reply (record { block = Route name (second_of done.request steps) steps labels; after = with_flight (routed_flight name done.class done.request steps) state }) block after of
+        (route-printable c name done.request steps labels refl named (Meets-IsFeasibleWalk c done.request steps (found-meets c done.request steps labels answers))
+        (found-printable c well (conditions_among-bounded airport done.class (holds_in airport state)) done.request (found.Route steps labels) answers))
+
+  again-printable : (name : List ℕ) (time : ℕ) (IsMeant : Request → Node → Type 0) (block : Block) (after : State) → IsName name
+      → IsRoutedAgain airport state name time IsMeant block after → IsPrintable airport block
+  again-printable name time IsMeant block after named done = go done.found done.answers done.reply where
+    flight : Flight
+    flight = done.flight
+
+    asked : Request
+    asked = retargeted flight.request done.target
+
+    c : Conditions
+    c = conditions_of airport state flight
+
+    bounded : (s : Segment) (t : ℕ) → airport.horizon ≤ t → IsFalse (c.free s t)
+    bounded = conditions_among-bounded airport flight.class (holds_in airport (without flight.name state))
+
+    go : (answer : Found) → AnswersAgain c flight.steps time done.target flight.request answer
+        → IsOf (found_reply state name flight.request (λ steps. with_route flight asked steps state) answer) block after → IsPrintable airport block
+    go (found.NoRoute labels) answers of =
+        of-reply (record { block = NoRoute labels; after = state }) block after of
+        (found_again-printable c well bounded flight.steps time done.target flight.request (found.NoRoute labels) answers)
+    go (found.Route steps labels) answers of =
+        let old : Meets c flight.request flight.steps =
+        All-contains (λ f. Meets (conditions_of airport state f) f.request f.steps) state.flights flight sound.requests (flight_named-there name state.flights flight done.in_force) in
+        let met : Meets c asked steps = found_again-meets c flight.steps time done.target flight.request steps labels old answers in
+        of-reply (record { block = Route name (second_of flight.request steps) steps labels; after = with_route flight asked steps state }) block after of
+        (route-printable c name flight.request steps labels refl named (Meets-IsFeasibleWalk c asked steps met)
+        (found_again-printable c well bounded flight.steps time done.target flight.request (found.Route steps labels) answers))
+
+  -- what is carried out has a text, whether its form is answered yet or not
+  pub carried_out-printable : (c : Command) (block : Block) (after : State) → IsInGrammar c → first_refusal airport state c ≡ None
+      → IsCarriedOut airport state c block after → IsPrintable airport block
+  carried_out-printable (command.File flight class start steps) block after spoken none done =
+      file-printable flight class start steps block after spoken.0 (ltb-true 0 (length steps) (and_parts _ _ spoken.1).0) none done
+  carried_out-printable (command.Arrival flight class from to time hold) block after spoken none done =
+      routed-printable flight class (arrival_named airport from to time hold) block after spoken.0 done
+  carried_out-printable (command.Departure flight class from to time queue) block after spoken none done =
+      routed-printable flight class (departure_named airport from to time queue) block after spoken.0 done
+  carried_out-printable (command.Cancel flight) block after spoken none done = of-reply (cancelled_reply state flight) block after done spoken
+  carried_out-printable (command.Reroute flight time) block after spoken none done = again-printable flight time IsTarget block after spoken.0 done
+  carried_out-printable (command.Divert flight time node) block after spoken none done =
+      again-printable flight time (λ asked target. node_named airport node ≡ Some target) block after spoken.0 done
+  carried_out-printable (command.Windows segment) block after spoken none done =
+      of-reply (windows_reply airport state done.segment) block after done.reply (
+        (segment_named-exists airport segment done.segment done.known, omega (arith, windows_among-count airport state done.segment, well.horizon.1)),
+        All-weaker (λ w. (w.from < w.until) × (w.until ≤ airport.horizon)) IsPrintableWindow (λ w h. (number w.from (omega (arith, h.0, h.1)), number w.until h.1))
+            (windows_among airport state done.segment) (windows_among-by airport state done.segment),
+      )
+  carried_out-printable (command.Occupancy segment) block after spoken none done = absurd done
+  carried_out-printable command.Timetable block after spoken none done = absurd done
+
+  of-refusal : (why : Refusal) (block : Block) (after : State) → IsOf (refused state why) block after → IsPrintableRefusal why → IsPrintable airport block
+  of-refusal why block after of fine = of-reply (refused state why) block after of fine
+
+  due_to-printable : (c : Command) (block : Block) (after : State) → IsInGrammar c → IsDueTo airport state c block after → IsPrintable airport block
+  due_to-printable c block after spoken due = go (is_built c) refl due where
+    go : (b : Bool) → is_built c ≡ b → MatchOption (cond b (first_refusal airport state c) (Some refusal.NotBuilt)) (IsCarriedOut airport state c block after) (λ why. IsOf (refused state why) block after)
+        → IsPrintable airport block
+    go false e due = of-refusal refusal.NotBuilt block after due tt
+    go true e due = by (first_refusal airport state c) refl (refusal-fine c spoken) due where
+      by : (o : Option Refusal) → first_refusal airport state c ≡ o → IsFine o → MatchOption o (IsCarriedOut airport state c block after) (λ why. IsOf (refused state why) block after)
+          → IsPrintable airport block
+      by None none fine done = carried_out-printable c block after spoken none done
+      by (Some why) some fine of = of-refusal why block after of fine
+
+  -- the block that a line is due has a text
+  pub due-printable : (line : List ℕ) (block : Block) (after : State) → IsDue airport state line block after → IsPrintable airport block
+  unfolding IsDue
+  due-printable line block after due = go (command_of line) (command_of-in_grammar line) due where
+    go : (o : Option Command) → IfSome o IsInGrammar
+        → MatchOption o (IsOf (refused state refusal.BadLine) block after) (λ c. IsDueTo airport state c block after) → IsPrintable airport block
+    go None spoken due = of-refusal refusal.BadLine block after due tt
+    go (Some c) spoken due = due_to-printable c block after spoken due
+
+-- what a block says leaves holders names, where the block has a text
+pub says-names : (airport : Airport) (state : State) (block : Block) (after : State) → HaveNames state → DoesAsItSays airport state block after
+    → IsPrintable airport block → HaveNames after
+says-names airport state (Filed name start end) after names says fine =
+    subst HaveNames (sym says.2) (with_flight-names says.0 state (subst IsName (sym says.1) fine.0) names)
+says-names airport state (Cancelled name) after names says fine = subst HaveNames (sym says.1) (without-names name state names)
+says-names airport state (Route name second steps labels) after names says fine =
+    subst HaveNames (sym says.3) (with_flight-names says.0 (without says.0.name state) (subst IsName (sym says.1) fine.0.0) (without-names says.0.name state names))
+says-names airport state (NoRoute labels) after names says fine = subst HaveNames (sym says) names
+says-names airport state (Windows segment windows) after names says fine = subst HaveNames (sym says.1) names
+says-names airport state (Refused why) after names says fine = subst HaveNames (sym says) names

@@ -1,0 +1,86 @@
+-- What is so where a command is refused nothing.
+use Rattle.std.proofs.Common.{◌≡◌, ℕ, ◌<◌, Bool, true, false, not, List, [], ◌∷◌, IsTrue, IsFalse, Option, Some, None, option_map, refl, inl, inr}
+use Rattle.std.proofs.lemmas.Bool.{cases_lt, le-leb}
+use Rattle.taxi_base.specs.declared.numbers.Class.{Class}
+use Rattle.taxi_base.specs.declared.rows.Step.{Step}
+use Rattle.taxi_base.specs.declared.answers.StepFault.{StepFault}
+use Rattle.taxi_base.specs.declared.answers.Refusal.{Refusal}
+use Rattle.taxi_base.specs.declared.answers.Refusal.TheVariants as refusal
+use Rattle.taxi_base.specs.Airport.{Airport, class_named}
+use Rattle.taxi_base.specs.State.{State, holder_count, has_holder}
+use Rattle.taxi_base.specs.Faults.{route_fault}
+use Rattle.taxi_text.specs.declared.command.FiledStep.{FiledStep}
+use Rattle.certificate.specs.Asked.{filed_steps}
+use Rattle.taxi_text.specs.declared.command.Command.TheVariants as command
+use Rattle.certificate.specs.Refusals.{refused_if, first_of, is_in_force, most_holders, in_force, unknown_class, unknown_node, no_runway, no_stand, unknown_arc, not_in_force, full, step_fails, first_refusal}
+
+-- none of the tests gives a refusal, so neither the first does nor the others
+pub none-first : (o : Option Refusal) (tests : List (Option Refusal)) → first_of (o ∷ tests) ≡ None → o ≡ None
+none-first None tests e = refl
+none-first (Some why) tests e = absurd (cc e)
+
+pub none-others : (o : Option Refusal) (tests : List (Option Refusal)) → first_of (o ∷ tests) ≡ None → first_of tests ≡ None
+none-others None tests e = e
+none-others (Some why) tests e = absurd (cc e)
+
+pub not_refused : (test : Bool) (why : Refusal) → refused_if test why ≡ None → IsFalse test
+not_refused false why e = refl
+not_refused true why e = absurd (cc e)
+
+-- a flight of the name is in force
+pub is-in_force : (state : State) (name : List ℕ) → not_in_force state name ≡ None → IsTrue (is_in_force name state)
+is-in_force state name e = go (is_in_force name state) (not_refused (not (is_in_force name state)) refusal.NotInForce e) where
+  go : (b : Bool) → IsFalse (not b) → IsTrue b
+  go true h = refl
+  go false h = absurd (cc h)
+
+-- there is room for a holder
+pub not-full : (state : State) → full state ≡ None → holder_count state < most_holders
+not-full state e =
+    elim (cases_lt (holder_count state) most_holders) [
+      | inl room ↦ room
+      | inr many ↦ absurd (cc (rw (le-leb most_holders (holder_count state) many) at e))
+    ]
+
+-- no step of the route fails
+pub none-fails : (airport : Airport) (state : State) (name : List ℕ) (start : ℕ) (filed : List FiledStep) (class : Class) (steps : List Step)
+    → class_named airport name ≡ Some class → filed_steps airport start filed ≡ Some steps
+    → step_fails airport state name start filed ≡ None → route_fault airport class state steps ≡ None
+none-fails airport state name start filed class steps known made e = go (route_fault airport class state steps) (rw (known, made) at e) where
+  go : (o : Option StepFault) → option_map (λ fault. refusal.Step fault) o ≡ None → o ≡ None
+  go None h = refl
+  go (Some fault) h = absurd (cc h)
+
+-- ---- what the commands that put a flight in force are not refused
+
+-- there is room for a flight of a new name
+pub record HasRoom (state : State) (name : List ℕ) : Type 0 where
+  pub absent : IsFalse (has_holder name state)
+  pub room : holder_count state < most_holders
+
+module _ (airport : Airport) (state : State) (name class : List ℕ) where
+  pub file-has_room : (start : ℕ) (filed : List FiledStep) → first_refusal airport state (command.File name class start filed) ≡ None → HasRoom state name
+  file-has_room start filed e = record {
+    absent = not_refused (has_holder name state) refusal.InForce (none-first (in_force state name) _ e);
+    room = not-full state (none-first (full state) _ (none-others (unknown_arc airport start filed) _ (none-others (unknown_class airport class) _ (none-others (in_force state name) _ e))));
+  }
+
+  pub file-does_not_fail : (start : ℕ) (filed : List FiledStep) → first_refusal airport state (command.File name class start filed) ≡ None → step_fails airport state class start filed ≡ None
+  file-does_not_fail start filed e =
+      none-first (step_fails airport state class start filed) [] (none-others (full state) _ (none-others (unknown_arc airport start filed) _ (none-others (unknown_class airport class) _ (none-others (in_force state name) _ e))))
+
+  pub arrival-has_room : (from to : List ℕ) (time hold : ℕ) → first_refusal airport state (command.Arrival name class from to time hold) ≡ None → HasRoom state name
+  arrival-has_room from to time hold e = record {
+    absent = not_refused (has_holder name state) refusal.InForce (none-first (in_force state name) _ e);
+    room = not-full state (none-first (full state) _
+        (none-others (no_stand airport to) _ (none-others (no_runway airport from) _ (none-others (unknown_node airport to) _ (none-others (unknown_node airport from) _
+        (none-others (unknown_class airport class) _ (none-others (in_force state name) _ e)))))));
+  }
+
+  pub departure-has_room : (from to : List ℕ) (time queue : ℕ) → first_refusal airport state (command.Departure name class from to time queue) ≡ None → HasRoom state name
+  departure-has_room from to time queue e = record {
+    absent = not_refused (has_holder name state) refusal.InForce (none-first (in_force state name) _ e);
+    room = not-full state (none-first (full state) _
+        (none-others (no_runway airport to) _ (none-others (no_stand airport from) _ (none-others (unknown_node airport to) _ (none-others (unknown_node airport from) _
+        (none-others (unknown_class airport class) _ (none-others (in_force state name) _ e)))))));
+  }

@@ -1,0 +1,74 @@
+-- A text that is written piece by piece, and may be cut short.
+use Rattle.std.proofs.Common.{◌≡◌, ◌∙◌, ℕ, List, [], ◌∷◌, ◌++◌, length, map, Result, Ok, Err, decimal, codes, refl, sym, ap, append_assoc}
+use Rattle.std.specs.Prelude.{OnErr}
+use Rattle.taxi_base.specs.declared.rows.Step.{Step}
+use Rattle.taxi_base.specs.declared.rows.LabelRow.{LabelRow}
+use Rattle.taxi_base.specs.Airport.{Airport}
+use Rattle.certificate.specs.declared.block.Block.TheVariants.{Route}
+use Rattle.certificate.specs.Texts.{line_text, lines_text, step_words, label_words, block_text}
+use Rattle.certificate.specs.Printed.{IsCutShort, rows_text}
+use Rattle.certificate.proofs.Pieces.{HasCome}
+
+pub on_err : {A B : Type 0} {P : Type 0} (r : Result A B) → P → OnErr r P
+on_err (Ok x) p = tt
+on_err (Err e) p = p
+
+pub map_err : {A B : Type 0} {P Q : Type 0} (r : Result A B) → (P → Q) → OnErr r P → OnErr r Q
+map_err (Ok x) f p = tt
+map_err (Err e) f p = f p
+
+-- what had come when a piece was refused
+pub refused : {text old rest before new : List ℕ} → HasCome text old rest before → new ≡ before → IsCutShort text old new
+refused {rest = rest} come same = record { written = come.0; rest = rest; parts = come.1; grown = same ∙ come.2 }
+
+-- a piece before another is cut short
+pub cut-front : (a b old new : List ℕ) → IsCutShort a old new → IsCutShort (a ++ b) old new
+cut-front a b old new cut = record {
+  written = cut.written;
+  rest = cut.rest ++ b;
+  parts = ap (λ (t : List ℕ). t ++ b) cut.parts ∙ append_assoc cut.written cut.rest b;
+  grown = cut.grown;
+}
+
+-- the last piece is cut short
+pub cut-last : (a b old before new : List ℕ) → before ≡ old ++ a → IsCutShort b before new → IsCutShort (a ++ b) old new
+cut-last a b old before new is cut = record {
+  written = a ++ cut.written;
+  rest = cut.rest;
+  parts = ap (λ (t : List ℕ). a ++ t) cut.parts ∙ sym (append_assoc a cut.written cut.rest);
+  grown = cut.grown ∙ ap (λ (t : List ℕ). t ++ cut.written) is ∙ append_assoc old a cut.written;
+}
+
+-- ---- texts
+
+lines-both : (a b : List (List (List ℕ))) → lines_text (a ++ b) ≡ lines_text a ++ lines_text b
+lines-both [] b = refl
+lines-both (l ∷ a) b = ap (λ (t : List ℕ). line_text l ++ t) (lines-both a b) ∙ sym (append_assoc (line_text l) (lines_text a) (lines_text b))
+
+abbrev pub route_head : List ℕ → ℕ → ℕ → ℕ → List ℕ
+route_head flight second steps labels = line_text (codes "route" ∷ flight ∷ decimal second ∷ decimal steps ∷ decimal labels ∷ [])
+
+-- a route's text is its first line, its steps and its labels
+pub route_text-is : (airport : Airport) (flight : List ℕ) (second : ℕ) (steps : List Step) (labels : List LabelRow)
+    → route_head flight second (length steps) (length labels) ++ (rows_text (step_words airport) steps ++ rows_text (label_words airport) labels)
+    ≡ block_text airport (Route flight second steps labels)
+unfolding block_text
+route_text-is airport flight second steps labels =
+    ap (λ (t : List ℕ). route_head flight second (length steps) (length labels) ++ t)
+    (sym (lines-both (map (step_words airport) steps) (map (label_words airport) labels)))
+
+-- the same of what was written for them
+pub route_text-by : (airport : Airport) (flight : List ℕ) (second : ℕ) (steps : List Step) (labels : List LabelRow) (line : List ℕ) (s : List Step) (l : List LabelRow)
+    → line ≡ route_head flight second (length s) (length l) → s ≡ steps → l ≡ labels
+    → line ++ (rows_text (step_words airport) s ++ rows_text (label_words airport) l) ≡ block_text airport (Route flight second steps labels)
+route_text-by airport flight second steps labels line s l is same_steps same_labels =
+    ap (λ (t : List ℕ). t ++ (rows_text (step_words airport) s ++ rows_text (label_words airport) l)) is
+    ∙ ap (λ (t : List Step). route_head flight second (length t) (length l) ++ (rows_text (step_words airport) t ++ rows_text (label_words airport) l)) same_steps
+    ∙ ap (λ (t : List LabelRow). route_head flight second (length steps) (length t) ++ (rows_text (step_words airport) steps ++ rows_text (label_words airport) t)) same_labels
+    ∙ route_text-is airport flight second steps labels
+
+-- the text of a route with the same rows
+pub route-same : (airport : Airport) (flight : List ℕ) (second : ℕ) (steps : List Step) (labels : List LabelRow) (s : List Step) (l : List LabelRow)
+    → s ≡ steps → l ≡ labels → block_text airport (Route flight second s l) ≡ block_text airport (Route flight second steps labels)
+route-same airport flight second steps labels s l same_steps same_labels =
+    ap (λ (t : List Step). block_text airport (Route flight second t l)) same_steps ∙ ap (λ (t : List LabelRow). block_text airport (Route flight second steps t)) same_labels

@@ -1,0 +1,52 @@
+-- What do the words of a command ask for, in the airport's own terms?
+use Rattle.std.specs.Prelude.{ℕ, ◌-◌, ◌+◌, List, [], ◌∷◌, length, Option, Some, option_map, option_and_then, IsTrue, ⊤}
+use Rattle.taxi_base.specs.declared.rows.Step.{Step}
+use Rattle.taxi_base.specs.declared.answers.Request.{Request}
+use Rattle.taxi_base.specs.declared.answers.Request.TheVariants as request
+use Rattle.taxi_base.specs.declared.answers.Found.{Found}
+use Rattle.taxi_base.specs.Airport.{Airport, layout_of, node_named, arc_named}
+use Rattle.taxi_base.specs.Walks.{Conditions, LeavesNodeWithin, ReachesNodeWithin}
+use Rattle.taxi_base.specs.Labels.{AnswersArrival, AnswersDeparture}
+use Rattle.taxi_text.specs.declared.command.FiledStep.{FiledStep}
+use Rattle.taxi_text.specs.declared.command.Command.{Command}
+use Rattle.taxi_text.specs.declared.command.Command.TheVariants as command
+use Rattle.taxi_text.specs.Commands.{is_step_count}
+use Rattle.certificate.specs.Printable.{IsShort, IsName}
+
+-- ---- a route given by hand
+
+-- The steps that pairs of an arc and its leave mean, the first of them entered at a time. None where a name is no
+-- segment's, or the segment lacks the arc.
+abbrev pub filed_steps : Airport → ℕ → List FiledStep → Option (List Step)
+filed_steps airport enter [] = Some []
+filed_steps airport enter (filed ∷ rest) =
+    option_and_then (λ arc. option_map (λ steps. record { arc = arc; enter = enter; leave = filed.leave } ∷ steps) (filed_steps airport filed.leave rest))
+    (arc_named airport filed.segment filed.forward)
+
+-- What the grammar promises of a command: the name that a flight has or is to have is a name, times have at most 7 digits, and
+-- a route given by hand has 1 to 256 steps.
+abbrev pub IsInGrammar : Command → Type 0
+IsInGrammar (command.File flight class start steps) = IsName flight × IsTrue (is_step_count (length steps))
+IsInGrammar (command.Arrival flight class from to time hold) = IsName flight × IsShort time × IsShort hold
+IsInGrammar (command.Departure flight class from to time queue) = IsName flight × IsShort time × IsShort queue
+IsInGrammar (command.Cancel flight) = IsName flight
+IsInGrammar (command.Reroute flight time) = IsName flight × IsShort time
+IsInGrammar (command.Divert flight time node) = IsName flight × IsShort time
+IsInGrammar _ = ⊤
+
+-- ---- a route to be found
+
+-- the request between the nodes of two names; none where a name is no node's
+abbrev pub arrival_named : Airport → List ℕ → List ℕ → ℕ → ℕ → Option Request
+arrival_named airport from to time hold =
+    option_and_then (λ start. option_map (λ target. request.Arrival start target time hold) (node_named airport to)) (node_named airport from)
+
+abbrev pub departure_named : Airport → List ℕ → List ℕ → ℕ → ℕ → Option Request
+departure_named airport from to time queue =
+    option_and_then (λ start. option_map (λ target. request.Departure start target time queue) (node_named airport to)) (node_named airport from)
+
+-- what is found for a request: the picked route with its labels, or that there is no walk, with all labels
+abbrev pub AnswersRequest : Conditions → Request → Found → Type 0
+AnswersRequest c request.Filed found = ⊥
+AnswersRequest c (request.Arrival from to time hold) found = AnswersArrival c (LeavesNodeWithin (layout_of c.airport) from time (time + hold)) to found
+AnswersRequest c (request.Departure from to time queue) found = AnswersDeparture c from (ReachesNodeWithin (layout_of c.airport) to (time - queue) time) found

@@ -1,0 +1,118 @@
+-- What answers a command that is not refused, and what is in force afterwards?
+use Rattle.std.specs.Prelude.{ℕ, ◌≡◌, List, Option, Some}
+use Rattle.taxi_base.specs.declared.numbers.Class.{Class}
+use Rattle.taxi_base.specs.declared.numbers.Node.{Node}
+use Rattle.taxi_base.specs.declared.numbers.Segment.{Segment}
+use Rattle.taxi_base.specs.declared.rows.Step.{Step}
+use Rattle.taxi_base.specs.declared.rows.Span.{Span}
+use Rattle.taxi_base.specs.declared.answers.Request.{Request}
+use Rattle.taxi_base.specs.declared.answers.Request.TheVariants as request
+use Rattle.taxi_base.specs.declared.answers.Flight.{Flight}
+use Rattle.taxi_base.specs.declared.answers.Found.{Found}
+use Rattle.taxi_base.specs.declared.answers.Found.TheVariants as found
+use Rattle.taxi_base.specs.Airport.{Airport, node_named, class_named, segment_named}
+use Rattle.taxi_base.specs.Windows.{is_free, windows_before}
+use Rattle.taxi_base.specs.Walks.{begin_of, end_of}
+use Rattle.taxi_base.specs.State.{State, flight_named, with_flight, without, with_route, holds_in, conditions_of}
+use Rattle.taxi_base.specs.Faults.{conditions_in}
+use Rattle.taxi_base.specs.Again.{retargeted, IsTarget, AnswersAgain}
+use Rattle.taxi_text.specs.declared.command.FiledStep.{FiledStep}
+use Rattle.taxi_text.specs.declared.command.Command.{Command}
+use Rattle.taxi_text.specs.declared.command.Command.TheVariants as command
+use Rattle.certificate.specs.declared.block.Block.{Block}
+use Rattle.certificate.specs.declared.block.Block.TheVariants.{Filed, Cancelled, Route, NoRoute, Windows}
+use Rattle.certificate.specs.Asked.{filed_steps, arrival_named, departure_named, AnswersRequest}
+
+-- what is answered, and the state afterwards
+pub record Reply : Type 0 where
+  pub block : Block
+  pub after : State
+
+-- a block and a state are those of a reply
+abbrev pub IsOf : Reply → Block → State → Type 0
+IsOf reply block after = (block ≡ reply.block) × (after ≡ reply.after)
+
+-- ---- a route given by hand
+
+abbrev pub filed_flight : List ℕ → Class → List Step → Flight
+filed_flight name class steps = record { name = name; class = class; request = request.Filed; steps = steps }
+
+-- the flight is in force on the steps
+abbrev pub filed_reply : State → List ℕ → Class → List Step → Reply
+filed_reply state name class steps =
+    record { block = Filed name (begin_of steps) (end_of steps); after = with_flight (filed_flight name class steps) state }
+
+pub record IsFiled (airport : Airport) (state : State) (name class_name : List ℕ) (start : ℕ) (filed : List FiledStep) (block : Block) (after : State) : Type 0 where
+  pub class : Class
+  pub steps : List Step
+  pub class_known : class_named airport class_name ≡ Some class
+  pub steps_known : filed_steps airport start filed ≡ Some steps
+  pub reply : IsOf (filed_reply state name class steps) block after
+
+-- ---- a route that was found
+
+-- the second that is told with a route: where a departure begins, and where an arrival ends
+abbrev pub second_of : Request → List Step → ℕ
+second_of (request.Departure from to time queue) steps = begin_of steps
+second_of _ steps = end_of steps
+
+-- A route is told with its labels, and is in force afterwards. Where there is none the labels are told, and nothing changes.
+abbrev pub found_reply : State → List ℕ → Request → (List Step → State) → Found → Reply
+found_reply state name request with_steps (found.Route steps labels) =
+    record { block = Route name (second_of request steps) steps labels; after = with_steps steps }
+found_reply state name request with_steps (found.NoRoute labels) = record { block = NoRoute labels; after = state }
+
+abbrev pub routed_flight : List ℕ → Class → Request → List Step → Flight
+routed_flight name class request steps = record { name = name; class = class; request = request; steps = steps }
+
+-- a new flight is routed as it asked, among all holders
+pub record IsRouted (airport : Airport) (state : State) (name class_name : List ℕ) (asked : Option Request) (block : Block) (after : State) : Type 0 where
+  pub class : Class
+  pub request : Request
+  pub class_known : class_named airport class_name ≡ Some class
+  pub nodes_known : asked ≡ Some request
+  pub found : Found
+  pub answers : AnswersRequest (conditions_in airport class state) request found
+  pub reply : IsOf (found_reply state name request (λ steps. with_flight (routed_flight name class request steps) state) found) block after
+
+-- a flight in force is routed anew from a time on, among the others, to a node that is meant
+pub record IsRoutedAgain (airport : Airport) (state : State) (name : List ℕ) (time : ℕ) (IsMeant : Request → Node → Type 0) (block : Block) (after : State) : Type 0 where
+  pub flight : Flight
+  pub target : Node
+  pub in_force : flight_named name state.flights ≡ Some flight
+  pub meant : IsMeant flight.request target
+  pub found : Found
+  pub answers : AnswersAgain (conditions_of airport state flight) flight.steps time target flight.request found
+  pub reply : IsOf (found_reply state name flight.request (λ steps. with_route flight (retargeted flight.request target) steps state) found) block after
+
+-- ---- cancelling and reporting
+
+abbrev pub cancelled_reply : State → List ℕ → Reply
+cancelled_reply state name = record { block = Cancelled name; after = without name state }
+
+-- the free windows of a segment among the holders
+abbrev pub windows_among : Airport → State → Segment → List Span
+windows_among airport state segment =
+    windows_before (is_free airport.conflicts airport.horizon (holds_in airport state) segment) airport.horizon
+
+abbrev pub windows_reply : Airport → State → Segment → Reply
+windows_reply airport state segment = record { block = Windows segment (windows_among airport state segment); after = state }
+
+pub record AreWindowsTold (airport : Airport) (state : State) (name : List ℕ) (block : Block) (after : State) : Type 0 where
+  pub segment : Segment
+  pub known : segment_named airport name ≡ Some segment
+  pub reply : IsOf (windows_reply airport state segment) block after
+
+-- ---- every command
+
+-- The rows of an occupancy and of a timetable are not defined yet, so nothing carries these out.
+abbrev pub IsCarriedOut : Airport → State → Command → Block → State → Type 0
+IsCarriedOut airport state (command.File flight class start steps) = IsFiled airport state flight class start steps
+IsCarriedOut airport state (command.Arrival flight class from to time hold) = IsRouted airport state flight class (arrival_named airport from to time hold)
+IsCarriedOut airport state (command.Departure flight class from to time queue) = IsRouted airport state flight class (departure_named airport from to time queue)
+IsCarriedOut airport state (command.Cancel flight) = IsOf (cancelled_reply state flight)
+IsCarriedOut airport state (command.Reroute flight time) = IsRoutedAgain airport state flight time IsTarget
+IsCarriedOut airport state (command.Divert flight time node) = IsRoutedAgain airport state flight time (λ asked target. node_named airport node ≡ Some target)
+IsCarriedOut airport state (command.Windows segment) = AreWindowsTold airport state segment
+IsCarriedOut airport state (command.Occupancy segment) = λ block after. ⊥
+IsCarriedOut airport state command.Timetable = λ block after. ⊥

@@ -1,0 +1,72 @@
+-- Which blocks have a text in the grammar.
+use Rattle.std.specs.Prelude.{ℕ, ◌<◌, ◌≤◌, ◌^◌, List, length, All, IsTrue, ⊤}
+use Rattle.taxi_base.specs.Words.{is_name}
+use Rattle.taxi_base.specs.Airport.{Airport, arc_exists, layout_of}
+use Rattle.taxi_base.specs.declared.numbers.Arc.{Arc}
+use Rattle.taxi_base.specs.declared.numbers.Segment.{Segment}
+use Rattle.taxi_base.specs.declared.rows.Step.{Step}
+use Rattle.taxi_base.specs.declared.rows.Span.{Span}
+use Rattle.taxi_base.specs.declared.rows.LabelRow.{LabelRow}
+use Rattle.taxi_base.specs.declared.answers.StepCause.{StepCause}
+use Rattle.taxi_base.specs.declared.answers.StepCause.TheVariants.{Taken}
+use Rattle.taxi_base.specs.declared.answers.StepFault.{StepFault}
+use Rattle.taxi_base.specs.declared.answers.Refusal.{Refusal}
+use Rattle.taxi_base.specs.declared.answers.Refusal.TheVariants as refusal
+use Rattle.certificate.specs.declared.block.Block.{Block}
+use Rattle.certificate.specs.declared.block.Block.TheVariants.{Refused, Filed, Cancelled, Route, NoRoute, Windows}
+
+-- ---- numbers and names in a block
+
+-- a number of at most 7 digits
+abbrev pub IsShort : ℕ → Type 0
+IsShort number = number < 10 ^ 7
+
+-- a count of at most 10 digits
+abbrev pub IsCount : ℕ → Type 0
+IsCount count = count < 10 ^ 10
+
+abbrev pub IsName : List ℕ → Type 0
+IsName name = IsTrue (is_name name)
+
+abbrev pub HasArc : Airport → Arc → Type 0
+HasArc airport arc = IsTrue (arc_exists (layout_of airport) arc)
+
+abbrev pub HasSegment : Airport → Segment → Type 0
+HasSegment airport segment = segment.0 < length airport.segments
+
+-- ---- printable parts
+
+abbrev pub IsPrintableStep : Airport → Step → Type 0
+IsPrintableStep airport step = HasArc airport step.arc × (IsShort step.enter × IsShort step.leave)
+
+abbrev pub IsPrintableLabel : Airport → LabelRow → Type 0
+IsPrintableLabel airport label = HasArc airport label.arc × (IsShort label.from × (IsShort label.until × IsShort label.value))
+
+abbrev pub IsPrintableWindow : Span → Type 0
+IsPrintableWindow window = IsShort window.from × IsShort window.until
+
+abbrev pub IsPrintableCause : StepCause → Type 0
+IsPrintableCause (Taken at by) = IsShort at × IsName by
+IsPrintableCause _ = ⊤
+
+-- the first step that fails is one of 256
+abbrev pub IsPrintableFault : StepFault → Type 0
+IsPrintableFault fault = ((1 ≤ fault.number) × (fault.number ≤ 256)) × IsPrintableCause fault.cause
+
+abbrev pub IsPrintableRefusal : Refusal → Type 0
+IsPrintableRefusal (refusal.AlreadyDone end) = IsShort end
+IsPrintableRefusal (refusal.AlreadyMoving start) = IsShort start
+IsPrintableRefusal (refusal.Step fault) = IsPrintableFault fault
+IsPrintableRefusal _ = ⊤
+
+-- A block that has a text in the grammar: its arcs and segments are the airport's, its names are names, its numbers have at
+-- most 7 digits and its counts at most 10, and a route has at least one step.
+abbrev pub IsPrintable : Airport → Block → Type 0
+IsPrintable airport (Refused why) = IsPrintableRefusal why
+IsPrintable airport (Filed flight start end) = IsName flight × (IsShort start × IsShort end)
+IsPrintable airport (Cancelled flight) = IsName flight
+IsPrintable airport (Route flight second steps labels) =
+    (IsName flight × (IsShort second × (((0 < length steps) × IsCount (length steps)) × IsCount (length labels))))
+    × (All (IsPrintableStep airport) steps × All (IsPrintableLabel airport) labels)
+IsPrintable airport (NoRoute labels) = IsCount (length labels) × All (IsPrintableLabel airport) labels
+IsPrintable airport (Windows segment windows) = (HasSegment airport segment × IsCount (length windows)) × All IsPrintableWindow windows

@@ -1,0 +1,102 @@
+//! One line of a block, written from its end to its front in a buffer that is kept for the next. So digits are written
+//! where they are to stand, the last first.
+ghost use Rattle.std.specs.Prelude.{◌≡◌, ◌+◌, ◌≤◌, ◌∷◌, ◌++◌, [], length, decimal};
+ghost use Rattle.airport_file.specs.Words.{segment_word, word_of_arc};
+ghost use Rattle.certificate.specs.Printable.{HasArc, HasSegment};
+
+use airport_file::Airport;
+use itoa::write_digits;
+use std::marker::Model;
+use taxi_base::{Arc, Segment};
+
+const ROOM: usize = 96;
+
+/// What is written of a line so far, which is its end.
+#[derive(Drop)]
+pub(crate) struct LineBuffer {
+    // The bytes from `start` on are those of the line.
+    bytes: [u8; ROOM],
+    start: usize,
+}
+
+impl Model for LineBuffer {
+    ghost use Rattle.std.specs.Prelude.{List, ℕ, ◌≤◌, drop};
+
+    ghost Value = { List ℕ };
+
+    ghost view = { λ l. drop l.start l.bytes };
+
+    ghost invariant = { λ l. l.start ≤ 96 };
+}
+
+impl LineBuffer {
+    pub(crate) fn new() -> LineBuffer
+        ensures { result ≡ [] }
+    {
+        LineBuffer {
+            bytes: [0; ROOM],
+            start: ROOM,
+        }
+    }
+
+    pub(crate) fn bytes(&self) -> &[u8]
+        ensures { result.now ≡ self.now }
+    {
+        &self.bytes[self.start..]
+    }
+
+    /// No bytes.
+    pub(crate) fn clear(&mut self)
+        ensures { self.new ≡ [] }
+    {
+        self.start = ROOM;
+    }
+
+    /// A line of which only the line feed is written.
+    pub(crate) fn begin(&mut self)
+        ensures { self.new ≡ 10 ∷ [] }
+    {
+        self.start = ROOM - 1;
+        self.bytes[ROOM - 1] = b'\n';
+    }
+
+    /// A text before what is written.
+    pub(crate) fn put(&mut self, text: &[u8])
+        requires { length text.now + length self.old ≤ 96 }
+        ensures { self.new ≡ text.now ++ self.old }
+    {
+        let end = self.start;
+        self.start = end - text.len();
+        self.bytes[self.start..end].copy_from_slice(text);
+    }
+
+    /// A number before what is written.
+    pub(crate) fn put_number(&mut self, number: u64)
+        requires { length self.old + 20 ≤ 96 }
+        ensures text { self.new ≡ decimal number ++ self.old }
+        ensures length { length self.new ≤ length self.old + 20 }
+    {
+        self.start = write_digits(number, &mut self.bytes, self.start);
+    }
+
+    /// The name of a segment before what is written.
+    pub(crate) fn put_segment(&mut self, airport: &Airport, segment: Segment)
+        requires exists { HasSegment airport.now segment }
+        requires room { length self.old + 16 ≤ 96 }
+        ensures text { self.new ≡ segment_word airport.now segment ++ self.old }
+        ensures length { length self.new ≤ length self.old + 16 }
+    {
+        self.put(airport.segment_name(segment).bytes());
+    }
+
+    /// The word of an arc before what is written.
+    pub(crate) fn put_arc(&mut self, airport: &Airport, arc: Arc)
+        requires exists { HasArc airport.now arc }
+        requires room { length self.old + 17 ≤ 96 }
+        ensures text { self.new ≡ word_of_arc airport.now arc ++ self.old }
+        ensures length { length self.new ≤ length self.old + 17 }
+    {
+        self.put(if arc.0 % 2 == 0 { b"+" } else { b"-" });
+        self.put_segment(airport, Segment(arc.0 / 2));
+    }
+}

@@ -1,0 +1,4 @@
+mod InsideLaws
+mod StepLaws
+mod EndLaws
+mod ToldLaws

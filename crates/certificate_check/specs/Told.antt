@@ -1,0 +1,43 @@
+-- Which rule does a block break first, where it tells of a search for a new flight?
+use Rattle.std.specs.Prelude.{ℕ, ◌<◌, List, length, Option, Some, None, MatchOption}
+use Rattle.taxi_base.specs.declared.answers.Request.{Request}
+use Rattle.taxi_base.specs.declared.answers.Request.TheVariants as request
+use Rattle.taxi_base.specs.declared.rows.LabelRow.{LabelRow}
+use Rattle.taxi_base.specs.Airport.{Airport}
+use Rattle.taxi_base.specs.Walks.{Conditions}
+use Rattle.certificate.specs.declared.rule.Rule.{Rule}
+use Rattle.certificate.specs.declared.rule.Rule.TheVariants as rule
+use Rattle.certificate.specs.Printable.{IsShort}
+use Rattle.certificate.specs.Sought.{search_of}
+use Rattle.certificate.specs.TableRules.{KeepsRows, KeepsStart, KeepsStep, KeepsTarget}
+use Rattle.certificate.specs.Passes.{turn_of}
+use Rattle.check_rows.specs.declared.verdict.RowRule.{RowRule}
+use Rattle.check_rows.specs.declared.verdict.RowRule.TheVariants.{Rows, Start, Step, Target}
+use Rattle.check_rows.specs.Verdict.{IsVerdict}
+
+-- none of the rules is broken; or one is, and each before it is kept
+abbrev pub IsFirstOf : (Rule → Type 0) → Option Rule → Type 0
+IsFirstOf IsKept None = (rule : Rule) → IsKept rule
+IsFirstOf IsKept (Some rule) = (IsKept rule → ⊥) × ((other : Rule) → turn_of other < turn_of rule → IsKept other)
+
+-- what was asked for is a route to be found, between nodes of the airport, and its times have at most 7 digits
+abbrev pub CanBeSought : Airport → Request → Type 0
+CanBeSought airport request.Filed = ⊥
+CanBeSought airport (request.Arrival from to time hold) = (from.0 < length airport.nodes) × (IsShort time × IsShort hold)
+CanBeSought airport (request.Departure from to time queue) = (to.0 < length airport.nodes) × (IsShort time × IsShort queue)
+
+-- ---- the table of a search; no public clause cites these
+
+-- the rule for blocks that stands for a rule for rows
+abbrev pub rule_of : Option RowRule → Option Rule
+rule_of None = None
+rule_of (Some Rows) = Some rule.Rows
+rule_of (Some Start) = Some rule.Start
+rule_of (Some Step) = Some rule.Step
+rule_of (Some Target) = Some rule.Target
+
+-- the first rule for rows that the table of a search breaks
+abbrev pub IsVerdictOn : Conditions → Request → Option ℕ → List LabelRow → Option RowRule → Type 0
+IsVerdictOn c request bound rows verdict =
+    MatchOption (search_of request None) ⊥
+    (λ search. IsVerdict (KeepsRows c rows) (KeepsStart c search bound rows) (KeepsStep c search bound rows) (KeepsTarget c search bound rows) verdict)

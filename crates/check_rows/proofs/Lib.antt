@@ -1,0 +1,10 @@
+pub mod LoopLaws
+pub mod GapLaws
+pub mod RowLaws
+pub mod PlaceLaws
+pub mod NearLaws
+pub mod KnownLaws
+pub mod EachLaws
+pub mod ReachLaws
+pub mod ArcLaws
+pub mod VerdictLaws

@@ -1,0 +1,99 @@
+-- A row is found by its place in the order.
+use Rattle.std.proofs.Common.{◌≡◌, ◌↔◌, ℕ, ◌<◌, ◌≤◌, true, false, List, length, get_or, inl, inr, IsTrue, refl, sym, ◌∙◌, ap, subst, arith}
+use Rattle.std.specs.Prelude.{◌&&◌, ◌||◌, ◌==◌, nat_le, nat_lt, Contains}
+use Rattle.std.specs.List.Sorted.{IsPartitionPoint, IsPartitionedBy}
+use Rattle.std.proofs.lemmas.Bool.{cases_lt, both_ways, and_parts, and_from, eqb-true, eq-eqb, leb-true, le-leb}
+use Rattle.std.proofs.lemmas.Bool.Decides.{nat_tests}
+use Rattle.std.proofs.lemmas.List.{get_or_default}
+use Rattle.taxi_base.specs.declared.rows.LabelRow.{LabelRow}
+use Rattle.taxi_base.specs.Labels.{precedes}
+use Rattle.walk_labels.specs.Rules.{HasAsEarly}
+use Rattle.walk_labels.specs.BackwardRules.{HasAsLate}
+use Rattle.check_rows.specs.declared.reach.Way.{Way}
+use Rattle.check_rows.specs.declared.reach.Way.TheVariants.{Forward, Backward}
+use Rattle.check_rows.specs.Rows.{AreOrdered, is_at_place, is_as_good}
+use Rattle.check_rows.specs.Rules.{HasAsGood}
+
+pub precedes-trans : (p q r : LabelRow) → IsTrue (precedes p q) → IsTrue (precedes q r) → IsTrue (precedes p r)
+precedes-trans p q r a b = numbers p.arc.0 p.from q.arc.0 q.from r.arc.0 r.from a b where
+  numbers : (a b c d e f : ℕ) → IsTrue (nat_lt a c || (a == c && nat_lt b d)) → IsTrue (nat_lt c e || (c == e && nat_lt d f)) → IsTrue (nat_lt a e || (a == e && nat_lt b f))
+  numbers a b c d e f h k = grind (arith, nat_tests)
+
+pub rows-parted : (rows : List LabelRow) (label : LabelRow) → AreOrdered rows → IsPartitionedBy (λ row. precedes row label) rows
+rows-parted rows label ordered i j d le on is =
+    elim (cases_lt i j) [
+      | inl below ↦ precedes-trans (get_or rows i d) (get_or rows j d) label (ordered i j d below on) is
+      | inr above ↦ (let e : j ≡ i = omega arith in subst (λ k. precedes (get_or rows k d) label ≡ true) e is)
+    ]
+
+module _ (rows : List LabelRow) (label : LabelRow) (ordered : AreOrdered rows) (at : ℕ)
+    (point : IsPartitionPoint (λ row. precedes row label ≡ true) (λ row. precedes row label ≡ false) rows at) where
+  not_before : (row : LabelRow) → IsTrue (is_at_place row label) → precedes row label ≡ false
+  not_before row same = numbers row.arc.0 row.from row.until label.arc.0 label.from label.until same where
+    numbers : (a b u c d v : ℕ) → IsTrue (a == c && (b == d && u == v)) → (nat_lt a c || (a == c && nat_lt b d)) ≡ false
+    numbers a b u c d v h = grind (arith, nat_tests)
+
+  before_too : (other row : LabelRow) → IsTrue (is_at_place row label) → IsTrue (precedes other row) → IsTrue (precedes other label)
+  before_too other row same is = numbers other.arc.0 other.from row.arc.0 row.from row.until label.arc.0 label.from label.until same is where
+    numbers : (x y a b u c d v : ℕ) → IsTrue (a == c && (b == d && u == v)) → IsTrue (nat_lt x a || (x == a && nat_lt y b)) → IsTrue (nat_lt x c || (x == c && nat_lt y d))
+    numbers x y a b u c d v h k = grind (arith, nat_tests)
+
+  -- a row at the label's place stands where the rows before it end
+  row-there : (row : LabelRow) → Contains rows row → IsTrue (is_at_place row label) → (at < length rows) × (get_or rows at row ≡ row)
+  row-there row there same =
+      let k = there.0 in
+      let no : precedes (get_or rows k row) label ≡ false = subst (λ r. precedes r label ≡ false) (sym there.2) (not_before row same) in
+      elim (cases_lt k at) [
+        | inl below ↦ absurd (both_ways _ no (point.0 k row (omega arith) below))
+        | inr above ↦ elim (cases_lt at k) [
+          | inl beyond ↦
+              let first : IsTrue (precedes (get_or rows at row) row) = subst (λ r. IsTrue (precedes (get_or rows at row) r)) there.2 (ordered at k row beyond there.1) in
+              absurd (both_ways _ (point.1 at row (omega arith) (omega (arith, there.1))) (before_too (get_or rows at row) row same first))
+          | inr same_place ↦ (let e : k ≡ at = omega arith in (omega (arith, there.1), subst (λ n. get_or rows n row ≡ row) e there.2))
+        ]
+      ]
+
+  at_place_from : (row : LabelRow) (v : ℕ) → row ≡ record label { value = v } → IsTrue (is_at_place row label)
+  at_place_from row v e = and_from _ _ (eq-eqb _ _ (ap (λ r. r.arc.0) e)) (and_from _ _ (eq-eqb _ _ (ap (λ r. r.from) e)) (eq-eqb _ _ (ap (λ r. r.until) e)))
+
+  to_label : (row : LabelRow) → IsTrue (is_at_place row label) → row ≡ record label { value = row.value }
+  to_label row same =
+      let parts = and_parts _ _ same in
+      let times = and_parts _ _ parts.1 in
+      let a : row.arc.0 ≡ label.arc.0 = eqb-true _ _ parts.0 in
+      let f : row.from ≡ label.from = eqb-true _ _ times.0 in
+      let u : row.until ≡ label.until = eqb-true _ _ times.1 in
+      λ i. record { arc = record { 0 = a i }; from = f i; until = u i; value = row.value }
+
+  early-some : (row : LabelRow) → at < length rows → get_or rows at row ≡ row → IsTrue (is_at_place row label && nat_le row.value label.value) ↔ HasAsEarly rows label
+  early-some row on is = (
+    λ yes. (let parts = and_parts _ _ yes in (row.value, subst (Contains rows) (to_label row parts.0) (at, on, is), leb-true _ _ parts.1)),
+    λ has.
+        let there = row-there (record label { value = has.0 }) has.1 (at_place_from _ has.0 refl) in
+        let same : row ≡ record label { value = has.0 } = sym is ∙ get_or_default rows at row (record label { value = has.0 }) on ∙ there.1 in
+        and_from _ _ (at_place_from row has.0 same) (le-leb _ _ (omega (arith, ap (λ r. r.value) same, has.2))),
+  )
+
+  late-some : (row : LabelRow) → at < length rows → get_or rows at row ≡ row → IsTrue (is_at_place row label && nat_le label.value row.value) ↔ HasAsLate rows label
+  late-some row on is = (
+    λ yes. (let parts = and_parts _ _ yes in (row.value, subst (Contains rows) (to_label row parts.0) (at, on, is), leb-true _ _ parts.1)),
+    λ has.
+        let there = row-there (record label { value = has.0 }) has.1 (at_place_from _ has.0 refl) in
+        let same : row ≡ record label { value = has.0 } = sym is ∙ get_or_default rows at row (record label { value = has.0 }) on ∙ there.1 in
+        and_from _ _ (at_place_from row has.0 same) (le-leb _ _ (omega (arith, ap (λ r. r.value) same, has.2))),
+  )
+
+  early-none : length rows ≤ at → HasAsEarly rows label → ⊥
+  early-none past has = absurd (omega (arith, (row-there (record label { value = has.0 }) has.1 (at_place_from _ has.0 refl)).0))
+
+  late-none : length rows ≤ at → HasAsLate rows label → ⊥
+  late-none past has = absurd (omega (arith, (row-there (record label { value = has.0 }) has.1 (at_place_from _ has.0 refl)).0))
+
+  -- either way
+  pub good-some : (way : Way) (row : LabelRow) → at < length rows → get_or rows at row ≡ row → IsTrue (is_as_good way row label) ↔ HasAsGood way rows label
+  good-some Forward = early-some
+  good-some Backward = late-some
+
+  pub good-none : (way : Way) → length rows ≤ at → HasAsGood way rows label → ⊥
+  good-none Forward = early-none
+  good-none Backward = late-none

@@ -1,0 +1,6 @@
+pub mod Holds
+pub mod Known
+pub mod Rows
+pub mod Verdict
+pub mod Rules
+pub mod Reached

@@ -1,0 +1,83 @@
+-- Which labels of an arc are reached in time, and with which value in a window? No public clause cites these.
+use Rattle.std.specs.Prelude.{ℕ, ◌≡◌, ◌+◌, ◌≤◌, Bool, max, min, List, Option, Some}
+use Rattle.taxi_base.specs.declared.numbers.Node.{Node}
+use Rattle.taxi_base.specs.declared.numbers.Segment.{Segment}
+use Rattle.taxi_base.specs.declared.numbers.Class.{Class}
+use Rattle.taxi_base.specs.declared.numbers.Arc.{Arc}
+use Rattle.taxi_base.specs.declared.rows.Step.{Step}
+use Rattle.taxi_base.specs.declared.rows.Span.{Span}
+use Rattle.taxi_base.specs.declared.rows.LabelRow.{LabelRow}
+use Rattle.taxi_base.specs.Airport.{Airport, Layout, layout_of, clearance_of}
+use Rattle.taxi_base.specs.Walks.{Conditions, IsInside, last_of}
+use Rattle.taxi_base.specs.Labels.{window_of, seconds_of}
+use Rattle.walk_labels.specs.Places.{IsPlace, place_of}
+use Rattle.walk_labels.specs.Requests.{OneOf}
+use Rattle.segment_graph.specs.Graphs.{AreNext, ArePrevious}
+use Rattle.check_rows.specs.declared.reach.Way.{Way}
+use Rattle.check_rows.specs.declared.reach.Way.TheVariants.{Forward, Backward}
+use Rattle.check_rows.specs.declared.reach.Reach.{Reach}
+use Rattle.check_rows.specs.Rules.{far_end, IsShort}
+
+-- the conditions at an airport, with the class's own clearance
+abbrev pub conditions_at : Airport → Class → (Segment → ℕ → Bool) → Conditions
+conditions_at airport class free = record { airport = airport; class = class; clearance = clearance_of airport class; free = free }
+
+-- ---- a label's place is reached
+
+-- going on: it is entered from a second on and by another, and left at the value at the soonest
+pub record IsEntered (c : Conditions) (from by : ℕ) (label : LabelRow) : Type 0 where
+  pub is_place : IsPlace c (place_of label)
+  pub in_time : max from label.from ≤ by
+  pub value : label.value ≡ max from label.from + seconds_of c label
+  pub in_window : label.value ≤ last_of c (window_of label)
+
+-- going back: it is left from a second on and by another, and entered at the value at the latest
+pub record IsLeft (c : Conditions) (from by : ℕ) (label : LabelRow) : Type 0 where
+  pub is_place : IsPlace c (place_of label)
+  pub in_time : from ≤ min by (last_of c (window_of label))
+  pub value : label.value + seconds_of c label ≡ min by (last_of c (window_of label))
+  pub in_window : label.from ≤ label.value
+
+abbrev pub IsReachedBy : Way → Conditions → ℕ → ℕ → LabelRow → Type 0
+IsReachedBy Forward c from by label = IsEntered c from by label
+IsReachedBy Backward c from by label = IsLeft c from by label
+
+-- at an arc
+abbrev pub IsReachedAt : Conditions → Reach → Arc → LabelRow → Type 0
+IsReachedAt c reach arc label = (label.arc ≡ arc) × IsReachedBy reach.way c reach.from reach.by label
+
+-- ---- in one window
+
+-- the value in a window, where the class takes these seconds
+abbrev pub IsValueIn : Way → Conditions → ℕ → ℕ → ℕ → Span → ℕ → Type 0
+IsValueIn Forward c from by seconds w value = (max from w.from ≤ by) × (value ≡ max from w.from + seconds) × (value ≤ last_of c w)
+IsValueIn Backward c from by seconds w value = (from ≤ min by (last_of c w)) × (value + seconds ≡ min by (last_of c w)) × (w.from ≤ value)
+
+abbrev pub label_in : Arc → Span → ℕ → LabelRow
+label_in arc w value = record { arc = arc; from = w.from; until = w.until; value = value }
+
+-- the label of an arc in a window
+pub record IsReachedIn (c : Conditions) (reach : Reach) (arc : Arc) (seconds : ℕ) (w : Span) (label : LabelRow) : Type 0 where
+  pub is : label ≡ label_in arc w label.value
+  pub value : IsValueIn reach.way c reach.from reach.by seconds w label.value
+
+-- the label of a window around a step that was begun
+pub record IsAround (c : Conditions) (begun : Step) (value : ℕ) (w : Span) (label : LabelRow) : Type 0 where
+  pub is : label ≡ label_in begun.arc w value
+  pub inside : IsInside c w begun
+
+-- ---- what comes of a row
+
+-- when the arcs around a row's are to be reached
+abbrev pub reach_of : Way → Conditions → LabelRow → Reach
+reach_of Forward c row = record { way = Forward; from = row.value; by = last_of c (window_of row) }
+reach_of Backward c row = record { way = Backward; from = row.from; by = row.value }
+
+-- the arcs to which a turn is permitted, going on, and those from which one is, going back
+abbrev pub AreNeighbours : Way → Layout → Arc → List Arc → Type 0
+AreNeighbours Forward layout arc arcs = AreNext layout arc arcs
+AreNeighbours Backward layout arc arcs = ArePrevious layout arc arcs
+
+-- a row leads to none of the nodes, and is short of the bound
+abbrev pub FallsShort : Way → Conditions → List Node → Option ℕ → LabelRow → Type 0
+FallsShort way c nodes bound row = (OneOf (λ node. far_end way (layout_of c.airport) row.arc ≡ Some node) nodes → ⊥) × IsShort way bound row.value

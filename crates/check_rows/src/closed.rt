@@ -1,0 +1,117 @@
+//! Whether each label of some arcs that is reached in time has a row.
+ghost use Rattle.std.specs.Prelude.{◌≡◌, ◌↔◌, ℕ, Bool, All, IfOk, IsTrue, length};
+ghost use Rattle.taxi_base.specs.declared.numbers.Segment.{Segment};
+ghost use Rattle.taxi_base.specs.Airport.{layout_of, arc_exists, segment_of};
+ghost use Rattle.taxi_base.specs.Windows.{AreWindows, AreApart};
+ghost use Rattle.taxi_base.specs.Walks.{conditions_among, free_among};
+ghost use Rattle.check_rows.specs.Rows.{AreOrdered};
+ghost use Rattle.check_rows.specs.Known.{AreKnown};
+ghost use Rattle.check_rows.specs.Rules.{HasEach};
+ghost use Rattle.check_rows.specs.Reached.{conditions_at, label_in, IsReachedAt, IsReachedIn};
+
+use crate::near::windows_between;
+use crate::reach::{Reach, value_in};
+use crate::table::Table;
+use crate::{HoldsOf, KnownWindows};
+use airport_file::Airport;
+use segment_graph::segment_of;
+use taxi_base::{Arc, Class, LabelRow, Memory, Span, Time};
+
+/// Whether each label of some arcs that is reached in time has a row.
+pub fn arcs_have_rows<H: HoldsOf>(
+    airport: &Airport,
+    class: Class,
+    holds: &H,
+    known: &mut KnownWindows,
+    table: &Table<'_>,
+    reach: Reach,
+    arcs: &[Arc],
+) -> Result<bool, Memory>
+    requires exist { All (λ arc. IsTrue (arc_exists (layout_of airport.now) arc)) arcs.now }
+    requires ordered { AreOrdered table.now.rows.now }
+    requires known { AreKnown (length airport.now.segments) (free_among airport.now (H.held holds.now)) known.old }
+    ensures known { AreKnown (length airport.now.segments) (free_among airport.now (H.held holds.now)) known.new }
+    ensures closed { IfOk result (λ yes. IsTrue yes ↔ All (λ arc. HasEach reach.way (IsReachedAt (conditions_among airport.now class (H.held holds.now)) reach arc) table.now.bound table.now.rows.now) arcs.now) }
+{
+    for arc in arcs {
+        let segment = segment_of(*arc);
+        known.make(airport, holds, segment)?;
+        if !arc_has_rows(airport, class, known.of(segment), table, reach, *arc) {
+            return Ok(false);
+        }
+    }
+    Ok(true)
+}
+
+/// The same of one arc, by the windows of its segment.
+fn arc_has_rows(
+    airport: &Airport,
+    class: Class,
+    windows: &[Span],
+    table: &Table<'_>,
+    reach: Reach,
+    arc: Arc,
+) -> bool
+    requires exists { IsTrue (arc_exists (layout_of airport.now) arc) }
+    requires apart { AreApart 0 windows.now }
+    requires ordered { AreOrdered table.now.rows.now }
+    ensures { (free : Segment → ℕ → Bool) → AreWindows (free (segment_of arc)) windows.now → IsTrue result ↔ HasEach reach.way (IsReachedAt (conditions_at airport.now class free) reach arc) table.now.bound table.now.rows.now }
+{
+    match airport.classes().seconds(class, segment_of(arc)) {
+        Some(seconds) => {
+            let near = windows_between(windows, reach.from, reach.by);
+            windows_have_rows(airport, class, near, table, reach, arc, seconds)
+        }
+        None => true,
+    }
+}
+
+fn windows_have_rows(
+    airport: &Airport,
+    class: Class,
+    windows: &[Span],
+    table: &Table<'_>,
+    reach: Reach,
+    arc: Arc,
+    seconds: Time,
+) -> bool
+    requires ordered { AreOrdered table.now.rows.now }
+    ensures { (free : Segment → ℕ → Bool) → IsTrue result ↔ All (λ w. HasEach reach.way (IsReachedIn (conditions_at airport.now class free) reach arc seconds w) table.now.bound table.now.rows.now) windows.now }
+{
+    for window in windows {
+        if !window_has_row(airport, class, *window, table, reach, arc, seconds) {
+            return false;
+        }
+    }
+    true
+}
+
+fn window_has_row(
+    airport: &Airport,
+    class: Class,
+    window: Span,
+    table: &Table<'_>,
+    reach: Reach,
+    arc: Arc,
+    seconds: Time,
+) -> bool
+    requires ordered { AreOrdered table.now.rows.now }
+    ensures { (free : Segment → ℕ → Bool) → IsTrue result ↔ HasEach reach.way (IsReachedIn (conditions_at airport.now class free) reach arc seconds window) table.now.bound table.now.rows.now }
+{
+    match value_in(airport, class, reach, seconds, window) {
+        Some(value) => table.has_row_for(reach.way, label_in(arc, window, value)),
+        None => true,
+    }
+}
+
+/// The label of an arc in a window.
+pub fn label_in(arc: Arc, window: Span, value: Time) -> LabelRow
+    ensures { result ≡ label_in arc window value }
+{
+    LabelRow {
+        arc,
+        from: window.from,
+        until: window.until,
+        value,
+    }
+}

@@ -1,0 +1,99 @@
+//! The windows of the segments that were asked for, kept until the holds change.
+ghost use Rattle.std.specs.Prelude.{◌≡◌, ◌<◌, ℕ, Bool, List, All, IfOk, IsTrue, OnOk, length};
+ghost use Rattle.taxi_base.specs.declared.numbers.Segment.{Segment};
+ghost use Rattle.taxi_base.specs.Airport.{layout_of, arc_exists};
+ghost use Rattle.taxi_base.specs.Windows.{Hold, AreWindows};
+ghost use Rattle.taxi_base.specs.Walks.{free_among};
+ghost use Rattle.check_rows.specs.Known.{AreKnown, is_known, DifferOn, AreLeft};
+
+use crate::HoldsOf;
+use crate::windows::fill_windows;
+use airport_file::Airport;
+use segment_graph::segment_of;
+use std::alloc::Global;
+use taxi_base::{Memory, Segment, Span, Step};
+
+/// The windows of each segment for which they were made. Their memory is used again when they are made anew.
+#[derive(Drop)]
+pub struct KnownWindows {
+    lists: Vec<SegmentWindows>,
+    // The spans of which windows are being made.
+    busy: Vec<Span>,
+}
+
+/// The windows of one segment, where they were made.
+#[derive(Drop)]
+struct SegmentWindows {
+    windows: Vec<Span>,
+    is_made: bool,
+}
+
+impl KnownWindows {
+    /// None yet of an airport's segments.
+    pub fn new(alloc: Global, airport: &Airport) -> Result<KnownWindows, Memory>
+        ensures { IfOk result (λ known. (free : Segment → ℕ → Bool) → AreKnown (length airport.now.segments) free known) }
+    {
+        let mut lists = Vec::new(alloc);
+        for _ in 0..airport.graph().segments() {
+            let windows = Vec::new(alloc);
+            lists.push(SegmentWindows {
+                windows,
+                is_made: false,
+            })?;
+        }
+        let busy = Vec::new(alloc);
+        Ok(KnownWindows { lists, busy })
+    }
+
+    /// Makes a segment's windows, unless they are there.
+    pub fn make<H: HoldsOf>(
+        &mut self,
+        airport: &Airport,
+        holds: &H,
+        segment: Segment,
+    ) -> Result<(), Memory>
+        requires on { segment.0 < length airport.now.segments }
+        requires known { AreKnown (length airport.now.segments) (free_among airport.now (H.held holds.now)) self.old }
+        ensures known { AreKnown (length airport.now.segments) (free_among airport.now (H.held holds.now)) self.new }
+        ensures made { OnOk result (IsTrue (is_known self.new segment)) }
+    {
+        let list = &mut self.lists[segment.0 as usize];
+        if !list.is_made {
+            fill_windows(&mut list.windows, &mut self.busy, airport, holds, segment)?;
+            list.is_made = true;
+        }
+        Ok(())
+    }
+
+    /// A segment's windows.
+    pub fn of(&self, segment: Segment) -> &[Span]
+        requires { IsTrue (is_known self.now segment) }
+        ensures { (segments : ℕ) (free : Segment → ℕ → Bool) → AreKnown segments free self.now → AreWindows (free segment) result.now }
+    {
+        &self.lists[segment.0 as usize].windows
+    }
+
+    /// Forgets the windows of all segments in conflict with those of some steps. The others stay right where the holds change
+    /// on the segments of the steps.
+    pub fn forget(&mut self, airport: &Airport, steps: &[Step])
+        requires { All (λ step. IsTrue (arc_exists (layout_of airport.now) step.arc)) steps.now }
+        ensures { (holds others : List Hold) → DifferOn steps.now holds others → AreKnown (length airport.now.segments) (free_among airport.now holds) self.old → AreKnown (length airport.now.segments) (free_among airport.now others) self.new }
+    {
+        for step in steps {
+            let segments = airport.conflicts().of(segment_of(step.arc));
+            forget_lists(&mut self.lists, segments);
+        }
+    }
+}
+
+/// Forgets the lists of some segments.
+fn forget_lists(lists: &mut Vec<SegmentWindows>, segments: &[Segment])
+    ensures { AreLeft segments.now lists.old.items lists.new.items }
+{
+    for segment in segments {
+        let at = segment.0 as usize;
+        if at < lists.len() {
+            lists[at].is_made = false;
+        }
+    }
+}

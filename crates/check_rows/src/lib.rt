@@ -1,0 +1,25 @@
+//! The rules by which a table of labels is checked, over plain rows and a bare list of holds.
+#![tactic(auto)]
+
+mod arrivals;
+mod closed;
+mod departures;
+mod known;
+mod laws;
+mod near;
+mod places;
+mod reach;
+mod rows;
+mod starts;
+mod steps;
+mod table;
+mod target;
+mod verdict;
+mod windows;
+
+pub use arrivals::{Begin, check_arrival};
+pub use departures::{End, check_departure};
+pub use known::KnownWindows;
+pub use laws::no_rule_fails_where_a_table_passes;
+pub use verdict::RowRule;
+pub use windows::HoldsOf;

@@ -1,0 +1,88 @@
+//! Whether rows are of places.
+ghost use Rattle.std.specs.Prelude.{◌≡◌, ◌↔◌, ◌≤◌, ◌&&◌, ◌==◌, true, false, nat_lt, All, Contains, IfOk, IsTrue, length};
+ghost use Rattle.std.specs.List.Sorted.{IsPartitionPoint};
+ghost use Rattle.taxi_base.specs.Airport.{segment_of};
+ghost use Rattle.taxi_base.specs.Windows.{AreApart};
+ghost use Rattle.taxi_base.specs.Walks.{conditions_among, free_among};
+ghost use Rattle.walk_labels.specs.Places.{IsPlace, place_of};
+ghost use Rattle.walk_labels.specs.PlacesInWindows.{can_use};
+ghost use Rattle.check_rows.specs.Known.{AreKnown};
+
+use crate::rows::window_of;
+use crate::{HoldsOf, KnownWindows};
+use airport_file::Airport;
+use segment_graph::segment_of;
+use taxi_base::{Arc, Class, LabelRow, Memory, Span};
+
+/// Whether each row's arc exists, the class has seconds on it, and the row's span is a window of its segment.
+pub fn are_at_places<H: HoldsOf>(
+    airport: &Airport,
+    class: Class,
+    holds: &H,
+    known: &mut KnownWindows,
+    rows: &[LabelRow],
+) -> Result<bool, Memory>
+    requires known { AreKnown (length airport.now.segments) (free_among airport.now (H.held holds.now)) known.old }
+    ensures known { AreKnown (length airport.now.segments) (free_among airport.now (H.held holds.now)) known.new }
+    ensures there { IfOk result (λ yes. IsTrue yes ↔ All (λ row. IsPlace (conditions_among airport.now class (H.held holds.now)) (place_of row)) rows.now) }
+{
+    for row in rows {
+        let there = is_at_place(airport, class, holds, known, *row)?;
+        if !there {
+            return Ok(false);
+        }
+    }
+    Ok(true)
+}
+
+fn is_at_place<H: HoldsOf>(
+    airport: &Airport,
+    class: Class,
+    holds: &H,
+    known: &mut KnownWindows,
+    row: LabelRow,
+) -> Result<bool, Memory>
+    requires known { AreKnown (length airport.now.segments) (free_among airport.now (H.held holds.now)) known.old }
+    ensures known { AreKnown (length airport.now.segments) (free_among airport.now (H.held holds.now)) known.new }
+    ensures there { IfOk result (λ yes. IsTrue yes ↔ IsPlace (conditions_among airport.now class (H.held holds.now)) (place_of row)) }
+{
+    if !can_use(airport, class, row.arc) {
+        return Ok(false);
+    }
+    let segment = segment_of(row.arc);
+    known.make(airport, holds, segment)?;
+    Ok(has_window(known.of(segment), window_of(row)))
+}
+
+/// Whether an arc exists, and the class has seconds on its segment.
+fn can_use(airport: &Airport, class: Class, arc: Arc) -> bool
+    ensures { result ≡ can_use airport.now class arc }
+{
+    airport.graph().exists(arc) && airport.classes().seconds(class, segment_of(arc)).is_some()
+}
+
+/// Whether a span is one of some windows.
+fn has_window(windows: &[Span], window: Span) -> bool
+    requires { AreApart 0 windows.now }
+    ensures { IsTrue result ↔ Contains windows.now window }
+{
+    match windows.get(windows_before(windows, window)) {
+        Some(found) => is_same(*found, window),
+        None => false,
+    }
+}
+
+/// How many windows begin before a span.
+fn windows_before(windows: &[Span], window: Span) -> usize
+    requires { AreApart 0 windows.now }
+    ensures few { result ≤ length windows.now }
+    ensures point { IsPartitionPoint (λ w. nat_lt w.from window.from ≡ true) (λ w. nat_lt w.from window.from ≡ false) windows.now result }
+{
+    windows.partition_point(|w| w.from < window.from)
+}
+
+fn is_same(found: Span, window: Span) -> bool
+    ensures { result ≡ (found.from == window.from && found.until == window.until) }
+{
+    found.from == window.from && found.until == window.until
+}

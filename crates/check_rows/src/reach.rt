@@ -1,0 +1,98 @@
+//! When the place of a label is reached in time, going on or going back.
+ghost use Rattle.std.specs.Prelude.{◌≡◌, ◌↔◌, ◌+◌, ◌≤◌, ◌&&◌, ℕ, Bool, Some, nat_le, max, min};
+ghost use Rattle.taxi_base.specs.declared.numbers.Segment.{Segment};
+ghost use Rattle.taxi_base.specs.Walks.{last_of};
+ghost use Rattle.check_rows.specs.Reached.{conditions_at, IsValueIn};
+
+use airport_file::Airport;
+use std::cmp::{max, min};
+use taxi_base::{Class, Span, Time};
+
+/// The two ways in which labels come of one another.
+#[derive(Clone, Copy, Debug, PartialEq, Eq)]
+pub enum Way {
+    /// Going on in time: each label after the one that it comes of.
+    Forward,
+    /// Going back in time: each label before the one that it comes of.
+    Backward,
+}
+
+/// When an arc is to be entered, going on, or left, going back: from a second on, and by another.
+#[derive(Clone, Copy)]
+pub struct Reach {
+    pub way: Way,
+    pub from: Time,
+    pub by: Time,
+}
+
+/// The value of a label in a window, if the window can be reached in time and the class can stay in it for these seconds.
+pub fn value_in(
+    airport: &Airport,
+    class: Class,
+    reach: Reach,
+    seconds: Time,
+    window: Span,
+) -> Option<Time>
+    ensures { (free : Segment → ℕ → Bool) (v : ℕ) → (result ≡ Some v) ↔ IsValueIn reach.way (conditions_at airport.now class free) reach.from reach.by seconds window v }
+{
+    let last = last_in(airport, class, window);
+    match reach.way {
+        Way::Forward => left_in(reach, seconds, window, last),
+        Way::Backward => entered_in(reach, seconds, window, last),
+    }
+}
+
+/// When a window is left at the soonest that is entered in time.
+fn left_in(reach: Reach, seconds: Time, window: Span, last: Time) -> Option<Time>
+    ensures { (v : ℕ) → (result ≡ Some v) ↔ ((max reach.from window.from ≤ reach.by) × (v ≡ max reach.from window.from + seconds) × (v ≤ last)) }
+{
+    let enter = later(reach.from, window.from);
+    if enter <= reach.by && has_time(enter, seconds, last) {
+        Some(enter + seconds)
+    } else {
+        None
+    }
+}
+
+/// When a window is entered at the latest that is left in time.
+fn entered_in(reach: Reach, seconds: Time, window: Span, last: Time) -> Option<Time>
+    ensures { (v : ℕ) → (result ≡ Some v) ↔ ((reach.from ≤ min reach.by last) × (v + seconds ≡ min reach.by last) × (window.from ≤ v)) }
+{
+    let leave = sooner(reach.by, last);
+    if reach.from <= leave && has_time(window.from, seconds, leave) {
+        Some(leave - seconds)
+    } else {
+        None
+    }
+}
+
+/// Whether so many seconds lie between two times.
+fn has_time(from: Time, seconds: Time, until: Time) -> bool
+    ensures { result ≡ nat_le (from + seconds) until }
+{
+    from <= until && seconds <= until - from
+}
+
+/// The last second at which a step inside a window may leave.
+pub fn last_in(airport: &Airport, class: Class, window: Span) -> Time
+    ensures { (free : Segment → ℕ → Bool) → result ≡ last_of (conditions_at airport.now class free) window }
+{
+    let horizon = airport.horizon();
+    if window.until == horizon {
+        horizon
+    } else {
+        window.until.saturating_sub(airport.clearance(class))
+    }
+}
+
+pub fn later(a: Time, b: Time) -> Time
+    ensures { result ≡ max a b }
+{
+    max(a, b)
+}
+
+fn sooner(a: Time, b: Time) -> Time
+    ensures { result ≡ min a b }
+{
+    min(a, b)
+}

@@ -1,0 +1,66 @@
+//! A table to be checked: its rows, and the bound of which they fall short.
+ghost use Rattle.std.specs.Prelude.{◌≡◌, ◌↔◌, ◌≤◌, ◌&&◌, nat_le, true, false, length, IsTrue};
+ghost use Rattle.std.specs.List.Sorted.{IsPartitionPoint};
+ghost use Rattle.taxi_base.specs.Labels.{precedes};
+ghost use Rattle.check_rows.specs.Rows.{AreOrdered, is_before};
+ghost use Rattle.check_rows.specs.Rules.{IsShort, HasAsGood};
+
+use crate::reach::Way;
+use crate::rows::{is_as_good, precedes};
+use taxi_base::{LabelRow, Time};
+
+/// Rows, and a bound if there is one.
+#[derive(Clone, Copy)]
+pub struct Table<'a> {
+    pub rows: &'a [LabelRow],
+    pub bound: Option<Time>,
+}
+
+impl<'a> Table<'a> {
+    /// Whether a value is short of the bound: below it going on, above it going back.
+    pub fn is_short(&self, way: Way, value: Time) -> bool
+        ensures { IsTrue result ↔ IsShort way self.now.bound value }
+    {
+        match self.bound {
+            Some(bound) => is_before(way, value, bound),
+            None => true,
+        }
+    }
+
+    /// Whether a label has a row that is at least as good, if it is short of the bound.
+    pub fn has_row_for(&self, way: Way, label: LabelRow) -> bool
+        requires { AreOrdered self.now.rows.now }
+        ensures { IsTrue result ↔ (IsShort way self.now.bound label.value → HasAsGood way self.now.rows.now label) }
+    {
+        !self.is_short(way, label.value) || self.has_as_good(way, label)
+    }
+
+    fn has_as_good(&self, way: Way, label: LabelRow) -> bool
+        requires { AreOrdered self.now.rows.now }
+        ensures { IsTrue result ↔ HasAsGood way self.now.rows.now label }
+    {
+        match self.rows.get(self.rows_before(label)) {
+            Some(row) => is_as_good(way, *row, label),
+            None => false,
+        }
+    }
+
+    /// How many rows stand before the label's place.
+    fn rows_before(&self, label: LabelRow) -> usize
+        requires { AreOrdered self.now.rows.now }
+        ensures few { result ≤ length self.now.rows.now }
+        ensures point { IsPartitionPoint (λ row. precedes row label ≡ true) (λ row. precedes row label ≡ false) self.now.rows.now result }
+    {
+        self.rows.partition_point(|row| precedes(*row, label))
+    }
+}
+
+/// Whether a value is before another on a way.
+fn is_before(way: Way, value: Time, other: Time) -> bool
+    ensures { result ≡ is_before way value other }
+{
+    match way {
+        Way::Forward => value < other,
+        Way::Backward => other < value,
+    }
+}

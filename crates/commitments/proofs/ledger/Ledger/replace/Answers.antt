@@ -1,0 +1,58 @@
+use Rattle.std.proofs.Common.{◌≡◌, Some, sym, subst, ap, ◌∙◌}
+use Rattle.std.specs.Option.{ForSome}
+use Rattle.taxi_base.specs.Walks.{IsFeasibleWalk}
+use Rattle.taxi_base.specs.State.{flight_named, flights_hold, flights_without, conditions_of}
+use Rattle.commitments.specs.Book.{Book, Fits, state_of, lifted_flight}
+use Rattle.commitments.proofs.Names.{absent-left, find-named}
+use Rattle.commitments.proofs.Fitting.{lifted-in_force, lifted-flight, lifted-stands, lifted-walk, place-some, replaced, fits-replace}
+use Rattle.commitments.proofs.ledger.Ledger.replace.Goals as goal
+
+pub unwrap-name-requires : goal.unwrap-name-requires
+unwrap-name-requires c =
+    let lifted = ap (λ (b : Book). b.lifted) c.self.view_is in
+    rw (c.take.ensures.value, lifted) c.requires.lifted
+
+pub unwrap-place-requires : goal.unwrap-place-requires
+unwrap-place-requires c =
+    let fits = subst (Fits c.args.airport.now) (sym c.self.view_is) c.requires.fits in
+    place-some c.self.inside.flights.flights c.unwrap-name.result c.place.result c.place.ensures
+    (lifted-in_force c.args.airport.now _ c.unwrap-name.result fits (sym c.take.ensures.value ∙ c.unwrap-name.ensures))
+
+pub hold_flight-requires-clause-feasible : goal.hold_flight-requires-clause-feasible
+hold_flight-requires-clause-feasible c =
+    let fits = subst (Fits c.args.airport.now) (sym c.self.view_is) c.requires.fits in
+    let at = rw c.unwrap-place.ensures at c.place.ensures in
+    let lifted = sym c.take.ensures.value ∙ c.unwrap-name.ensures in
+    let found = sym at.named ∙ c.remove-flight.ensures.flight in
+    let feasible = subst (λ (b : Book). ForSome (lifted_flight b) (λ flight. IsFeasibleWalk (conditions_of c.args.airport.now (state_of b) flight) c.args.steps)) (sym c.self.view_is) c.requires.feasible in
+    (lifted-walk c.args.airport.now _ c.unwrap-name.result fits lifted c.remove-flight.result found c.args.steps
+    (feasible c.remove-flight.result (lifted-flight c.args.airport.now _ c.unwrap-name.result fits lifted c.remove-flight.result found)))
+
+pub insert-requires-clause-absent : goal.insert-requires-clause-absent
+insert-requires-clause-absent c =
+    let at = rw c.unwrap-place.ensures at c.place.ensures in
+    let found = sym at.named ∙ c.remove-flight.ensures.flight in
+    rw (c.remove-flight.ensures.flights, at.others, find-named c.unwrap-name.result c.self.inside.flights.flights c.remove-flight.result found)
+    (absent-left c.unwrap-name.result c.self.inside.flights.flights)
+
+pub returns-clause-flights : goal.returns-clause-flights
+returns-clause-flights c =
+    let fits = subst (Fits c.args.airport.now) (sym c.self.view_is) c.requires.fits in
+    let at = rw c.unwrap-place.ensures at c.place.ensures in
+    let lifted = sym c.take.ensures.value ∙ c.unwrap-name.ensures in
+    let found = sym at.named ∙ c.remove-flight.ensures.flight in
+    rw (← c.self.view_is, lifted-flight c.args.airport.now _ c.unwrap-name.result fits lifted c.remove-flight.result found, c.insert.ensures.flights, c.remove-flight.ensures.flights)
+    (replaced c.unwrap-name.result c.self.inside.flights.flights c.unwrap-place.result at c.remove-flight.result found c.args.request c.args.steps)
+
+pub returns-clause-fits : goal.returns-clause-fits
+returns-clause-fits c =
+    let fits = subst (Fits c.args.airport.now) (sym c.self.view_is) c.requires.fits in
+    let at = rw c.unwrap-place.ensures at c.place.ensures in
+    let lifted = sym c.take.ensures.value ∙ c.unwrap-name.ensures in
+    let found = sym at.named ∙ c.remove-flight.ensures.flight in
+    let feasible = subst (λ (b : Book). ForSome (lifted_flight b) (λ flight. IsFeasibleWalk (conditions_of c.args.airport.now (state_of b) flight) c.args.steps)) (sym c.self.view_is) c.requires.feasible in
+    rw (c.take.ensures.after, c.insert.ensures.flights, c.remove-flight.ensures.flights)
+    (fits-replace c.args.airport.now _ fits c.hold_flight.new.store c.hold_flight.ensures.nodes c.insert.new.self.room c.unwrap-name.result c.unwrap-place.result at
+    c.remove-flight.result c.args.request c.args.steps found
+    (feasible c.remove-flight.result (lifted-flight c.args.airport.now _ c.unwrap-name.result fits lifted c.remove-flight.result found))
+    (c.hold_flight.ensures.stands (flights_hold c.args.airport.now (flights_without c.unwrap-name.result c.self.inside.flights.flights)) (lifted-stands c.args.airport.now _ c.unwrap-name.result fits lifted)))

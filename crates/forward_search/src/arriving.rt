@@ -1,0 +1,114 @@
+//! The search for an arrival's route.
+ghost use Rattle.std.specs.Prelude.{◌≡◌, ℕ, ◌≤◌, length, All, IfOk};
+ghost use Rattle.taxi_base.specs.Airport.{layout_of, IsWellFormed};
+ghost use Rattle.taxi_base.specs.Walks.{conditions_in_windows};
+ghost use Rattle.taxi_base.specs.Labels.{AnswersArrival};
+ghost use Rattle.walk_labels.specs.Requests.{BeginsBy};
+ghost use Rattle.walk_labels.specs.PlacesInWindows.{AreWindowLists};
+ghost use Rattle.place_cells.specs.Laid.{windows_of, AreSearched};
+ghost use Rattle.forward_search.specs.Arrivals.{beginning_of};
+
+use crate::cells::ArrivalCells;
+use crate::starting::Start;
+use airport_file::Airport;
+use label_search::{LabelRoom, earliest_exits};
+use place_cells::{PlaceCells, SearchGround, SearchRoom, rows_of, steps_of};
+use std::alloc::Global;
+use taxi_base::{Class, Found, Memory, Node, Time};
+use window_store::WindowStore;
+
+/// The picked one of the walks in the store's windows that begin so and reach the node soonest, with the labels short of its
+/// end; or that there is no walk, with all labels. Each step keeps the clearance after it inside its window, but no longer
+/// than to the horizon.
+pub fn arrive(
+    alloc: Global,
+    airport: &Airport,
+    store: &WindowStore,
+    start: Start,
+    class: Class,
+    to: Node,
+    clearance: Time,
+) -> Result<Found, Memory>
+    requires segments { length store.now.lists ≡ length airport.now.segments }
+    requires horizon { All (All (λ w. w.until ≤ airport.now.horizon)) (windows_of store.now) }
+    ensures { (leave : ℕ) → IfOk result (AnswersArrival (conditions_in_windows airport.now class clearance (windows_of store.now)) (BeginsBy (layout_of airport.now) (beginning_of start leave)) to) }
+{
+    let mut room = SearchRoom::new(alloc)?;
+    arrive_in(
+        alloc, &mut room, airport, store, start, class, to, clearance,
+    )
+}
+
+/// The same in kept room. What was left there by an earlier search does not matter.
+pub fn arrive_in(
+    alloc: Global,
+    room: &mut SearchRoom,
+    airport: &Airport,
+    store: &WindowStore,
+    start: Start,
+    class: Class,
+    to: Node,
+    clearance: Time,
+) -> Result<Found, Memory>
+    requires segments { length store.now.lists ≡ length airport.now.segments }
+    requires horizon { All (All (λ w. w.until ≤ airport.now.horizon)) (windows_of store.now) }
+    ensures { (leave : ℕ) → IfOk result (AnswersArrival (conditions_in_windows airport.now class clearance (windows_of store.now)) (BeginsBy (layout_of airport.now) (beginning_of start leave)) to) }
+{
+    // With the horizon comes that the airport keeps the rules.
+    let _horizon = airport.horizon();
+    room.cells.lay(airport.graph(), store)?;
+    search_among(
+        alloc,
+        &mut room.labels,
+        airport,
+        store,
+        &room.cells,
+        start,
+        class,
+        to,
+        clearance,
+    )
+}
+
+/// The same over the cells that are laid.
+fn search_among<'x>(
+    alloc: Global,
+    labels: &mut LabelRoom,
+    airport: &'x Airport,
+    store: &'x WindowStore,
+    cells: &'x PlaceCells,
+    start: Start,
+    class: Class,
+    to: Node,
+    clearance: Time,
+) -> Result<Found, Memory>
+    requires lists { AreWindowLists airport.now (windows_of store.now) }
+    requires searched { AreSearched (windows_of store.now) cells.now }
+    requires rules { IsWellFormed airport.now }
+    ensures { (leave : ℕ) → IfOk result (AnswersArrival (conditions_in_windows airport.now class clearance (windows_of store.now)) (BeginsBy (layout_of airport.now) (beginning_of start leave)) to) }
+{
+    let ground = SearchGround {
+        graph: airport.graph(),
+        classes: airport.classes(),
+        store,
+        cells,
+        class,
+        horizon: airport.horizon(),
+        clearance,
+    };
+    let to = [to];
+    let asked = ArrivalCells {
+        ground: &ground,
+        start,
+        to: &to,
+    };
+    let label_search::Found { values, route } = earliest_exits(alloc, labels, &asked)?;
+    let labels = rows_of(alloc, &cells.cells, &values)?;
+    match route {
+        None => Ok(Found::NoRoute { labels }),
+        Some(route) => {
+            let steps = steps_of(alloc, &cells.cells, &route.steps)?;
+            Ok(Found::Route { steps, labels })
+        }
+    }
+}

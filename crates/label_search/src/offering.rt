@@ -1,0 +1,125 @@
+//! Labels as they come: a cell is offered one, and keeps the best.
+ghost use Rattle.std.specs.Prelude.{◌≡◌, ◌<◌, ◌↔◌, ℕ, length, replicate, Some, None, IfOk, OnOk, IfSome, IsSomeAnd, IsTrue, slice_set};
+ghost use Rattle.label_queue.specs.Keys.{key_of};
+ghost use Rattle.label_search.specs.Labels.{IsImproved, standing, label_of};
+ghost use Rattle.label_search.specs.Expanding.{HasRoom};
+ghost use Rattle.label_search.specs.Values.{rows_from, values_kept};
+
+use crate::labels::{Label, Labels};
+use crate::marks::clear_marked;
+use crate::values::{CellValue, push_values};
+use label_queue::LabelQueue;
+use std::alloc::Global;
+use taxi_base::Memory;
+
+/// How many cells share a mark.
+pub(crate) const BLOCK: usize = 16;
+
+impl Labels {
+    /// No label yet, with room for so many cells.
+    pub(crate) fn new(alloc: Global, count: usize) -> Result<Labels, Memory>
+        ensures known { IfOk result (λ l. l.known.items ≡ replicate count None) }
+        ensures queue { IfOk result (λ l. l.queue ≡ replicate count None) }
+    {
+        Ok(Labels {
+            known: Vec::from_elem(alloc, None, count)?,
+            queue: LabelQueue::new(alloc, count)?,
+            marks: Vec::from_elem(alloc, false, count / BLOCK + 1)?,
+        })
+    }
+
+    /// No label again, with room for so many cells.
+    pub(crate) fn renew(&mut self, alloc: Global, count: usize) -> Result<(), Memory>
+        ensures room { OnOk result (HasRoom count (standing self.new)) }
+        ensures unlabelled { OnOk result ((c : ℕ) → label_of self.new.known.items c ≡ None) }
+        ensures unqueued { OnOk result ((c : ℕ) → key_of self.new.queue c ≡ None) }
+    {
+        if self.known.len() < count {
+            // With half as much again, room is seldom made anew.
+            *self = Labels::new(alloc, count.saturating_add(count / 2))?;
+        } else {
+            self.clear();
+        }
+        Ok(())
+    }
+
+    /// No label again. It costs what the labels of the last search took up.
+    fn clear(&mut self)
+        ensures known { length self.new.known.items ≡ length self.old.known.items }
+        ensures queue { self.new.queue ≡ replicate (length self.old.queue) None }
+        ensures unlabelled { (c : ℕ) → label_of self.new.known.items c ≡ None }
+    {
+        clear_marked(&mut self.known, &mut self.marks);
+        self.queue.clear();
+    }
+
+    /// Gives the cell the label, unless it has one that is as good.
+    pub(crate) fn offer(&mut self, cell: usize, label: Label)
+        requires known { cell < length self.old.known.items }
+        requires queue { cell < length self.old.queue }
+        ensures { IsImproved (standing self.old) (standing self.new) cell label }
+    {
+        let old = self.known[cell];
+        if is_lower(label, old) {
+            self.write(cell, label);
+            self.queue.insert_or_lower(cell, label.value).unwrap();
+        } else if wins_tie(label, old) {
+            self.write(cell, label);
+        }
+    }
+
+    /// Gives the cell the label.
+    fn write(&mut self, cell: usize, label: Label)
+        requires { cell < length self.old.known.items }
+        ensures known { self.new.known.items ≡ slice_set self.old.known.items cell (Some label) }
+        ensures queue { self.new.queue ≡ self.old.queue }
+    {
+        self.marks[cell / BLOCK] = true;
+        self.known[cell] = Some(label);
+    }
+
+    /// The values below the bound, or all where there is none, by cell.
+    pub(crate) fn values_below(
+        &self,
+        alloc: Global,
+        bound: Option<u32>,
+    ) -> Result<Vec<CellValue>, Memory>
+        ensures { IfOk result (λ values. values.items ≡ rows_from 0 (values_kept bound self.now.known.items)) }
+    {
+        let mut values = Vec::new(alloc);
+        let count = self.known.len();
+        for block in 0..self.marks.len() {
+            if self.marks[block] {
+                let first = block * BLOCK;
+                push_values(
+                    &mut values,
+                    &self.known,
+                    bound,
+                    first,
+                    count.min(first + BLOCK),
+                )?;
+            }
+        }
+        Ok(values)
+    }
+}
+
+/// Whether a cell's value gets less by the label.
+fn is_lower(label: Label, old: Option<Label>) -> bool
+    ensures { IsTrue result ↔ IfSome old (λ l. label.value < l.value) }
+{
+    match old {
+        None => true,
+        Some(old) => label.value < old.value,
+    }
+}
+
+/// Whether the label has the old one's value, and came by a lesser cell.
+fn wins_tie(label: Label, old: Option<Label>) -> bool
+    ensures { IsTrue result ↔ IsSomeAnd old (λ l. (label.value ≡ l.value) × (label.via < l.via)) }
+{
+    match old {
+        None => false,
+        Some(old) => label.value == old.value && label.via < old.via,
+    }
+}

@@ -1,0 +1,6 @@
+pub mod Laid
+pub mod Cut
+pub mod Turns
+pub mod Ground
+pub mod Grounds
+pub mod Found

@@ -1,0 +1,155 @@
+//! What a search asks of its ground.
+ghost use Rattle.std.specs.Prelude.{◌≡◌, ℕ, ◌<◌, length, unwrap_or, Some, IsTrue};
+ghost use Rattle.taxi_base.specs.declared.numbers.Arc.{Arc as ArcNumber};
+ghost use Rattle.taxi_base.specs.declared.numbers.Node.{Node as NodeNumber};
+ghost use Rattle.taxi_base.specs.Airport.{arc_exists, tail, head, meet, segment_of, seconds_in};
+ghost use Rattle.label_search.specs.Problem.{cell_of};
+ghost use Rattle.walk_labels.specs.PlacesInWindows.{cells_in};
+ghost use Rattle.walk_labels.specs.Requests.{leads_to_one_of};
+ghost use Rattle.place_cells.specs.Turns.{next_arcs, previous_arcs, leaving_arcs, entering_arcs};
+ghost use Rattle.place_cells.specs.Laid.{run_of_arc};
+ghost use Rattle.place_cells.specs.Ground.{last_in, network_in, arc_in, can_use_in, IsArcPart};
+ghost use Rattle.place_cells.specs.Grounds.{ground_of};
+
+use crate::cut::run_between;
+use crate::ground::SearchGround;
+use label_search::{Cell, Run};
+use segment_graph::segment_of;
+use taxi_base::{Arc, Node, Time};
+
+impl<'a> SearchGround<'a> {
+    /// How many cells there are.
+    pub fn count(&self) -> usize
+        ensures { result ≡ length (cells_in (ground_of self.now).windows) }
+    {
+        self.cells.cells.len()
+    }
+
+    /// The arc of a cell.
+    pub fn arc(&self, cell: usize) -> Arc
+        requires { cell < length (cells_in (ground_of self.now).windows) }
+        ensures { result ≡ arc_in (ground_of self.now) cell }
+    {
+        self.cells.cells[cell].arc
+    }
+
+    /// The window of a cell, the last second at which a step may leave in it, and the seconds that the class takes.
+    pub fn cell(&self, cell: usize) -> Cell
+        requires { cell < length (cells_in (ground_of self.now).windows) }
+        ensures { result ≡ cell_of (network_in (ground_of self.now)) cell }
+    {
+        let place = self.cells.cells[cell];
+        Cell {
+            from: place.from,
+            last: last_second(place.until, self.horizon, self.clearance),
+            seconds: self.seconds(place.arc),
+        }
+    }
+
+    /// The seconds that the class takes on an arc; one second where it may not use it.
+    fn seconds(&self, arc: Arc) -> Time
+        ensures { result ≡ unwrap_or (seconds_in self.now.classes.now.table self.now.class (segment_of arc)) 1 }
+    {
+        self.classes
+            .seconds(self.class, segment_of(arc))
+            .unwrap_or(1)
+    }
+
+    /// Whether the graph has the arc, and the class may use it.
+    pub fn can_use(&self, arc: Arc) -> bool
+        ensures { result ≡ can_use_in (ground_of self.now) arc }
+    {
+        self.graph.exists(arc) && self.classes.seconds(self.class, segment_of(arc)).is_some()
+    }
+
+    /// The arcs that may follow an arc.
+    pub fn next(&self, arc: Arc) -> &'a [Arc]
+        requires { IsTrue (arc_exists (ground_of self.now).layout arc) }
+        ensures { result.now ≡ next_arcs (ground_of self.now).layout arc }
+    {
+        self.graph.next(arc)
+    }
+
+    /// The arcs that may come before an arc.
+    pub fn previous(&self, arc: Arc) -> &'a [Arc]
+        requires { IsTrue (arc_exists (ground_of self.now).layout arc) }
+        ensures { result.now ≡ previous_arcs (ground_of self.now).layout arc }
+    {
+        self.graph.previous(arc)
+    }
+
+    /// The arcs that leave a node; none where there is no such node.
+    pub fn leaving(&self, node: Node) -> &'a [Arc]
+        requires { (a : ArcNumber) (n : NodeNumber) → tail (ground_of self.now).layout a ≡ Some n → n.0 < (ground_of self.now).layout.nodes }
+        ensures { result.now ≡ leaving_arcs (ground_of self.now).layout node }
+    {
+        if (node.0 as usize) < self.graph.nodes() {
+            self.graph.leaving(node)
+        } else {
+            &[]
+        }
+    }
+
+    /// The arcs that enter a node; none where there is no such node.
+    pub fn entering(&self, node: Node) -> &'a [Arc]
+        requires { (a : ArcNumber) (n : NodeNumber) → head (ground_of self.now).layout a ≡ Some n → n.0 < (ground_of self.now).layout.nodes }
+        ensures { result.now ≡ entering_arcs (ground_of self.now).layout node }
+    {
+        if (node.0 as usize) < self.graph.nodes() {
+            self.graph.entering(node)
+        } else {
+            &[]
+        }
+    }
+
+    /// Whether the graph has the arc, and it leads to one of some nodes.
+    pub fn leads_to(&self, arc: Arc, nodes: &[Node]) -> bool
+        ensures { result ≡ leads_to_one_of (ground_of self.now).layout nodes.now arc }
+    {
+        if !self.graph.exists(arc) {
+            return false;
+        }
+        let head = self.graph.head(arc);
+        nodes.iter().any(|node| head.0 == node.0)
+    }
+
+    /// Whether the graph has the arc, and it leads away from the node.
+    pub fn leaves(&self, arc: Arc, node: Node) -> bool
+        ensures { result ≡ meet (tail (ground_of self.now).layout arc) (Some node) }
+    {
+        self.graph.exists(arc) && self.graph.tail(arc).0 == node.0
+    }
+
+    /// The cells of an arc.
+    pub fn run(&self, arc: Arc) -> Run
+        requires { IsTrue (arc_exists (ground_of self.now).layout arc) }
+        ensures { result ≡ run_of_arc (ground_of self.now).windows arc }
+    {
+        Run {
+            first: self.cells.first[arc.0 as usize],
+            until: self.cells.first[arc.0 as usize + 1],
+        }
+    }
+
+    /// Those cells of an arc that the class may use which do not end before one second nor begin after another.
+    pub fn part(&self, arc: Arc, low: Time, high: Time) -> Run
+        requires { IsTrue (arc_exists (ground_of self.now).layout arc) }
+        ensures { IsArcPart (ground_of self.now) arc low high result }
+    {
+        match self.classes.seconds(self.class, segment_of(arc)) {
+            None => Run { first: 0, until: 0 },
+            Some(_) => run_between(&self.cells.cells, self.run(arc), low, high),
+        }
+    }
+}
+
+/// The last second at which a step may leave in a window that ends so.
+fn last_second(until: Time, horizon: Time, clearance: Time) -> Time
+    ensures { (from : ℕ) → result ≡ last_in horizon clearance (record { from = from; until = until }) }
+{
+    if until == horizon {
+        horizon
+    } else {
+        until.saturating_sub(clearance)
+    }
+}

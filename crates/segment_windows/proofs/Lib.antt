@@ -1,2 +1,0 @@
-mod Releasing
-pub mod Standing

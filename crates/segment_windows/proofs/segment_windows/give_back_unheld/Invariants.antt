@@ -1,9 +1,0 @@
-use Rattle.std.proofs.Common.{◌-◌}
-use Rattle.segment_windows.proofs.Releasing.{IsGivenBackUntil}
-use Rattle.segment_windows.proofs.segment_windows.give_back_unheld.Given as goal
-
-abbrev pub invariant-loop-from : goal.invariant-loop-from
-invariant-loop-from g l = IsGivenBackUntil l.from l.span (g.H.HeldSeconds.spans l.others) l.fn.intervals l.intervals
-
-abbrev pub decreases-loop-from : goal.decreases-loop-from
-decreases-loop-from g l = l.span.until - l.from

@@ -1,0 +1,286 @@
+//! Runs over a small airport, written whole.
+use super::{MIGRATE, ROUTE, expect_call, shelf_of, sink_of, words_of};
+use crate::status::Status;
+use crate::top::taxi;
+use std::alloc::Global;
+use std::test::Fail;
+use taxi_base::Memory;
+use taxi_text::{push_bytes, push_number};
+
+// The first records of the small airport.
+const SMALL: &[u8] = b"taxi-airport,1\nhorizon,3600\n";
+
+// The same with the longest horizon.
+const LONG: &[u8] = b"taxi-airport,1\nhorizon,604800\n";
+
+// Two stands behind one runway node. An aircraft on A shuts C.
+fn stands_and_segments() -> &'static [u8] {
+    b"node,R,runway\n\
+      node,J,junction\n\
+      node,K,junction\n\
+      node,S1,stand\n\
+      node,S2,stand\n\
+      class,M\n\
+      segment,A,R,J,both\n\
+      segment,B,J,S1,both\n\
+      segment,C,J,K,both\n\
+      segment,D,K,S2,both\n\
+      seconds,A,M,30\n\
+      seconds,B,M,20\n\
+      seconds,C,M,25\n\
+      seconds,D,M,15\n\
+      conflict,A,C\n"
+}
+
+fn a_cancel_that_makes_three_windows() -> &'static [u8] {
+    b"file Y M 0 B+ 240\n\
+      file X1 M 100 C+ 130\n\
+      file X2 M 200 C+ 230\n\
+      windows A\n\
+      cancel Y\n\
+      windows A\n"
+}
+
+fn one_window_then_three() -> &'static [u8] {
+    b"filed Y 0 240\n\
+      filed X1 100 130\n\
+      filed X2 200 230\n\
+      windows A 1\n\
+      window 240 3600\n\
+      cancelled Y\n\
+      windows A 3\n\
+      window 0 100\n\
+      window 130 200\n\
+      window 230 3600\n\
+      done 6\n"
+}
+
+fn a_cancel_beside_another_flight() -> &'static [u8] {
+    b"file Y M 0 B+ 240\n\
+      file X1 M 240 A+ 280\n\
+      cancel Y\n\
+      windows A\n"
+}
+
+fn two_windows() -> &'static [u8] {
+    b"filed Y 0 240\n\
+      filed X1 240 280\n\
+      cancelled Y\n\
+      windows A 2\n\
+      window 0 240\n\
+      window 280 3600\n\
+      done 4\n"
+}
+
+fn refusals_in_their_order() -> &'static [u8] {
+    b"file F1 M 100 A+ 130 B+ 150\n\
+      cancel F1\n\
+      cancel F1\n\
+      file F1 M 100 A+ 130 B+ 150\n\
+      arrive F9\n\
+      file X9 M 0 A* 30\n\
+      cancel  F1\n\
+      file X9 Q 0 A+ 30\n\
+      file X9 M 0 Z+ 30\n\
+      windows Z\n\
+      file F1 Q 0 Z+ 30\n\
+      file X9 H 0 A+ 30\n\
+      file X2 M 0 A+ 29\n\
+      file X2 M 90 A+ 125\n\
+      file X2 M 90 C+ 120\n\
+      file X2 M 3575 A+ 3605\n\
+      file X2 M 0 A+ 30 A- 60\n\
+      file X2 M 130 C+ 155 D+ 170\n"
+}
+
+fn their_replies() -> &'static [u8] {
+    b"filed F1 100 150\n\
+      cancelled F1\n\
+      refused not-in-force\n\
+      filed F1 100 150\n\
+      refused bad-line\n\
+      refused bad-line\n\
+      refused bad-line\n\
+      refused unknown-class\n\
+      refused unknown-segment\n\
+      refused unknown-segment\n\
+      refused in-force\n\
+      refused step 1 class-barred\n\
+      refused step 1 too-fast\n\
+      refused step 1 taken 100 F1\n\
+      refused step 1 taken 100 F1\n\
+      refused step 1 past-horizon\n\
+      refused step 2 bad-turn\n\
+      filed X2 130 170\n\
+      done 18\n"
+}
+
+fn aircraft_that_wait_for_each_other() -> &'static [u8] {
+    b"arrival F1 M R S1 100 0\n\
+      arrival F2 M R S1 100 0\n\
+      arrival F2 M R S1 100 60\n\
+      departure G1 M S2 R 400 0\n"
+}
+
+fn their_routes() -> &'static [u8] {
+    b"route F1 150 2 1\n\
+      step A+ 100 130\n\
+      step B+ 130 150\n\
+      label A+ 0 3600 130\n\
+      no-route 0\n\
+      route F2 180 2 1\n\
+      step A+ 130 160\n\
+      step B+ 160 180\n\
+      label A+ 130 3600 160\n\
+      route G1 330 3 3\n\
+      step D- 330 345\n\
+      step C- 345 370\n\
+      step A- 370 400\n\
+      label A- 160 3600 370\n\
+      label B- 180 3600 350\n\
+      label C- 160 3600 345\n\
+      done 4\n"
+}
+
+fn routes_that_are_refused() -> &'static [u8] {
+    b"arrival F1 M R S1 100 0\n\
+      arrival F1 Q R S1 100 0\n\
+      arrival F9 Q R X 1 1\n\
+      arrival F9 M R X 1 1\n\
+      arrival F9 M S1 R 1 1\n\
+      departure G2 M S2 R 184 0\n\
+      departure G1 M S2 R 185 0\n"
+}
+
+fn why_and_one_that_is_not() -> &'static [u8] {
+    b"route F1 150 2 1\n\
+      step A+ 100 130\n\
+      step B+ 130 150\n\
+      label A+ 0 3600 130\n\
+      refused in-force\n\
+      refused unknown-class\n\
+      refused unknown-node\n\
+      refused wrong-kind\n\
+      no-route 2\n\
+      label A- 130 3600 154\n\
+      label B- 0 130 110\n\
+      route G1 115 3 2\n\
+      step D- 115 130\n\
+      step C- 130 155\n\
+      step A- 155 185\n\
+      label A- 130 3600 155\n\
+      label C- 130 3600 130\n\
+      done 7\n"
+}
+
+// An airport by its first records, with some records more.
+fn airport_of(alloc: Global, first: &[u8], more: &[u8]) -> Result<Vec<u8>, Memory> {
+    let mut airport = Vec::new(alloc);
+    push_bytes(&mut airport, first)?;
+    push_bytes(&mut airport, stands_and_segments())?;
+    push_bytes(&mut airport, more)?;
+    Ok(airport)
+}
+
+#[test]
+fn runs_written_whole(rt: HostRuntime) -> Result<(), Fail> {
+    let alloc = rt.alloc();
+    for (more, commands, transcript) in [
+        (
+            b"conflict,A,B\n".as_slice(),
+            a_cancel_that_makes_three_windows(),
+            one_window_then_three(),
+        ),
+        (
+            b"conflict,A,B\n",
+            a_cancel_beside_another_flight(),
+            two_windows(),
+        ),
+        (b"class,H\n", refusals_in_their_order(), their_replies()),
+        (b"", aircraft_that_wait_for_each_other(), their_routes()),
+        (b"", routes_that_are_refused(), why_and_one_that_is_not()),
+    ] {
+        let airport = airport_of(alloc, SMALL, more)?;
+        expect_call(
+            &rt,
+            alloc,
+            ROUTE,
+            airport.as_slice(),
+            commands,
+            Status::Done,
+            transcript,
+        )?;
+    }
+    Ok(())
+}
+
+#[test]
+fn refused_airports(rt: HostRuntime) -> Result<(), Fail> {
+    let alloc = rt.alloc();
+    for (airport, line) in [
+        (
+            b"taxi-airport,1\nhorizon,3600\nnode,R,runway\nnode,R,stand\n".as_slice(),
+            b"airport refused at record 4: name-twice\n".as_slice(),
+        ),
+        (
+            b"taxi-airport,1\nnode,R,runway\nnode,R,stand\n",
+            b"airport refused at record 3: name-twice\n",
+        ),
+        (b"", b"airport refused at record 1: first-row\n"),
+    ] {
+        for words in [ROUTE, MIGRATE] {
+            expect_call(
+                &rt,
+                alloc,
+                words,
+                airport,
+                b"cancel X\n",
+                Status::AirportRefused,
+                line,
+            )?;
+        }
+    }
+    Ok(())
+}
+
+// As many flights as may be in force, each on the same segment after the one before, and one more.
+fn one_flight_too_many(alloc: Global) -> Result<Vec<u8>, Memory> {
+    let mut commands = Vec::new(alloc);
+    for i in 0..4096u64 {
+        push_bytes(&mut commands, b"file F")?;
+        push_number(&mut commands, i)?;
+        push_bytes(&mut commands, b" M ")?;
+        push_number(&mut commands, 30 * i)?;
+        push_bytes(&mut commands, b" A+ ")?;
+        push_number(&mut commands, 30 * i + 30)?;
+        push_bytes(&mut commands, b"\n")?;
+    }
+    push_bytes(&mut commands, b"file G M 0 A+ 30\n")?;
+    Ok(commands)
+}
+
+#[test]
+fn as_many_flights_as_may_be_in_force(rt: HostRuntime) -> Result<(), Fail> {
+    let alloc = rt.alloc();
+    let words = words_of(alloc, ROUTE)?;
+    let airport = airport_of(alloc, LONG, b"")?;
+    let commands = one_flight_too_many(alloc)?;
+    let mut shelf = shelf_of(
+        alloc,
+        airport.as_slice(),
+        commands.as_slice(),
+        [].as_slice(),
+    )?;
+    let mut out = sink_of(alloc, 4096, [].as_slice())?;
+    let ended = taxi(alloc, words.as_slice(), &mut shelf, &mut out);
+    assert_eq!(rt; ended, Status::Done);
+    assert!(rt;
+        out.written()
+            .starts_with(b"filed F0 0 30\nfiled F1 30 60\n")
+    );
+    assert!(rt;
+        out.written()
+            .ends_with(b"filed F4095 122850 122880\nrefused full\ndone 4097\n")
+    );
+    Ok(())
+}

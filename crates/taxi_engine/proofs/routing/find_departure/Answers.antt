@@ -1,0 +1,25 @@
+use Rattle.std.proofs.Common.{◌≤◌, ℕ, sym, subst}
+use Rattle.std.specs.Prelude.{All, IfOk}
+use Rattle.taxi_base.specs.Airport.{layout_of}
+use Rattle.taxi_base.specs.Walks.{ReachesNodeWithin}
+use Rattle.taxi_base.specs.Labels.{AnswersDeparture}
+use Rattle.taxi_base.specs.Faults.{conditions_in}
+use Rattle.commitments.specs.Book.{state_of}
+use Rattle.place_cells.specs.Laid.{windows_of}
+use Rattle.taxi_engine.proofs.SearchedLaws.{windows-by, conditions-found}
+use Rattle.taxi_engine.proofs.routing.find_departure.Goals as goal
+
+pub depart_in-requires-clause-horizon : goal.depart_in-requires-clause-horizon
+depart_in-requires-clause-horizon c =
+    subst (λ store. All (All (λ w. w.until ≤ c.args.airport.now.horizon)) (windows_of store)) (sym c.store-store.ensures)
+    (windows-by c.args.airport.now c.args.ledger.now c.requires.fits c.requires.unlifted)
+
+pub returns : goal.returns
+returns c =
+    let airport = c.args.airport.now in
+    let class = c.args.asked.now.class in
+    let same = conditions-found airport c.args.ledger.now c.requires.fits c.requires.unlifted class c.clearance-clearance.result c.store-store.result.now
+    c.clearance-clearance.ensures.clearance c.store-store.ensures in
+    subst (λ (earliest : ℕ). IfOk c.depart_in.result (AnswersDeparture (conditions_in airport class (state_of c.args.ledger.now)) c.args.asked.now.from (ReachesNodeWithin (layout_of airport) c.args.asked.now.to earliest c.args.time)))
+    c.saturating_sub-earliest.ensures
+    (subst (λ k. IfOk c.depart_in.result (AnswersDeparture k c.args.asked.now.from (ReachesNodeWithin (layout_of airport) c.args.asked.now.to c.saturating_sub-earliest.result c.args.time))) same c.depart_in.ensures)

@@ -1,0 +1,42 @@
+-- What a part of the engine has done for a route that is searched for. No public clause cites these.
+use Rattle.std.specs.Prelude.{ℕ, ◌≡◌, ◌<◌, ◌⊎◌, Bool, false, List, length, slice_get, Some, None, Result, Ok}
+use Rattle.std.specs.Option.{option_map_or}
+use Rattle.taxi_base.specs.declared.numbers.Node.{Node}
+use Rattle.taxi_base.specs.declared.rows.Kind.{Kind}
+use Rattle.taxi_base.specs.declared.numbers.Class.{Class}
+use Rattle.taxi_base.specs.declared.answers.Found.{Found}
+use Rattle.taxi_base.specs.declared.answers.Request.{Request}
+use Rattle.taxi_base.specs.declared.answers.Refusal.TheVariants as refusal
+use Rattle.taxi_base.specs.declared.collections.Memory.{Memory}
+use Rattle.taxi_base.specs.Airport.{Airport, class_named, node_named}
+use Rattle.taxi_base.specs.State.{State, flight_named, with_flight}
+use Rattle.certificate.specs.CarriedOut.{Reply, found_reply, routed_flight}
+use Rattle.certificate.specs.Replies.{refused}
+use Rattle.taxi_engine.specs.declared.asking.Asked.{Asked}
+use Rattle.taxi_engine.specs.Engine.{EngineState}
+use Rattle.taxi_engine.specs.Accepted.{IsDone}
+
+-- whether a node is of a kind
+abbrev pub is_of_kind : (Kind → Bool) → Airport → Node → Bool
+is_of_kind is_kind airport node = option_map_or (λ row. is_kind row.kind) (slice_get airport.nodes node.0) false
+
+-- the class and the nodes are those that the words name
+pub record AreNamed (airport : Airport) (class from to : List ℕ) (asked : Asked) : Type 0 where
+  pub class_known : class_named airport class ≡ Some asked.class
+  pub from_known : node_named airport from ≡ Some asked.from
+  pub to_known : node_named airport to ≡ Some asked.to
+
+-- no flight has the name, and there is room for one more
+pub record IsNew (state : State) (name : List ℕ) : Type 0 where
+  pub absent : flight_named name state.flights ≡ None
+  pub few : length state.flights < 4096
+
+-- a reply is written, or memory ran out, which changed nothing else
+abbrev pub IsToldOrMemory : Reply → EngineState → EngineState → Type 0
+IsToldOrMemory reply old new = IsDone reply old new ⊎ IsDone (refused old.state refusal.Memory) old new
+
+-- what was found for a request is told, and with a route its flight is in force
+abbrev pub IsFoundTold : List ℕ → Class → Request → Result Found Memory → EngineState → EngineState → Type 0
+IsFoundTold name class request found old new =
+    ((answer : Found) × (found ≡ Ok answer) × IsDone (found_reply old.state name request (λ steps. with_flight (routed_flight name class request steps) old.state) answer) old new)
+    ⊎ IsDone (refused old.state refusal.Memory) old new

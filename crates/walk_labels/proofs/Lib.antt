@@ -1,0 +1,17 @@
+pub mod OneOfLaws
+pub mod CellWalks
+pub mod CellLabels
+pub mod PlaceCells
+pub mod RequestCells
+pub mod PickedLabels
+pub mod PickedEntries
+pub mod LabelTables
+pub mod CheckedTables
+pub mod RuleStarts
+pub mod CheckedEntries
+pub mod SearchAnswers
+pub mod FrozenWalks
+pub mod FitConditions
+pub mod PlacesMade
+pub mod CheckedArrivals
+pub mod CheckedDepartures

@@ -1,0 +1,150 @@
+//! One segment's windows.
+ghost use Rattle.std.specs.Prelude.{ℕ, ◌≡◌, ◌+◌, ◌-◌, ◌^◌, ◌<◌, ◌≤◌, max, List, [], ◌∷◌, ◌++◌, length, All, IfOk, OnOk, OnErr};
+ghost use Rattle.taxi_base.specs.declared.rows.Span.{Span as Plain};
+ghost use Rattle.taxi_base.specs.Windows.{AreWindows};
+ghost use Rattle.interval_list.specs.Intervals.{spans_of, owned, drawn, IsNormal, OwnsSame, KeepsUnmet, KeepsUntouched};
+ghost use Rattle.window_store.specs.Spans.{Listed, nodes, is_unheld, StandsForSpans};
+
+use crate::held::HeldSeconds;
+use interval_list::{Ids, IntervalList};
+use std::alloc::Global;
+use std::marker::Model;
+use taxi_base::{Memory, Span, Time};
+
+/// A segment's free windows, and the number of spans for which it is held.
+#[derive(Drop)]
+pub(crate) struct SegmentWindows {
+    intervals: IntervalList,
+    held: usize,
+}
+
+impl Model for SegmentWindows {
+    ghost use Rattle.std.specs.Prelude.{◌+◌, ◌^◌, ◌<◌, length};
+    ghost use Rattle.interval_list.specs.Intervals.{IsNormal};
+    ghost use Rattle.window_store.specs.Spans.{Listed};
+
+    ghost Value = { Listed };
+
+    ghost view = { λ l. record { intervals = l.intervals; held = l.held } };
+
+    ghost invariant = { λ l. IsNormal l.intervals × (length l.intervals.windows + length l.intervals.spare < 2 ^ 64) };
+}
+
+impl SegmentWindows {
+    /// All seconds before the horizon are free, in one window with the next id.
+    pub(crate) fn new(alloc: Global, ids: &mut Ids, horizon: Time) -> Result<SegmentWindows, Memory>
+        requires some { 1 ≤ horizon }
+        requires fits { ids.old.next + 1 < 2 ^ 64 }
+        ensures stands { IfOk result (StandsForSpans horizon []) }
+        ensures nodes { IfOk result (λ l. nodes l ≡ 1) }
+        ensures owned { IfOk result (λ l. owned l.intervals ≡ ids.old.next ∷ []) }
+        ensures next { IfOk result (λ l. ids.new.next ≡ ids.old.next + 1) }
+        ensures err { OnErr result (ids.old.next ≤ ids.new.next) }
+    {
+        let mut intervals = IntervalList::new(alloc);
+        intervals.reserve(ids, 1)?;
+        intervals.add(0, horizon);
+        Ok(SegmentWindows { intervals, held: 0 })
+    }
+
+    /// The windows and the spare nodes.
+    pub(crate) fn intervals(&self) -> &IntervalList
+        ensures intervals { result.now ≡ self.now.intervals }
+        ensures normal { IsNormal self.now.intervals }
+    {
+        &self.intervals
+    }
+
+    /// For how many spans the segment is held.
+    pub(crate) fn held(&self) -> usize
+        ensures { result ≡ self.now.held }
+    {
+        self.held
+    }
+
+    /// Makes spare nodes until there are so many windows and spare nodes together. What was made before memory ran out
+    /// stays.
+    pub(crate) fn make_room(&mut self, ids: &mut Ids, wanted: usize) -> Result<(), Memory>
+        requires below { All (λ id. id < ids.old.next) (owned self.old.intervals) }
+        requires fits { ids.old.next + wanted < 2 ^ 64 }
+        ensures windows { self.new.intervals.windows ≡ self.old.intervals.windows }
+        ensures held { self.new.held ≡ self.old.held }
+        ensures spare { self.new.intervals.spare ≡ drawn ids.old.next (ids.new.next - ids.old.next) ++ self.old.intervals.spare }
+        ensures next { ids.new.next + nodes self.old ≡ ids.old.next + nodes self.new }
+        ensures below { All (λ id. id < ids.new.next) (owned self.new.intervals) }
+        ensures ok { OnOk result (nodes self.new ≡ max wanted (nodes self.old)) }
+        ensures err { OnErr result (nodes self.new ≤ max wanted (nodes self.old)) }
+    {
+        let windows = self.intervals.len();
+        self.intervals.reserve(ids, wanted.saturating_sub(windows))
+    }
+
+    /// Raises the number by one, and lowers it, while room is made for spans to come.
+    pub(crate) fn count_one_more(&mut self)
+        requires { self.old.held + 1 < 2 ^ 64 }
+        ensures { self.new ≡ record self.old { held = self.old.held + 1 } }
+    {
+        self.held += 1;
+    }
+
+    pub(crate) fn count_one_fewer(&mut self)
+        requires { 1 ≤ self.old.held }
+        ensures { self.new ≡ record self.old { held = self.old.held - 1 } }
+    {
+        self.held -= 1;
+    }
+
+    /// Holds the segment for one more span. It needs no memory.
+    pub(crate) fn hold(&mut self, span: Span)
+        requires some { span.from < span.until }
+        requires stands { (horizon : ℕ) × (spans : List Plain) × StandsForSpans horizon spans self.old }
+        requires room { 2 + self.old.held ≤ nodes self.old }
+        ensures stands { (horizon : ℕ) (spans : List Plain) → StandsForSpans horizon spans self.old → StandsForSpans horizon (span ∷ spans) self.new }
+        ensures kept { KeepsUnmet span self.old.intervals.windows self.new.intervals.windows }
+        ensures ids { OwnsSame self.old.intervals self.new.intervals }
+        ensures nodes { nodes self.new ≡ nodes self.old }
+    {
+        self.intervals.subtract(span.from, span.until);
+        self.held += 1;
+    }
+
+    /// No longer holds the segment for a span, while others hold it for theirs. Only what no other span has becomes free.
+    /// It needs no memory.
+    pub(crate) fn release<H: HeldSeconds>(&mut self, span: Span, others: &H)
+        requires some { span.from < span.until }
+        requires stands { (horizon : ℕ) × (span.until ≤ horizon) × StandsForSpans horizon (span ∷ H.spans others.now) self.old }
+        ensures stands { (horizon : ℕ) → span.until ≤ horizon → StandsForSpans horizon (span ∷ H.spans others.now) self.old → StandsForSpans horizon (H.spans others.now) self.new }
+        ensures kept { KeepsUntouched span self.old.intervals.windows self.new.intervals.windows }
+        ensures ids { OwnsSame self.old.intervals self.new.intervals }
+        ensures nodes { nodes self.new ≡ nodes self.old }
+    {
+        give_back_unheld(&mut self.intervals, span, others);
+        self.held -= 1;
+    }
+}
+
+/// Gives those seconds of the span back that no other span has.
+fn give_back_unheld<H: HeldSeconds>(intervals: &mut IntervalList, span: Span, others: &H)
+    requires some { span.from < span.until }
+    requires normal { IsNormal intervals.old }
+    requires windows { (horizon : ℕ) × (span.until ≤ horizon) × AreWindows (is_unheld horizon (span ∷ H.spans others.now)) (spans_of intervals.old.windows) }
+    requires room { 2 + length (H.spans others.now) ≤ length intervals.old.windows + length intervals.old.spare }
+    ensures windows { (horizon : ℕ) → span.until ≤ horizon → AreWindows (is_unheld horizon (span ∷ H.spans others.now)) (spans_of intervals.old.windows) → AreWindows (is_unheld horizon (H.spans others.now)) (spans_of intervals.new.windows) }
+    ensures normal { IsNormal intervals.new }
+    ensures kept { KeepsUntouched span intervals.old.windows intervals.new.windows }
+    ensures ids { OwnsSame intervals.old intervals.new }
+    ensures number { length intervals.new.windows + length intervals.new.spare ≡ length intervals.old.windows + length intervals.old.spare }
+{
+    // The windows stand for the other spans and for what of this one is left to look at, which is one span at most. So
+    // they need no more nodes at any moment than they did before.
+    let mut from = span.from;
+    while from < span.until {
+        let until = others.first_held(from, span.until);
+        if from < until {
+            intervals.add(from, until);
+            from = until;
+        } else {
+            from = others.held_until(from).min(span.until);
+        }
+    }
+}
