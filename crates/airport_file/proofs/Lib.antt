@@ -3,3 +3,4 @@ mod PlainLines
 mod BuildLaws
 mod ReadLaws
 pub mod NamedPlaces
+pub mod AcceptedLaws

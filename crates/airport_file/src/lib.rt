@@ -10,6 +10,6 @@ mod tests;
 
 pub use airport::Airport;
 pub use airport_rules::{AirportFault, LimitKind};
-pub use laws::plain_lines;
-pub use read::{AirportRefused, read_airport};
+pub use laws::{accepted_airports_keep_the_rules, plain_lines};
+pub use read::{AirportRefused, all_records, fields_of, read_airport};
 pub use taxi_base::Kind;

@@ -40,7 +40,7 @@ pub fn read_airport(alloc: Global, bytes: &[u8]) -> Result<Airport, AirportRefus
 }
 
 /// Every record of the bytes, flexible and without a header row. Each error of the reader is taken for want of memory.
-fn all_records(alloc: Global, bytes: &[u8]) -> Result<Vec<ByteRecord>, Memory>
+pub fn all_records(alloc: Global, bytes: &[u8]) -> Result<Vec<ByteRecord>, Memory>
     ensures records { IfOk result (λ v. map fields_of v.items ≡ records_of bytes.now) }
     ensures few { IfOk result (λ v. length v.items ≤ length bytes.now) }
 {
@@ -153,7 +153,7 @@ fn judge_record(
 }
 
 /// The fields of a record, as slices of it.
-fn fields_of<'a>(alloc: Global, row: &'a ByteRecord) -> Result<Vec<&'a [u8]>, Memory>
+pub fn fields_of<'a>(alloc: Global, row: &'a ByteRecord) -> Result<Vec<&'a [u8]>, Memory>
     ensures { IfOk result (λ fields. texts_of fields.items ≡ fields_of row.now) }
 {
     let mut fields = Vec::new(alloc);

@@ -1,6 +1,5 @@
 -- What the search over cells has found answers the departure.
-use Rattle.std.proofs.Common.{◌≡◌, ℕ, ◌<◌, ◌≤◌, List, [], ◌∷◌, length, map, Bool, Option, Some, None, IfSome, IfNone, IsTrue, sym, ◌∙◌, ap, subst, arith, ◌↔◌}
-use Rattle.std.proofs.lemmas.List.{length-map}
+use Rattle.std.proofs.Common.{◌≡◌, ℕ, ◌<◌, List, [], ◌∷◌, map, Bool, Option, Some, None, IfSome, IfNone, IsTrue, sym, ◌∙◌, ap, subst, arith, ◌↔◌}
 use Rattle.taxi_base.specs.declared.numbers.Node.{Node}
 use Rattle.taxi_base.specs.declared.numbers.Class.{Class}
 use Rattle.taxi_base.specs.declared.rows.Span.{Span}
@@ -17,37 +16,36 @@ use Rattle.label_search.specs.Backward.{BackwardProblem}
 use Rattle.label_search.specs.Values.{AreEntries}
 use Rattle.label_search.specs.Answer.{step_of, best_of, ComesBefore}
 use Rattle.walk_labels.specs.Places.{Place, IsPlace, ArePlaces, AreCells, IsOrdered, place_at, is_numbered, numbered}
-use Rattle.walk_labels.specs.PlacesInWindows.{AreWindowLists, cells_in, can_use}
+use Rattle.walk_labels.specs.PlacesInWindows.{AreWindowLists}
 use Rattle.walk_labels.specs.Requests.{steps_at, AreFinishes, AreSources}
 use Rattle.walk_labels.specs.Tables.{rows_of}
 use Rattle.walk_labels.proofs.FitConditions.{windows_fit}
-use Rattle.walk_labels.proofs.PlacesMade.{cells_in-are}
 use Rattle.walk_labels.proofs.PlaceCells.{is_numbered-place, place-is_numbered, numbered-cells, numbered-ordered}
 use Rattle.walk_labels.proofs.RequestCells.{finishes_at-are, sources_at_node-are}
 use Rattle.walk_labels.proofs.SearchAnswers.{departure_found, departure_not_found}
-use Rattle.place_cells.specs.declared.cells.PlaceCell.{PlaceCell}
-use Rattle.place_cells.specs.Laid.{cell_of_place}
-use Rattle.place_cells.specs.Ground.{Ground, ground_in}
-use Rattle.place_cells.specs.Found.{place_in, row_in}
-use Rattle.place_cells.proofs.RowLaws.{steps_placed, rows_placed}
+use Rattle.place_cells.specs.Laid.{Numbers, AreNumbered, HaveNumbers}
+use Rattle.place_cells.specs.Ground.{ground_in, cells_of}
+use Rattle.place_cells.specs.Found.{row_in}
+use Rattle.place_cells.proofs.PlacesNumbered.{usable_at, numbered-are}
+use Rattle.place_cells.proofs.RowLaws.{rows_placed}
 use Rattle.backward_search.specs.Departures.{Ending, departure_problem}
 
 module _ (airport : Airport) (class : Class) (clearance : ℕ) (windows : List (List Span)) (well : IsWellFormed airport) (lists : AreWindowLists airport windows)
-    (cells : List PlaceCell) (same : cells ≡ map cell_of_place (cells_in windows)) (from : Node) (e : Ending) where
+    (ids : Numbers) (laid : AreNumbered ids.spots ids.first) (room : HaveNumbers windows ids.first) (from : Node) (e : Ending) where
   abbrev c : Conditions
   c = conditions_in_windows airport class clearance windows
 
   abbrev asked : BackwardProblem
-  asked = departure_problem (ground_in airport class clearance windows) from e
+  asked = departure_problem (ground_in airport class clearance windows ids) from e
 
   abbrev numbers : List Place
-  numbers = cells_in windows
+  numbers = cells_of (ground_in airport class clearance windows ids)
 
   abbrev usable : ℕ → Bool
-  usable k = can_use airport class (place_at numbers k).arc
+  usable k = usable_at airport class clearance windows ids lists laid room k
 
   are : ArePlaces c usable numbers
-  are = cells_in-are airport class windows clearance lists
+  are = numbered-are airport class clearance windows ids lists laid room
 
   inside : (k : ℕ) → IsTrue (is_numbered usable numbers k) ↔ IsPlace c (place_at numbers k)
   inside k = (is_numbered-place c usable numbers are k, place-is_numbered c usable numbers are k)
@@ -65,16 +63,16 @@ module _ (airport : Airport) (class : Class) (clearance : ℕ) (windows : List (
   ordered = numbered-ordered c usable numbers are
 
   rows_are : (bound : Option ℕ) (values : List CellValue) (entries : AreEntries asked.network asked.finishes asked.count bound values)
-      → map (row_in cells) values ≡ rows_of (λ o. o) numbers entries.known
+      → map (row_in (ground_in airport class clearance windows ids)) values ≡ rows_of (λ o. o) numbers entries.known
   rows_are bound values entries =
-      ap (map (row_in cells)) entries.are_rows
-      ∙ rows_placed numbers cells same entries.known (omega (arith, entries.as_many, ap length same, length-map numbers cell_of_place))
+      ap (map (row_in (ground_in airport class clearance windows ids))) entries.are_rows
+      ∙ rows_placed numbers entries.known (omega (arith, entries.as_many))
 
   -- with a route
   pub route_answers : (route : Option Route) (r : Route) → route ≡ Some r → (values : List CellValue) → AreEntries asked.network asked.finishes asked.count (best_of route) values
       → IfSome (best_of route) (IsBestBegin asked.network asked.finishes asked.source)
       → IfSome route (λ f. IsPickedRouteOn asked.network asked.finishes ComesBefore asked.source f.best (map step_of f.steps.items))
-      → (steps : List Step) (rows : List LabelRow) → steps ≡ steps_at (place_in cells) (map step_of r.steps.items) → rows ≡ map (row_in cells) values
+      → (steps : List Step) (rows : List LabelRow) → steps ≡ steps_at (place_at numbers) (map step_of r.steps.items) → rows ≡ map (row_in (ground_in airport class clearance windows ids)) values
       → AnswersDeparture c from (ReachesNodeWithin (layout_of airport) e.to e.earliest e.latest) (found.Route steps rows)
   route_answers route r is values table best picked steps rows steps_read rows_read =
       let entries : AreEntries asked.network asked.finishes asked.count (Some r.best) values = subst (λ (o : Option Route). AreEntries asked.network asked.finishes asked.count (best_of o) values) is table in
@@ -82,14 +80,14 @@ module _ (airport : Airport) (class : Class) (clearance : ℕ) (windows : List (
       (λ (o : Option ℕ). o) entries.known None entries.as_many r.best (map step_of r.steps.items)
       (subst (λ (o : Option Route). IfSome (best_of o) (IsBestBegin asked.network asked.finishes asked.source)) is best)
       (subst (λ (o : Option Route). IfSome o (λ f. IsPickedRouteOn asked.network asked.finishes ComesBefore asked.source f.best (map step_of f.steps.items))) is picked) entries.exact in
-      let steps_same : steps ≡ steps_at (place_at numbers) (map step_of r.steps.items) = steps_read ∙ steps_placed numbers cells same (map step_of r.steps.items) in
+      let steps_same : steps ≡ steps_at (place_at numbers) (map step_of r.steps.items) = steps_read in
       let rows_same : rows ≡ rows_of (λ (o : Option ℕ). o) numbers entries.known = rows_read ∙ rows_are (Some r.best) values entries in
       subst (λ (list : List LabelRow). AnswersDeparture c from (ReachesNodeWithin (layout_of airport) e.to e.earliest e.latest) (found.Route steps list)) (sym rows_same)
       (subst (λ (list : List Step). AnswersDeparture c from (ReachesNodeWithin (layout_of airport) e.to e.earliest e.latest) (found.Route list (rows_of (λ (o : Option ℕ). o) numbers entries.known))) (sym steps_same) answer)
 
   -- with none
   pub no_route_answers : (route : Option Route) → route ≡ None → (values : List CellValue) → AreEntries asked.network asked.finishes asked.count (best_of route) values
-      → IfNone (best_of route) (HasNoWalkFrom asked.network asked.finishes asked.source) → (rows : List LabelRow) → rows ≡ map (row_in cells) values
+      → IfNone (best_of route) (HasNoWalkFrom asked.network asked.finishes asked.source) → (rows : List LabelRow) → rows ≡ map (row_in (ground_in airport class clearance windows ids)) values
       → AnswersDeparture c from (ReachesNodeWithin (layout_of airport) e.to e.earliest e.latest) (found.NoRoute rows)
   no_route_answers route is values table none rows rows_read =
       let entries : AreEntries asked.network asked.finishes asked.count None values = subst (λ (o : Option Route). AreEntries asked.network asked.finishes asked.count (best_of o) values) is table in

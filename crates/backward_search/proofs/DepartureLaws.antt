@@ -1,25 +1,21 @@
--- The cells that are laid are what a departure's search is asked.
-use Rattle.std.proofs.Common.{◌≡◌, ℕ, ◌^◌, ◌*◌, ◌<◌, ◌≤◌, ◌&&◌, ◌||◌, Bool, true, false, List, [], ◌∷◌, length, get_or, IsTrue, Option, Some, None, cond, refl, sym, ◌∙◌, ap, subst, arith, inl, inr}
-use Rattle.std.specs.Prelude.{Contains, All}
+-- The numbered cells are what a departure's search is asked.
+use Rattle.std.proofs.Common.{◌≡◌, ℕ, ◌^◌, ◌<◌, ◌&&◌, Bool, true, false, [], ◌∷◌, length, get_or, IsTrue, Some, None, cond, sym, ◌∙◌, ap, subst, arith}
 use Rattle.std.proofs.lemmas.Bool.{and_parts, cond-true}
 use Rattle.std.proofs.lemmas.List.{get_or_default}
 use Rattle.taxi_base.specs.declared.numbers.Arc.{Arc}
 use Rattle.taxi_base.specs.declared.numbers.Node.{Node}
-use Rattle.taxi_base.specs.Windows.{AreApart}
 use Rattle.taxi_base.specs.Airport.{Layout, Ends, ends, arc_exists, head}
 use Rattle.label_core.specs.BackwardWalks.{Finish}
 use Rattle.label_search.specs.Problem.{IsIn}
 use Rattle.label_search.specs.Backward.{IsBackwardProblem}
 use Rattle.walk_labels.specs.Places.{Place, place_at}
-use Rattle.walk_labels.specs.PlacesInWindows.{cells_in}
 use Rattle.walk_labels.specs.Requests.{leads_to_one_of, finishes_at}
 use Rattle.walk_labels.proofs.RequestCells.{if_some, leads-OneOf}
-use Rattle.place_cells.specs.Laid.{run_of_arc}
 use Rattle.place_cells.specs.Turns.{entering_arcs, previous_arcs, no_arc}
-use Rattle.place_cells.specs.Ground.{Ground, IsSound, arc_in, usable_in}
-use Rattle.place_cells.proofs.RunLaws.{in_run_of_arc, run_inside}
+use Rattle.place_cells.specs.Ground.{Ground, cells_of, run_of_arc, IsSound, arc_in, usable_in}
+use Rattle.place_cells.proofs.RunLaws.{usable_parts, in_run_of_arc, run_inside}
 use Rattle.place_cells.proofs.TurnLaws.{entering_arcs-all, some-exists}
-use Rattle.place_cells.proofs.GroundLaws.{usable_parts, turn_parts, turns_inside, in_previous_run, takes, small_seconds, small_from, small_last, arc_below}
+use Rattle.place_cells.proofs.GroundLaws.{turn_parts, turns_inside, in_previous_run, takes, small_seconds, small_from, small_last, arc_below}
 use Rattle.backward_search.specs.Departures.{Ending, finish_at, departure_problem}
 
 -- ---- the finishes
@@ -48,14 +44,14 @@ last_exist layout node i on =
 
 -- ---- the problem
 
-module _ (g : Ground) (sound : IsSound g) (apart : All (AreApart 0) g.windows) where
-  in_last_run : (e : Ending) (k : ℕ) (f : Finish) → finishes_at g.layout (usable_in g) (place_at (cells_in g.windows)) (e.to ∷ []) e.earliest e.latest k ≡ Some f
-      → (i : ℕ) × (i < length (entering_arcs g.layout e.to)) × IsIn (run_of_arc g.windows (get_or (entering_arcs g.layout e.to) i no_arc)) k
+module _ (g : Ground) (sound : IsSound g) where
+  in_last_run : (e : Ending) (k : ℕ) (f : Finish) → finishes_at g.layout (usable_in g) (place_at (cells_of g)) (e.to ∷ []) e.earliest e.latest k ≡ Some f
+      → (i : ℕ) × (i < length (entering_arcs g.layout e.to)) × IsIn (run_of_arc g (get_or (entering_arcs g.layout e.to) i no_arc)) k
   in_last_run e k f h =
-      let parts = finish_parts g.layout (usable_in g) (place_at (cells_in g.windows)) e k f h in
+      let parts = finish_parts g.layout (usable_in g) (place_at (cells_of g)) e k f h in
       let found = ((entering_arcs-all g.layout e.to).each (arc_in g k)).1 parts.1 in
       let same : get_or (entering_arcs g.layout e.to) found.0 no_arc ≡ arc_in g k = get_or_default (entering_arcs g.layout e.to) found.0 no_arc (arc_in g k) found.1 ∙ found.2 in
-      (found.0, found.1, subst (λ (a : Arc). IsIn (run_of_arc g.windows a) k) (sym same) (in_run_of_arc g.windows k (usable_parts g k parts.0).0))
+      (found.0, found.1, subst (λ (a : Arc). IsIn (run_of_arc g a) k) (sym same) (in_run_of_arc g sound.numbered k parts.0))
 
   in_runs : (k : ℕ) → IsTrue (usable_in g k) → (i : ℕ) → i < length (previous_arcs g.layout (arc_in g k)) → i < cond (usable_in g k) (length (previous_arcs g.layout (arc_in g k))) 0
   in_runs k usable i on = omega (arith, cond-true (usable_in g k) (length (previous_arcs g.layout (arc_in g k))) 0 usable)
@@ -64,12 +60,12 @@ module _ (g : Ground) (sound : IsSound g) (apart : All (AreApart 0) g.windows) w
   departure_is_problem from e small = record {
     takes = takes g sound;
     small_seconds = small_seconds g sound;
-    small_from = small_from g sound apart;
+    small_from = small_from g sound sound.apart;
     small_last = small_last g sound;
-    small_finishes = λ k f h. omega (arith, small, (finish_parts g.layout (usable_in g) (place_at (cells_in g.windows)) e k f h).2);
-    turns_in_runs = λ j k turn. (let found = in_previous_run g j k turn in (found.0, in_runs k (turn_parts g j k turn).1 found.0 found.1, found.2));
+    small_finishes = λ k f h. omega (arith, small, (finish_parts g.layout (usable_in g) (place_at (cells_of g)) e k f h).2);
+    turns_in_runs = λ j k turn. (let found = in_previous_run g sound.numbered j k turn in (found.0, in_runs k (turn_parts g j k turn).1 found.0 found.1, found.2));
     turns_inside = turns_inside g;
-    finishes_inside = λ k f h. (usable_parts g k (finish_parts g.layout (usable_in g) (place_at (cells_in g.windows)) e k f h).0).0;
+    finishes_inside = λ k f h. (usable_parts g k (finish_parts g.layout (usable_in g) (place_at (cells_of g)) e k f h).0).0;
     finishes_in_runs = in_last_run e;
-    last_runs_inside = λ i on. (run_inside g.windows (get_or (entering_arcs g.layout e.to) i no_arc) (arc_below g sound.lists (get_or (entering_arcs g.layout e.to) i no_arc) (last_exist g.layout e.to i on))).1;
+    last_runs_inside = λ i on. (run_inside g sound.numbered sound.room (get_or (entering_arcs g.layout e.to) i no_arc) (arc_below g sound.lists (get_or (entering_arcs g.layout e.to) i no_arc) (last_exist g.layout e.to i on))).1;
   }

@@ -50,11 +50,9 @@ impl BackwardCells for DepartureCells<'_> {
     }
 
     fn finish(&self, cell: usize) -> Option<Closing> {
-        let arc = self.ground.arc(cell);
-        if self.ground.can_use(arc) {
-            self.closing_at(arc)
-        } else {
-            None
+        match self.ground.usable(cell) {
+            None => None,
+            Some(arc) => self.closing_at(arc),
         }
     }
 
@@ -71,17 +69,14 @@ impl BackwardCells for DepartureCells<'_> {
     }
 
     fn runs_before(&self, cell: usize) -> usize {
-        let arc = self.ground.arc(cell);
-        if self.ground.can_use(arc) {
-            self.ground.previous(arc).len()
-        } else {
-            0
+        match self.ground.usable(cell) {
+            None => 0,
+            Some(arc) => self.ground.previous(arc).len(),
         }
     }
 
-    fn run_before(&self, cell: usize, run: usize, ready: u32) -> Run {
+    fn run_before(&self, cell: usize, run: usize, ready: u32, from: u32) -> Run {
         let previous = self.ground.previous(self.ground.arc(cell))[run];
-        let from = self.ground.cell(cell).from;
         self.ground.part(previous, from, ready)
     }
 }

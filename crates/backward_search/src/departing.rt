@@ -4,12 +4,12 @@ ghost use Rattle.taxi_base.specs.Airport.{layout_of, IsWellFormed};
 ghost use Rattle.taxi_base.specs.Walks.{conditions_in_windows, ReachesNodeWithin};
 ghost use Rattle.taxi_base.specs.Labels.{AnswersDeparture};
 ghost use Rattle.walk_labels.specs.PlacesInWindows.{AreWindowLists};
-ghost use Rattle.place_cells.specs.Laid.{windows_of, AreSearched};
+ghost use Rattle.place_cells.specs.Laid.{windows_of, HaveNumbers};
 
 use crate::cells::DepartureCells;
 use airport_file::Airport;
 use label_search::{LabelRoom, latest_entries};
-use place_cells::{PlaceCells, SearchGround, SearchRoom, rows_of, steps_of};
+use place_cells::{CellNumbers, SearchGround, SearchRoom, rows_of, steps_of};
 use std::alloc::Global;
 use taxi_base::{Class, Found, Memory, Node, Time};
 use window_store::WindowStore;
@@ -68,13 +68,13 @@ pub fn depart_in(
 {
     // With the horizon comes that the airport keeps the rules.
     let _horizon = airport.horizon();
-    room.cells.lay(airport.graph(), store)?;
+    room.numbers.fit(airport.graph().segments(), store)?;
     search_among(
         alloc,
         &mut room.labels,
         airport,
         store,
-        &room.cells,
+        &room.numbers,
         from,
         to,
         class,
@@ -84,13 +84,13 @@ pub fn depart_in(
     )
 }
 
-/// The same over the cells that are laid.
+/// The same over cells that have numbers.
 fn search_among<'x>(
     alloc: Global,
     labels: &mut LabelRoom,
     airport: &'x Airport,
     store: &'x WindowStore,
-    cells: &'x PlaceCells,
+    numbers: &'x CellNumbers,
     from: Node,
     to: Node,
     class: Class,
@@ -99,7 +99,7 @@ fn search_among<'x>(
     clearance: Time,
 ) -> Result<Found, Memory>
     requires lists { AreWindowLists airport.now (windows_of store.now) }
-    requires searched { AreSearched (windows_of store.now) cells.now }
+    requires room { HaveNumbers (windows_of store.now) numbers.now.first.items }
     requires rules { IsWellFormed airport.now }
     requires times { earliest_out < 2 ^ 31 }
     ensures { IfOk result (AnswersDeparture (conditions_in_windows airport.now class clearance (windows_of store.now)) from (ReachesNodeWithin (layout_of airport.now) to earliest_out latest_out)) }
@@ -108,7 +108,7 @@ fn search_among<'x>(
         graph: airport.graph(),
         classes: airport.classes(),
         store,
-        cells,
+        numbers,
         class,
         horizon: airport.horizon(),
         clearance,
@@ -121,11 +121,11 @@ fn search_among<'x>(
         latest_out,
     };
     let label_search::Found { values, route } = latest_entries(alloc, labels, &asked)?;
-    let labels = rows_of(alloc, &cells.cells, &values)?;
+    let labels = rows_of(alloc, &ground, &values)?;
     match route {
         None => Ok(Found::NoRoute { labels }),
         Some(route) => {
-            let steps = steps_of(alloc, &cells.cells, &route.steps)?;
+            let steps = steps_of(alloc, &ground, &route.steps)?;
             Ok(Found::Route { steps, labels })
         }
     }

@@ -1,6 +1,6 @@
 -- Numbers of at most ten digits, without leading zeros.
-use Rattle.std.proofs.Common.{Option, Some, None, subst, decimal, ◌≡◌, ◌+◌, ◌*◌, ◌-◌, ◌<◌, ◌≤◌, ◌^◌, ◌%◌, ◌∷◌, [], ◌∙◌, ℕ, zero, suc, Bool, cond, List, IsTrue, true, false, ap, sym, take, length, get_or, arith, rules, refl, inl, inr}
-use Rattle.std.proofs.lemmas.Str.Parse.{IsNumeralModel, IsDigitsTest, numerals_by_value, digits_value_short, digits_value-take-le, digit_at}
+use Rattle.std.proofs.Common.{Option, Some, None, subst, decimal, ◌≡◌, ◌+◌, ◌*◌, ◌-◌, ◌<◌, ◌≤◌, ◌^◌, ◌%◌, ◌∷◌, [], ◌∙◌, ℕ, zero, suc, Bool, cond, List, true, false, ap, sym, take, length, get_or, arith, rules, refl, inl, inr}
+use Rattle.std.proofs.lemmas.Str.Parse.{IsNumeralModel, IsDigitsTest, numerals_by_value, digits_value_short, digit_at}
 use Rattle.std.proofs.lemmas.Int.Digits.{digits_value_more}
 use Rattle.std.proofs.lemmas.Str.{digit_value_digit}
 use Rattle.std.proofs.lemmas.Bool.{cases_lt, and_parts, and_from, both_ways, false_from_ne_true}

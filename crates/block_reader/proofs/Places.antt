@@ -1,6 +1,6 @@
 -- Segments and arcs, each read by the word that names it in the airport.
-use Rattle.std.proofs.Common.{◌≡◌, ◌≢◌, ◌∙◌, ◌<◌, ◌==◌, ◌%◌, ◌/◌, ◌+◌, ◌*◌, ◌++◌, ◌∷◌, [], ℕ, zero, suc, Bool, true, false, cond, IsTrue, List, length, map, Option, Some, None, refl, sym, ap, subst, arith, rules}
-use Rattle.std.specs.Prelude.{option_and_then, bytes_eq}
+use Rattle.std.proofs.Common.{◌≡◌, ◌≢◌, ◌∙◌, ◌<◌, ◌==◌, ◌%◌, ◌/◌, ◌+◌, ◌*◌, ◌++◌, ◌∷◌, [], ℕ, Bool, true, false, cond, IsTrue, List, length, map, Some, None, refl, sym, ap, subst, arith, rules}
+use Rattle.std.specs.Prelude.{option_map, unwrap_or, slice_get, bytes_eq}
 use Rattle.std.proofs.lemmas.Bool.{eqb-true}
 use Rattle.std.proofs.lemmas.Bool.Decides.{nat_tests}
 use Rattle.std.proofs.lemmas.List.{length-map}
@@ -8,44 +8,69 @@ use Rattle.std.proofs.lemmas.List.Quantifiers.{position-Some}
 use Rattle.std.proofs.lemmas.Slice.Eq.{bytes_eq-Decides}
 use Rattle.taxi_base.specs.declared.numbers.Segment.{Segment}
 use Rattle.taxi_base.specs.declared.numbers.Arc.{Arc}
+use Rattle.taxi_base.specs.declared.numbers.Class.{Class}
 use Rattle.taxi_base.specs.Words.{is_name}
-use Rattle.taxi_base.specs.Airport.{Airport, IsWellFormed, place_of, segment_named, arc_named, segment_of, arc_exists, layout_of, arc_of}
+use Rattle.taxi_base.specs.Airport.{Airport, IsWellFormed, place_of, class_named, segment_named, arc_named, segment_of, arc_exists, layout_of, arc_of}
 use Rattle.taxi_base.proofs.AirportLaws.{arc_exists-segment}
 use Rattle.taxi_text.specs.Fields.{name_of, arc_word, arc_word_of, sign_of}
 use Rattle.taxi_text.proofs.ArcWords.{arc_word-again, arc_word-only}
-use Rattle.airport_file.specs.Words.{segment_word, word_of_arc}
+use Rattle.airport_file.specs.Words.{class_word, segment_word, word_of_arc}
 use Rattle.airport_file.proofs.NamedPlaces.{word-at, word-found}
-use Rattle.certificate.specs.Printable.{HasArc, HasSegment}
+use Rattle.certificate.specs.Printable.{HasArc, HasSegment, HasClass}
 use Rattle.certificate.proofs.FiledLaws.{and_then-some}
-use Rattle.block_reader.specs.Fields.{segment_of_word, arc_of_word}
+use Rattle.block_reader.specs.Fields.{class_of_word, segment_of_word, arc_of_word}
 use Rattle.block_reader.proofs.Pieces.{IsPlain}
 use Rattle.block_reader.proofs.Spellings.{some-both, some-map, IsWord}
 use Rattle.block_reader.proofs.Words.{name-word, name-plain}
 
--- ---- segments
+-- ---- classes and segments
+
+-- what a name finds has that name
+place-named : {X : Type 0} (word : X → List ℕ) (rows : List X) (name : List ℕ) (k : ℕ) → place_of name (map word rows) ≡ Some k
+    → (k < length rows) × (name ≡ unwrap_or (option_map word (slice_get rows k)) [])
+place-named word rows name k e =
+    let p = position-Some (bytes_eq name) (map word rows) k [] e in
+    (omega (arith, p.0, length-map rows word), (bytes_eq-Decides name _).0 p.1 ∙ sym (word-at word rows k))
 
 module _ (airport : Airport) where
-  names : List (List ℕ)
-  names = map (λ s. s.name) airport.segments
+  class-named : (name : List ℕ) (class : Class) → class_named airport name ≡ Some class → HasClass airport class × (name ≡ class_word airport class)
+  unfolding class_named
+  class-named name class e =
+      let a = some-map (place_of name (map (λ c. c.name) airport.classes)) (λ k. record { 0 = k }) class e in
+      subst (λ c. HasClass airport c × (name ≡ class_word airport c)) a.2 (place-named (λ c. c.name) airport.classes name a.0 a.1)
 
-  -- what a name finds has that name
   pub segment-named : (name : List ℕ) (segment : Segment) → segment_named airport name ≡ Some segment → HasSegment airport segment × (name ≡ segment_word airport segment)
   unfolding segment_named
   segment-named name segment e =
       let a = some-map (place_of name (map (λ s. s.name) airport.segments)) (λ k. record { 0 = k }) segment e in
-      let p = position-Some (bytes_eq name) (map (λ s. s.name) airport.segments) a.0 [] a.1 in
-      let same : a.0 ≡ segment.0 = ap (λ (s : Segment). s.0) a.2 in
-      let word : name ≡ segment_word airport segment = (bytes_eq-Decides name _).0 p.1 ∙ sym (word-at (λ s. s.name) airport.segments a.0) ∙ ap (λ (s : Segment). segment_word airport s) a.2 in
-      (omega (arith, same, p.0, length-map airport.segments (λ s. s.name)), word)
+      subst (λ s. HasSegment airport s × (name ≡ segment_word airport s)) a.2 (place-named (λ s. s.name) airport.segments name a.0 a.1)
 
   module _ (well : IsWellFormed airport) where
+    class-name : (class : Class) → HasClass airport class → is_name (class_word airport class) ≡ true
+    class-name class has = (word-found (λ c. c.name) airport.classes class.0 32 well.classes has).valid
+
     pub segment-name : (segment : Segment) → HasSegment airport segment → is_name (segment_word airport segment) ≡ true
     segment-name segment has = (word-found (λ s. s.name) airport.segments segment.0 10000 well.segments has).valid
 
     -- and is found by it
+    class-again : (class : Class) → HasClass airport class → class_named airport (class_word airport class) ≡ Some class
+    unfolding class_named
+    class-again class has = rw ((word-found (λ c. c.name) airport.classes class.0 32 well.classes has).place) refl
+
     pub segment-again : (segment : Segment) → HasSegment airport segment → segment_named airport (segment_word airport segment) ≡ Some segment
     unfolding segment_named
     segment-again segment has = rw ((word-found (λ s. s.name) airport.segments segment.0 10000 well.segments has).place) refl
+
+    pub class-word : IsWord (HasClass airport) (class_word airport) (class_of_word airport)
+    class-word = record {
+      again = λ c has. rw (class-name c has) (class-again c has);
+      only = λ w c e.
+          let a = some-both (name_of w) (class_named airport) c e in
+          let n = name-word.only w a.0 a.1 in
+          let p = class-named a.0 c a.2 in
+          (p.0, n.1 ∙ p.1);
+      plain = λ c has. name-plain (class_word airport c) (let e = class-name c has in search rules);
+    }
 
     pub segment-word : IsWord (HasSegment airport) (segment_word airport) (segment_of_word airport)
     segment-word = record {

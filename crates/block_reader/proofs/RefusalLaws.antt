@@ -1,8 +1,6 @@
 -- Each refusal is read as it was printed, and nothing else is read.
-use Rattle.std.proofs.Common.{◌≡◌, ◌∙◌, ℕ, cond, List, [], ◌∷◌, ◌++◌, Option, Some, codes, decimal, refl, sym, ap, subst, append_assoc, inl, inr}
-use Rattle.std.specs.Prelude.{option_map, bytes_eq, ⊤}
-use Rattle.std.proofs.lemmas.Bool.{cases_Bool}
-use Rattle.std.proofs.lemmas.Slice.Eq.{bytes_eq-Decides}
+use Rattle.std.proofs.Common.{◌≡◌, ◌∙◌, ℕ, List, [], ◌∷◌, ◌++◌, Option, Some, codes, decimal, refl, sym, ap, append_assoc}
+use Rattle.std.specs.Prelude.{option_map, ⊤}
 use Rattle.taxi_base.specs.declared.answers.StepCause.{StepCause}
 use Rattle.taxi_base.specs.declared.answers.StepCause.TheVariants.{ClassBarred, BadTurn, TooFast, PastHorizon, Taken}
 use Rattle.taxi_base.specs.declared.answers.StepFault.{StepFault}
@@ -16,17 +14,7 @@ use Rattle.block_reader.specs.Reading.{word_at, word_then, word_last}
 use Rattle.block_reader.specs.Blocks.{plain_cause_of, cause_at, fault_at, plain_refusal_of, refusal_at}
 use Rattle.block_reader.proofs.Pieces.{word-takes}
 use Rattle.block_reader.proofs.Spellings.{some-both, some-map, Takes, IsSpelling, last-spelling, then-spelling, made-spelling, made-takes, either-takes}
-use Rattle.block_reader.proofs.Words.{number-word, step_number-word, name-word}
-
--- a word that is this one gives this, else what the others give
-tried : {X : Type 0} (P : X → Type 0) (w text : List ℕ) (x : X) (others : Option X) → (w ≡ text → P x) → ((y : X) → others ≡ Some y → P y)
-    → (y : X) → cond (bytes_eq w text) (Some x) others ≡ Some y → P y
-tried {X = X} P w text x others here other y e = elim (cases_Bool (bytes_eq w text)) [
-  | inl is ↦ let k : Some x ≡ Some y = rw is at e in subst P (same x y k) (here ((bytes_eq-Decides w text).0 is))
-  | inr not ↦ other y (rw not at e)
-] where
-  same : (a b : X) → Some a ≡ Some b → a ≡ b
-  same a b k = cc
+use Rattle.block_reader.proofs.Words.{tried, number-word, step_number-word, name-word}
 
 -- the only word of a cause that is one word
 abbrev IsOneWord : List ℕ → StepCause → Type 0
@@ -57,9 +45,8 @@ plain_refusal-only w =
     (tried (IsPlainRefusal w) w (codes "not-routed") refusal.NotRouted _ ended
     (tried (IsPlainRefusal w) w (codes "not-arrival") refusal.NotArrival _ ended
     (tried (IsPlainRefusal w) w (codes "full") refusal.Full _ ended
-    (tried (IsPlainRefusal w) w (codes "not-built") refusal.NotBuilt _ ended
     (tried (IsPlainRefusal w) w (codes "memory") refusal.Memory _ ended
-    (λ y e. absurd cc)))))))))))) where
+    (λ y e. absurd cc))))))))))) where
       ended : {text : List ℕ} → w ≡ text → ⊤ × (w ++ 10 ∷ [] ≡ text ++ 10 ∷ [])
       ended e = (tt, ap (λ (t : List ℕ). t ++ 10 ∷ []) e)
 
@@ -148,5 +135,4 @@ refusal-spelling = record {
   again refusal.Full rest good = refl
   again (refusal.Step fault) rest good =
       ap (λ (t : List ℕ). refusal_at (t ++ rest)) (sym (step_text-is fault)) ∙ ap (option_map (λ x. (refusal.Step x.0, x.1))) (fault-spelling.again fault rest good)
-  again refusal.NotBuilt rest good = refl
   again refusal.Memory rest good = refl

@@ -1,14 +1,19 @@
 -- The words of a block, each read as what it was written for.
-use Rattle.std.proofs.Common.{◌≡◌, ◌<◌, ◌≤◌, ◌^◌, ◌==◌, ◌∷◌, [], ℕ, Bool, true, false, cond, IsTrue, List, Some, None, decimal, refl, subst, arith, rules, inl, inr}
+use Rattle.std.proofs.Common.{◌≡◌, ◌<◌, ◌≤◌, ◌^◌, ◌==◌, ◌∷◌, [], ℕ, Bool, true, false, cond, IsTrue, List, Option, Some, None, codes, decimal, refl, subst, arith, rules, inl, inr}
+use Rattle.std.specs.Prelude.{bytes_eq, ⊤}
 use Rattle.std.specs.List.{list_all}
 use Rattle.std.specs.Char.{is_ascii_digit}
 use Rattle.std.proofs.lemmas.Bool.{cases_Bool}
 use Rattle.std.proofs.lemmas.Bool.Decides.{nat_tests}
 use Rattle.std.proofs.lemmas.Fmt.{digits_decimal}
+use Rattle.std.proofs.lemmas.Slice.Eq.{bytes_eq-Decides}
+use Rattle.taxi_base.specs.declared.rows.FlightKind.{FlightKind}
+use Rattle.taxi_base.specs.declared.rows.FlightKind.TheVariants as kind
 use Rattle.taxi_base.specs.Words.{is_name, is_name_byte}
 use Rattle.taxi_text.specs.Fields.{name_of}
+use Rattle.certificate.specs.Texts.{kind_word}
 use Rattle.certificate.specs.Printable.{IsShort, IsCount, IsName}
-use Rattle.block_reader.specs.Fields.{number_of, count_of, some_count_of, step_number_of}
+use Rattle.block_reader.specs.Fields.{number_of, count_of, some_count_of, step_number_of, kind_of}
 use Rattle.block_reader.proofs.Pieces.{IsPlain}
 use Rattle.block_reader.proofs.Decimals.{numerals, decimal-again, decimal-only}
 use Rattle.block_reader.proofs.Spellings.{some-both, IsWord}
@@ -94,3 +99,39 @@ name-word = record {
   only = λ w name e. let a = kept (is_name w) w name e in (subst (λ (n : List ℕ). IsTrue (is_name n)) a.1 (search rules), a.1);
   plain = λ name good. name-plain name good;
 }
+
+-- ---- words that are one of a few
+
+-- a word that is this one gives this, else what the others give
+pub tried : {X : Type 0} (P : X → Type 0) (w text : List ℕ) (x : X) (others : Option X) → (w ≡ text → P x) → ((y : X) → others ≡ Some y → P y)
+    → (y : X) → cond (bytes_eq w text) (Some x) others ≡ Some y → P y
+tried {X = X} P w text x others here other y e = elim (cases_Bool (bytes_eq w text)) [
+  | inl is ↦ let k : Some x ≡ Some y = rw is at e in subst P (same x y k) (here ((bytes_eq-Decides w text).0 is))
+  | inr not ↦ other y (rw not at e)
+] where
+  same : (a b : X) → Some a ≡ Some b → a ≡ b
+  same a b k = cc
+
+pub kind-word : IsWord (λ (kind : FlightKind). ⊤) kind_word kind_of
+unfolding kind_of
+kind-word = record {
+  again = λ kind good. again kind;
+  only = λ w kind e. only w kind e;
+  plain = λ kind good. all-plain is_name_byte name_byte-plain (kind_word kind) (named kind);
+} where
+  again : (kind : FlightKind) → kind_of (kind_word kind) ≡ Some kind
+  again kind.Filed = refl
+  again kind.Arrival = refl
+  again kind.Departure = refl
+
+  named : (kind : FlightKind) → list_all is_name_byte (kind_word kind) ≡ true
+  named kind.Filed = refl
+  named kind.Arrival = refl
+  named kind.Departure = refl
+
+  only : (w : List ℕ) (kind : FlightKind) → kind_of w ≡ Some kind → ⊤ × (w ≡ kind_word kind)
+  only w =
+      tried (λ kind. ⊤ × (w ≡ kind_word kind)) w (codes "filed") kind.Filed _ (λ e. (tt, e))
+      (tried (λ kind. ⊤ × (w ≡ kind_word kind)) w (codes "arrival") kind.Arrival _ (λ e. (tt, e))
+      (tried (λ kind. ⊤ × (w ≡ kind_word kind)) w (codes "departure") kind.Departure _ (λ e. (tt, e))
+      (λ y e. absurd cc)))

@@ -3,6 +3,9 @@ use Rattle.std.specs.Prelude.{ℕ, List, Option, Some, None, option_map, codes, 
 use Rattle.taxi_base.specs.declared.rows.Step.{Step}
 use Rattle.taxi_base.specs.declared.rows.Span.{Span}
 use Rattle.taxi_base.specs.declared.rows.LabelRow.{LabelRow}
+use Rattle.taxi_base.specs.declared.rows.HeldRow.{HeldRow}
+use Rattle.taxi_base.specs.declared.rows.FlightRow.{FlightRow}
+use Rattle.taxi_base.specs.declared.numbers.Segment.{Segment}
 use Rattle.taxi_base.specs.declared.answers.StepCause.{StepCause}
 use Rattle.taxi_base.specs.declared.answers.StepCause.TheVariants.{ClassBarred, BadTurn, TooFast, PastHorizon, Taken}
 use Rattle.taxi_base.specs.declared.answers.StepFault.{StepFault}
@@ -12,8 +15,8 @@ use Rattle.taxi_base.specs.Airport.{Airport}
 use Rattle.taxi_text.specs.Commands.{◌>>=◌}
 use Rattle.taxi_text.specs.Fields.{name_of}
 use Rattle.certificate.specs.declared.block.Block.{Block}
-use Rattle.certificate.specs.declared.block.Block.TheVariants.{Refused, Filed, Cancelled, Route, NoRoute, Windows}
-use Rattle.block_reader.specs.Fields.{number_of, count_of, some_count_of, step_number_of, segment_of_word, arc_of_word}
+use Rattle.certificate.specs.declared.block.Block.TheVariants.{Refused, Filed, Cancelled, Route, NoRoute, Windows, Occupancy, Timetable}
+use Rattle.block_reader.specs.Fields.{number_of, count_of, some_count_of, step_number_of, kind_of, class_of_word, segment_of_word, arc_of_word}
 use Rattle.block_reader.specs.Reading.{after, word_then, word_last, made, either, rows_at}
 
 -- ---- rows
@@ -31,6 +34,16 @@ label_at airport =
 unfoldable pub window_at : Airport → List ℕ → Option (Span × List ℕ)
 window_at airport =
     after (codes "window ") (made (λ p. record { from = p.0; until = p.1 }) (word_then number_of (word_last number_of)))
+
+unfoldable pub held_at : Airport → List ℕ → Option (HeldRow × List ℕ)
+held_at airport =
+    after (codes "held ") (made (λ p. record { from = p.0; until = p.1.0; flight = p.1.1.0; segment = p.1.1.1 })
+    (word_then number_of (word_then number_of (word_then name_of (word_last (segment_of_word airport))))))
+
+unfoldable pub flight_at : Airport → List ℕ → Option (FlightRow × List ℕ)
+flight_at airport =
+    after (codes "flight ") (made (λ p. record { flight = p.0; kind = p.1.0; class = p.1.1.0; start = p.1.1.1.0; end = p.1.1.1.1 })
+    (word_then name_of (word_then kind_of (word_then (class_of_word airport) (word_then number_of (word_last number_of))))))
 
 -- ---- refusals
 
@@ -60,9 +73,8 @@ plain_refusal_of word =
     else (if bytes_eq word (codes "not-routed") then Some refusal.NotRouted
     else (if bytes_eq word (codes "not-arrival") then Some refusal.NotArrival
     else (if bytes_eq word (codes "full") then Some refusal.Full
-    else (if bytes_eq word (codes "not-built") then Some refusal.NotBuilt
     else (if bytes_eq word (codes "memory") then Some refusal.Memory
-    else None)))))))))))
+    else None))))))))))
 
 unfoldable pub refusal_at : List ℕ → Option (Refusal × List ℕ)
 refusal_at =
@@ -91,14 +103,27 @@ route_at airport bytes =
     rows_at (step_at airport) head.0.1.1.0 head.1 >>= (λ steps.
     option_map (λ labels. (Route head.0.0 head.0.1.0 steps.0 labels.0, labels.1)) (rows_at (label_at airport) head.0.1.1.1 steps.1)))
 
+-- a count, and so many rows
+abbrev pub counted_at : {X : Type 0} → (List X → Block) → (List ℕ → Option (X × List ℕ)) → List ℕ → Option (Block × List ℕ)
+counted_at make row bytes = word_last count_of bytes >>= (λ count. option_map (λ rows. (make rows.0, rows.1)) (rows_at row count.0 count.1))
+
+-- a segment, a count, and so many rows
+abbrev pub of_segment_at : {X : Type 0} → Airport → (Segment → List X → Block) → (List ℕ → Option (X × List ℕ)) → List ℕ → Option (Block × List ℕ)
+of_segment_at airport make row bytes =
+    word_then (segment_of_word airport) (word_last count_of) bytes >>= (λ head.
+    option_map (λ rows. (make head.0.0 rows.0, rows.1)) (rows_at row head.0.1 head.1))
+
 unfoldable pub no_route_at : Airport → List ℕ → Option (Block × List ℕ)
-no_route_at airport bytes =
-    word_last count_of bytes >>= (λ count. option_map (λ labels. (NoRoute labels.0, labels.1)) (rows_at (label_at airport) count.0 count.1))
+no_route_at airport = counted_at NoRoute (label_at airport)
 
 unfoldable pub windows_at : Airport → List ℕ → Option (Block × List ℕ)
-windows_at airport bytes =
-    word_then (segment_of_word airport) (word_last count_of) bytes >>= (λ head.
-    option_map (λ windows. (Windows head.0.0 windows.0, windows.1)) (rows_at (window_at airport) head.0.1 head.1))
+windows_at airport = of_segment_at airport Windows (window_at airport)
+
+unfoldable pub occupancy_at : Airport → List ℕ → Option (Block × List ℕ)
+occupancy_at airport = of_segment_at airport Occupancy (held_at airport)
+
+unfoldable pub timetable_at : Airport → List ℕ → Option (Block × List ℕ)
+timetable_at airport = counted_at Timetable (flight_at airport)
 
 -- ---- any block
 
@@ -109,4 +134,6 @@ block_at airport =
     (either (codes "refused ") refused_at
     (either (codes "filed ") filed_at
     (either (codes "cancelled ") cancelled_at
-    (after (codes "windows ") (windows_at airport))))))
+    (either (codes "windows ") (windows_at airport)
+    (either (codes "occupancy ") (occupancy_at airport)
+    (after (codes "timetable ") (timetable_at airport))))))))

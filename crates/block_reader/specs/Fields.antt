@@ -1,11 +1,14 @@
 -- What single words of a block mean.
-use Rattle.std.specs.Prelude.{ℕ, Bool, not, ◌&&◌, ◌||◌, ◌==◌, nat_lt, nat_le, List, length, slice_index_or, Option, Some, None, if◌then◌else◌}
+use Rattle.std.specs.Prelude.{ℕ, Bool, not, ◌&&◌, ◌||◌, ◌==◌, nat_lt, nat_le, List, length, slice_index_or, Option, Some, None, codes, bytes_eq, if◌then◌else◌}
 use Rattle.std.specs.List.{list_all}
 use Rattle.std.specs.Char.{is_ascii_digit}
 use Rattle.std.specs.Str.Parse.{digits_value}
 use Rattle.taxi_base.specs.declared.numbers.Segment.{Segment}
+use Rattle.taxi_base.specs.declared.numbers.Class.{Class}
 use Rattle.taxi_base.specs.declared.numbers.Arc.{Arc}
-use Rattle.taxi_base.specs.Airport.{Airport, segment_named, arc_named}
+use Rattle.taxi_base.specs.declared.rows.FlightKind.{FlightKind}
+use Rattle.taxi_base.specs.declared.rows.FlightKind.TheVariants as kind
+use Rattle.taxi_base.specs.Airport.{Airport, class_named, segment_named, arc_named}
 use Rattle.taxi_text.specs.Commands.{◌>>=◌}
 use Rattle.taxi_text.specs.Fields.{name_of, arc_word_of}
 
@@ -29,6 +32,18 @@ number_of = decimal_of 7
 
 abbrev pub count_of : List ℕ → Option ℕ
 count_of = decimal_of 10
+
+-- the kind of flight that a word means
+unfoldable pub kind_of : List ℕ → Option FlightKind
+kind_of word =
+    if bytes_eq word (codes "filed") then Some kind.Filed
+    else (if bytes_eq word (codes "arrival") then Some kind.Arrival
+    else (if bytes_eq word (codes "departure") then Some kind.Departure
+    else None))
+
+-- the airport's class that a word names
+abbrev pub class_of_word : Airport → List ℕ → Option Class
+class_of_word airport word = name_of word >>= class_named airport
 
 -- the airport's segment that a word names
 abbrev pub segment_of_word : Airport → List ℕ → Option Segment

@@ -1,11 +1,11 @@
 //! The words of a block, read at the front of the bytes.
 ghost use Rattle.std.specs.Prelude.{◌≡◌, ◌<◌, ◌≤◌, ◌^◌, ◌==◌, IfSome, length, position};
 ghost use Rattle.taxi_text.specs.Fields.{name_of};
-ghost use Rattle.block_reader.specs.Fields.{digits_of, decimal_of, number_of, count_of, some_count_of, step_number_of, segment_of_word, arc_of_word};
+ghost use Rattle.block_reader.specs.Fields.{digits_of, decimal_of, number_of, count_of, some_count_of, step_number_of, kind_of, class_of_word, segment_of_word, arc_of_word};
 ghost use Rattle.block_reader.specs.Reading.{behind, word_at, field_at, Finds};
 
 use airport_file::Airport;
-use taxi_base::{Arc, Name, Segment, Time};
+use taxi_base::{Arc, Class, FlightKind, Name, Segment, Time};
 use taxi_text::read_arc_word;
 
 /// What comes after a text that stands at the front.
@@ -112,6 +112,42 @@ pub(crate) fn name_field(last: u8, bytes: &[u8]) -> Option<(Name, &[u8])>
     let (word, rest) = word_at(last, bytes)?;
     let name = Name::read(word)?;
     Some((name, rest))
+}
+
+pub(crate) fn kind_field(last: u8, bytes: &[u8]) -> Option<(FlightKind, &[u8])>
+    ensures { Finds (λ x. (x.0, x.1.now)) result (field_at kind_of last bytes.now) }
+{
+    let (word, rest) = word_at(last, bytes)?;
+    let kind = kind_of(word)?;
+    Some((kind, rest))
+}
+
+#[tactic(auto, unfolding(crate::specs::Fields::kind_of))]
+fn kind_of(word: &[u8]) -> Option<FlightKind>
+    ensures { result ≡ kind_of word.now }
+{
+    if word == b"filed".as_slice() {
+        Some(FlightKind::Filed)
+    } else if word == b"arrival".as_slice() {
+        Some(FlightKind::Arrival)
+    } else if word == b"departure".as_slice() {
+        Some(FlightKind::Departure)
+    } else {
+        None
+    }
+}
+
+pub(crate) fn class_field<'a>(
+    airport: &Airport,
+    last: u8,
+    bytes: &'a [u8],
+) -> Option<(Class, &'a [u8])>
+    ensures { Finds (λ x. (x.0, x.1.now)) result (field_at (class_of_word airport.now) last bytes.now) }
+{
+    let (word, rest) = word_at(last, bytes)?;
+    let name = Name::read(word)?;
+    let class = airport.class_named(&name)?;
+    Some((class, rest))
 }
 
 pub(crate) fn segment_field<'a>(

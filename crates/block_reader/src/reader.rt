@@ -3,7 +3,7 @@ ghost use Rattle.block_reader.specs.Reading.{word_then, word_last, Finds, IsRead
 ghost use Rattle.certificate.specs.declared.block.Block.{Block as Plain};
 ghost use Rattle.block_reader.specs.Read.{BeginsWith, IsBlockRead, Reads};
 ghost use Rattle.block_reader.specs.Fields.{count_of, segment_of_word};
-ghost use Rattle.block_reader.specs.Blocks.{refused_at, filed_at, cancelled_at, route_head_at, route_at, no_route_at, windows_at, block_at};
+ghost use Rattle.block_reader.specs.Blocks.{refused_at, filed_at, cancelled_at, route_head_at, route_at, no_route_at, windows_at, occupancy_at, timetable_at, block_at};
 
 use crate::fields::{
     behind, count_field, name_field, number_field, segment_field, some_count_field,
@@ -14,7 +14,7 @@ use crate::rows::read_rows;
 use airport_file::Airport;
 use certificate::Block;
 use std::alloc::Global;
-use taxi_base::{LabelRow, Name, Segment, Span, Step, Time};
+use taxi_base::{FlightRow, HeldRow, LabelRow, Name, Segment, Span, Step, Time};
 
 /// The printable block that the bytes begin with, and the length of its text. `NotABlock` exactly where they begin with
 /// none. Rows that a count tells of and that aren't there take no room.
@@ -120,12 +120,12 @@ fn read_no_route<'a>(
     Ok((Block::NoRoute { labels }, rest))
 }
 
-fn windows_head<'a>(airport: &Airport, bytes: &'a [u8]) -> Option<((Segment, u64), &'a [u8])>
+fn segment_head<'a>(airport: &Airport, bytes: &'a [u8]) -> Option<((Segment, u64), &'a [u8])>
     ensures { Finds (λ x. (x.0, x.1.now)) result (word_then (segment_of_word airport.now) (word_last count_of) bytes.now) }
 {
     let (segment, rest) = segment_field(airport, b' ', bytes)?;
-    let (windows, rest) = count_field(b'\n', rest)?;
-    Some(((segment, windows), rest))
+    let (count, rest) = count_field(b'\n', rest)?;
+    Some(((segment, count), rest))
 }
 
 #[tactic(auto, unfolding(crate::specs::Blocks::windows_at))]
@@ -136,11 +136,41 @@ fn read_windows<'a>(
 ) -> Result<(Block, &'a [u8]), BlockRefused>
     ensures { IsRead (λ x. (x.0, x.1.now)) result (windows_at airport.now bytes.now) }
 {
-    let Some(((segment, windows), rest)) = windows_head(airport, bytes) else {
+    let Some(((segment, windows), rest)) = segment_head(airport, bytes) else {
         return Err(BlockRefused::NotABlock);
     };
     let (windows, rest) = read_rows::<Span>(alloc, airport, windows, rest)?;
     Ok((Block::Windows { segment, windows }, rest))
+}
+
+#[tactic(auto, unfolding(crate::specs::Blocks::occupancy_at))]
+fn read_occupancy<'a>(
+    alloc: Global,
+    airport: &Airport,
+    bytes: &'a [u8],
+) -> Result<(Block, &'a [u8]), BlockRefused>
+    ensures { IsRead (λ x. (x.0, x.1.now)) result (occupancy_at airport.now bytes.now) }
+{
+    let Some(((segment, held), rest)) = segment_head(airport, bytes) else {
+        return Err(BlockRefused::NotABlock);
+    };
+    let (held, rest) = read_rows::<HeldRow>(alloc, airport, held, rest)?;
+    Ok((Block::Occupancy { segment, held }, rest))
+}
+
+#[tactic(auto, unfolding(crate::specs::Blocks::timetable_at))]
+fn read_timetable<'a>(
+    alloc: Global,
+    airport: &Airport,
+    bytes: &'a [u8],
+) -> Result<(Block, &'a [u8]), BlockRefused>
+    ensures { IsRead (λ x. (x.0, x.1.now)) result (timetable_at airport.now bytes.now) }
+{
+    let Some((flights, rest)) = count_field(b'\n', bytes) else {
+        return Err(BlockRefused::NotABlock);
+    };
+    let (flights, rest) = read_rows::<FlightRow>(alloc, airport, flights, rest)?;
+    Ok((Block::Timetable { flights }, rest))
 }
 
 #[tactic(auto, unfolding(crate::specs::Blocks::block_at))]
@@ -166,8 +196,14 @@ fn read_any<'a>(
     if let Some(rest) = behind(b"cancelled ", bytes) {
         return read_cancelled(rest);
     }
-    match behind(b"windows ", bytes) {
-        Some(rest) => read_windows(alloc, airport, rest),
+    if let Some(rest) = behind(b"windows ", bytes) {
+        return read_windows(alloc, airport, rest);
+    }
+    if let Some(rest) = behind(b"occupancy ", bytes) {
+        return read_occupancy(alloc, airport, rest);
+    }
+    match behind(b"timetable ", bytes) {
+        Some(rest) => read_timetable(alloc, airport, rest),
         None => Err(BlockRefused::NotABlock),
     }
 }

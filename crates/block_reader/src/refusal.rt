@@ -53,8 +53,6 @@ fn plain_refusal(word: &[u8]) -> Option<Refusal>
         Some(Refusal::NotArrival)
     } else if word == b"full".as_slice() {
         Some(Refusal::Full)
-    } else if word == b"not-built".as_slice() {
-        Some(Refusal::NotBuilt)
     } else if word == b"memory".as_slice() {
         Some(Refusal::Memory)
     } else {

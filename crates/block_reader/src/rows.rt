@@ -2,13 +2,15 @@
 ghost use Rattle.std.specs.Prelude.{ℕ, List as Items, Option as Maybe};
 ghost use Rattle.taxi_base.specs.Airport.{Airport as Plain};
 ghost use Rattle.block_reader.specs.Reading.{rows_at, Finds, IsRead};
-ghost use Rattle.block_reader.specs.Blocks.{step_at, label_at, window_at};
+ghost use Rattle.block_reader.specs.Blocks.{step_at, label_at, window_at, held_at, flight_at};
 
-use crate::fields::{arc_field, behind, number_field};
+use crate::fields::{
+    arc_field, behind, class_field, kind_field, name_field, number_field, segment_field,
+};
 use crate::refused::BlockRefused;
 use airport_file::Airport;
 use std::alloc::Global;
-use taxi_base::{LabelRow, List, Span, Step};
+use taxi_base::{FlightRow, HeldRow, LabelRow, List, Span, Step};
 
 /// What is written as one line.
 pub(crate) trait Row: Copy {
@@ -62,6 +64,52 @@ impl Row for Span {
         let (from, rest) = number_field(b' ', rest)?;
         let (until, rest) = number_field(b'\n', rest)?;
         Some((Span { from, until }, rest))
+    }
+}
+
+impl Row for HeldRow {
+    ghost row_at = { held_at };
+
+    #[tactic(auto, unfolding(crate::specs::Blocks::held_at))]
+    fn read<'a>(airport: &Airport, bytes: &'a [u8]) -> Option<(HeldRow, &'a [u8])> {
+        let rest = behind(b"held ", bytes)?;
+        let (from, rest) = number_field(b' ', rest)?;
+        let (until, rest) = number_field(b' ', rest)?;
+        let Some((flight, rest)) = name_field(b' ', rest) else {
+            return None;
+        };
+        let (segment, rest) = segment_field(airport, b'\n', rest)?;
+        let row = HeldRow {
+            from,
+            until,
+            flight,
+            segment,
+        };
+        Some((row, rest))
+    }
+}
+
+impl Row for FlightRow {
+    ghost row_at = { flight_at };
+
+    #[tactic(auto, unfolding(crate::specs::Blocks::flight_at))]
+    fn read<'a>(airport: &Airport, bytes: &'a [u8]) -> Option<(FlightRow, &'a [u8])> {
+        let rest = behind(b"flight ", bytes)?;
+        let Some((flight, rest)) = name_field(b' ', rest) else {
+            return None;
+        };
+        let (kind, rest) = kind_field(b' ', rest)?;
+        let (class, rest) = class_field(airport, b' ', rest)?;
+        let (start, rest) = number_field(b' ', rest)?;
+        let (end, rest) = number_field(b'\n', rest)?;
+        let row = FlightRow {
+            flight,
+            kind,
+            class,
+            start,
+            end,
+        };
+        Some((row, rest))
     }
 }
 

@@ -24,13 +24,12 @@ use Rattle.taxi_text.specs.Commands.{command_of}
 use Rattle.walk_labels.specs.Places.{AreFit}
 use Rattle.walk_labels.proofs.FitConditions.{among_fit}
 use Rattle.certificate.specs.declared.block.Block.{Block}
-use Rattle.certificate.specs.declared.block.Block.TheVariants.{Refused, Filed, Cancelled, Route, NoRoute, Windows}
+use Rattle.certificate.specs.declared.block.Block.TheVariants.{Refused, Filed, Cancelled, Route, NoRoute, Windows, Occupancy, Timetable}
 use Rattle.certificate.specs.declared.rule.Rule.{Rule}
 use Rattle.certificate.specs.declared.rule.Rule.TheVariants as rule
 use Rattle.certificate.specs.Asked.{arrival_named, departure_named}
 use Rattle.certificate.specs.Refusals.{first_refusal}
 use Rattle.certificate.specs.CarriedOut.{second_of, routed_flight, IsCarriedOut}
-use Rattle.certificate.specs.Replies.{refusal_due}
 use Rattle.certificate.specs.Sought.{UnderWay, Sought, sought_new, sought_again, sought_by_class, sought_of, sought_by, IsWalkOnFor, IsWalkFor}
 use Rattle.certificate.specs.Passes.{IsFormOf, IsAsAsked, KeepsReply, KeepsSought, Keeps, IsPassed, TellsBest}
 use Rattle.certificate.proofs.FiledLaws.{and_then-some, map-some}
@@ -38,7 +37,7 @@ use Rattle.certificate.proofs.FlightLaws.{flight_named-there}
 use Rattle.certificate.proofs.RefusalLaws.{HasRoom, arrival-has_room, departure-has_room}
 use Rattle.certificate.proofs.ReplyLaws.{due-kept}
 use Rattle.certificate.proofs.TablesKept.{IsUnderWay, table-best, table-none}
-use Rattle.certificate.proofs.PassLaws.{none-due, route-table, no_route-table}
+use Rattle.certificate.proofs.PassLaws.{route-table, no_route-table}
 
 module _ (airport : Airport) (state : State) (well : IsWellFormed airport) (sound : IsSound airport state) where
   -- ---- what is sought is sought rightly
@@ -130,8 +129,8 @@ module _ (airport : Airport) (state : State) (well : IsWellFormed airport) (soun
   plain-none (command.Reroute flight time) block after none e done told = absurd (cc (rw done.in_force at e))
   plain-none (command.Divert flight time node) block after none e done told = absurd (cc (rw (done.in_force, done.meant) at e))
   plain-none (command.Windows segment) block after none e done told = subst IsFound done.reply.0 told
-  plain-none (command.Occupancy segment) block after none e done told = done
-  plain-none command.Timetable block after none e done told = done
+  plain-none (command.Occupancy segment) block after none e done told = subst IsFound done.reply.0 told
+  plain-none command.Timetable block after none e done told = subst IsFound done.0 told
 
   -- what is sought by a line that is answered so
   record IsSoughtBy (line : List ℕ) (block : Block) : Type 0 where
@@ -143,17 +142,17 @@ module _ (airport : Airport) (state : State) (well : IsWellFormed airport) (soun
   sought-there line block told (inl memory) = absurd (subst IsFound memory.1 told)
   sought-there line block told (inr form) = go (command_of line) refl form where
     go : (o : Option Command) → command_of line ≡ o
-        → MatchOption o (block ≡ Refused refusal.BadLine) (λ command. MatchOption (refusal_due airport state command) (IsAsAsked airport state command block) (λ why. block ≡ Refused why))
+        → MatchOption o (block ≡ Refused refusal.BadLine) (λ command. MatchOption (first_refusal airport state command) (IsAsAsked airport state command block) (λ why. block ≡ Refused why))
         → IsSoughtBy line block
     go None read is = absurd (subst IsFound is told)
-    go (Some command) read form = by_refusal (refusal_due airport state command) refl form where
+    go (Some command) read form = by_refusal (first_refusal airport state command) refl form where
       by_sought : first_refusal airport state command ≡ None → (o : Option Sought) → sought_of airport state command ≡ o
           → MatchOption o ((after : State) × IsCarriedOut airport state command block after) (λ s. IsFormOf s block) → IsSoughtBy line block
       by_sought none None e done = absurd (plain-none command block done.0 none e done.1 told)
       by_sought none (Some s) e form = record { s = s; by = rw read e; right = sought-right command s none e }
 
-      by_refusal : (o : Option Refusal) → refusal_due airport state command ≡ o → MatchOption o (IsAsAsked airport state command block) (λ why. block ≡ Refused why) → IsSoughtBy line block
-      by_refusal None none asked = by_sought (none-due airport state command none) (sought_of airport state command) refl asked
+      by_refusal : (o : Option Refusal) → first_refusal airport state command ≡ o → MatchOption o (IsAsAsked airport state command block) (λ why. block ≡ Refused why) → IsSoughtBy line block
+      by_refusal None none asked = by_sought none (sought_of airport state command) refl asked
       by_refusal (Some why) e is = absurd (subst IsFound is told)
 
   -- the rules for what is sought
@@ -187,6 +186,8 @@ module _ (airport : Airport) (state : State) (well : IsWellFormed airport) (soun
   passed-best line (Filed name start end) after passed = tt
   passed-best line (Cancelled name) after passed = tt
   passed-best line (Windows segment windows) after passed = tt
+  passed-best line (Occupancy segment held) after passed = tt
+  passed-best line (Timetable flights) after passed = tt
 
   -- and leaves the state sound
   pub passed-sound : (line : List ℕ) (block : Block) (after : State) → IsPassed airport state line block after → IsSound airport after
@@ -200,3 +201,5 @@ module _ (airport : Airport) (state : State) (well : IsWellFormed airport) (soun
   passed-sound line (Filed name start end) after passed = (due-kept airport state sound line (Filed name start end) after passed.after_it).stays_sound
   passed-sound line (Cancelled name) after passed = (due-kept airport state sound line (Cancelled name) after passed.after_it).stays_sound
   passed-sound line (Windows segment windows) after passed = subst (IsSound airport) (sym passed.after_it) sound
+  passed-sound line (Occupancy segment held) after passed = subst (IsSound airport) (sym passed.after_it) sound
+  passed-sound line (Timetable flights) after passed = subst (IsSound airport) (sym passed.after_it) sound

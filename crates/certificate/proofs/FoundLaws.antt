@@ -34,7 +34,7 @@ walk-end c [] walk = absurd walk
 walk-end c (s ∷ []) walk = walk.in_time
 walk-end c (s ∷ t ∷ steps) walk = walk-end c (t ∷ steps) walk.2
 
-step-enter : (c : Conditions) (s : Step) → IsFeasibleStep c s → s.enter ≤ c.airport.horizon
+pub step-enter : (c : Conditions) (s : Step) → IsFeasibleStep c s → s.enter ≤ c.airport.horizon
 step-enter c s made =
     let known = IsSomeAnd-value (seconds c.airport c.class (segment_of s.arc)) (λ n. s.enter + n ≤ s.leave) made.lasts in
     omega (arith, known.2, made.in_time)

@@ -8,6 +8,7 @@ pub mod FoundLaws
 pub mod RowPieces
 pub mod RefusalLaws
 pub mod WindowsTold
+pub mod ReportsTold
 pub mod PrintableLaws
 pub mod ReplyLaws
 pub mod OneReply

@@ -1,5 +1,5 @@
 -- A line has one due reply: what carries a command out is one block and one state.
-use Rattle.std.proofs.Common.{◌≡◌, ℕ, ◌+◌, ◌-◌, ◌≤◌, max, ◌&&◌, cond, Bool, true, false, nat_lt, List, length, IsFalse, Option, Some, None, refl, sym, ◌∙◌, ap, subst}
+use Rattle.std.proofs.Common.{◌≡◌, ℕ, ◌+◌, ◌-◌, ◌≤◌, max, ◌&&◌, Bool, true, false, nat_lt, List, length, IsFalse, Option, Some, None, refl, sym, ◌∙◌, ap, subst}
 use Rattle.std.specs.Prelude.{MatchOption}
 use Rattle.std.proofs.lemmas.Bool.{le-ltb}
 use Rattle.taxi_base.specs.declared.numbers.Class.{Class}
@@ -20,6 +20,8 @@ use Rattle.taxi_base.specs.Labels.{IsTable, IsExitBefore, IsEntryAfter, AnswersA
 use Rattle.taxi_base.specs.State.{State, with_flight, with_route, without, holds_in, step_begun, steps_done}
 use Rattle.taxi_base.specs.Again.{retargeted, IsTarget, after_steps, AnswersAgain}
 use Rattle.taxi_base.proofs.AirportLaws.{seconds-range}
+use Rattle.taxi_base.specs.Reports.{AreHeldRows}
+use Rattle.taxi_base.proofs.ReportLaws.{AreHeldRows-same}
 use Rattle.taxi_base.proofs.LabelLaws.{HasOneFirstStep, HasOneFirstStep-leaves, HasOneFirstStep-resumes, IsPickedArrival-same, IsPickedDeparture-same, IsTable-same}
 use Rattle.taxi_text.specs.declared.command.Command.{Command}
 use Rattle.taxi_text.specs.declared.command.Command.TheVariants as command
@@ -27,8 +29,8 @@ use Rattle.taxi_text.specs.Commands.{command_of}
 use Rattle.certificate.specs.declared.block.Block.{Block}
 use Rattle.certificate.specs.Asked.{filed_steps, arrival_named, departure_named, AnswersRequest}
 use Rattle.certificate.specs.Refusals.{first_refusal}
-use Rattle.certificate.specs.CarriedOut.{Reply, IsOf, filed_reply, found_reply, routed_flight, IsRouted, IsRoutedAgain, cancelled_reply, windows_reply, IsCarriedOut}
-use Rattle.certificate.specs.Replies.{refused, is_built, IsDueTo, IsDue}
+use Rattle.certificate.specs.CarriedOut.{Reply, IsOf, filed_reply, found_reply, routed_flight, IsRouted, IsRoutedAgain, cancelled_reply, windows_reply, occupancy_reply, timetable_reply, IsCarriedOut}
+use Rattle.certificate.specs.Replies.{refused, IsDueTo, IsDue}
 
 -- what is found under one name is one thing
 one-some : {X : Type 0} (o : Option X) (x y : X) → o ≡ Some x → o ≡ Some y → x ≡ y
@@ -164,11 +166,15 @@ module _ (block : Block) (after : State) (other : Block) (others : State) where
     IsCarriedOut-same well (command.Windows segment) a b =
         let segments : a.segment ≡ b.segment = one-some (segment_named airport segment) a.segment b.segment a.known b.known in
         of_same (windows_reply airport state a.segment) (windows_reply airport state b.segment) (ap (windows_reply airport state) segments) a.reply b.reply
-    IsCarriedOut-same well (command.Occupancy segment) a b = absurd a
-    IsCarriedOut-same well command.Timetable a b = absurd a
+    IsCarriedOut-same well (command.Occupancy segment) a b =
+        let segments : a.segment ≡ b.segment = one-some (segment_named airport segment) a.segment b.segment a.known b.known in
+        let held : AreHeldRows airport state a.segment b.rows = subst (λ s. AreHeldRows airport state s b.rows) (sym segments) b.held in
+        let rows : a.rows ≡ b.rows = AreHeldRows-same airport state a.segment a.rows b.rows a.held held in
+        of_same (occupancy_reply state a.segment a.rows) (occupancy_reply state b.segment b.rows) (λ i. occupancy_reply state (segments i) (rows i)) a.reply b.reply
+    IsCarriedOut-same well command.Timetable a b = of_one (timetable_reply state) a b
 
     IsDueTo-same : IsWellFormed airport → (c : Command) → IsDueTo airport state c block after → IsDueTo airport state c other others → AreSame block after other others
-    IsDueTo-same well c a b = go (cond (is_built c) (first_refusal airport state c) (Some refusal.NotBuilt)) a b where
+    IsDueTo-same well c a b = go (first_refusal airport state c) a b where
       go : (o : Option Refusal) → MatchOption o (IsCarriedOut airport state c block after) (λ why. IsOf (refused state why) block after)
           → MatchOption o (IsCarriedOut airport state c other others) (λ why. IsOf (refused state why) other others) → AreSame block after other others
       go None a b = IsCarriedOut-same well c a b

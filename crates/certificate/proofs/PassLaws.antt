@@ -1,5 +1,5 @@
 -- The block that is due passes, and what passes is the best.
-use Rattle.std.proofs.Common.{◌≡◌, ℕ, ◌<◌, cond, Bool, true, false, List, inl, inr, Option, Some, None, refl, sym, subst, arith}
+use Rattle.std.proofs.Common.{◌≡◌, ℕ, ◌<◌, Bool, true, false, List, inl, inr, Option, Some, None, refl, sym, subst, arith}
 use Rattle.std.specs.Prelude.{MatchOption, IsTrue}
 use Rattle.std.proofs.lemmas.List.Elements.{All-contains}
 use Rattle.taxi_base.specs.declared.numbers.Class.{Class}
@@ -18,6 +18,7 @@ use Rattle.taxi_base.specs.Walks.{Conditions, IsFeasibleWalk, Meets, begin_of, e
 use Rattle.taxi_base.specs.State.{State, flight_named, with_flight, with_route, holds_in, without, conditions_of, IsFrozenWalk, IsSound}
 use Rattle.taxi_base.specs.Faults.{conditions_in}
 use Rattle.taxi_base.specs.Again.{retargeted, IsTarget, MayGoAgain, AnswersAgain}
+use Rattle.taxi_base.specs.Reports.{timetable_rows}
 use Rattle.taxi_base.proofs.AgainLaws.{again-best, old-frozen}
 use Rattle.taxi_base.proofs.WalkLaws.{Meets-IsFeasibleWalk}
 use Rattle.taxi_text.specs.declared.command.Command.{Command}
@@ -26,13 +27,13 @@ use Rattle.taxi_text.specs.Commands.{command_of}
 use Rattle.walk_labels.specs.Places.{AreFit}
 use Rattle.walk_labels.proofs.FitConditions.{among_fit}
 use Rattle.certificate.specs.declared.block.Block.{Block}
-use Rattle.certificate.specs.declared.block.Block.TheVariants.{Refused, Filed, Cancelled, Route, NoRoute, Windows}
+use Rattle.certificate.specs.declared.block.Block.TheVariants.{Refused, Filed, Cancelled, Route, NoRoute, Windows, Occupancy, Timetable}
 use Rattle.certificate.specs.declared.rule.Rule.{Rule}
 use Rattle.certificate.specs.declared.rule.Rule.TheVariants as rule
 use Rattle.certificate.specs.Asked.{arrival_named, departure_named, AnswersRequest}
 use Rattle.certificate.specs.Refusals.{first_refusal}
 use Rattle.certificate.specs.CarriedOut.{Reply, IsOf, second_of, found_reply, routed_flight, IsRouted, IsRoutedAgain, windows_among, IsCarriedOut}
-use Rattle.certificate.specs.Replies.{refused, is_built, refusal_due, IsDueTo, IsDue, IsReply, as_due, no_memory}
+use Rattle.certificate.specs.Replies.{refused, IsDueTo, IsDue, IsReply, as_due, no_memory}
 use Rattle.certificate.specs.Sought.{UnderWay, Sought, sought_new, sought_again, sought_by_class, sought_of, sought_by, search_of, IsWalkOnFor}
 use Rattle.certificate.specs.TableRules.{KeepsTable}
 use Rattle.certificate.specs.Passes.{IsFormOf, KeepsReply, KeepsWalk, OfTable, KeepsSought, Keeps, IsAfter, IsPassed}
@@ -40,13 +41,6 @@ use Rattle.certificate.proofs.FlightLaws.{flight_named-there}
 use Rattle.certificate.proofs.AgainRefusals.{reroute-may, divert-before}
 use Rattle.certificate.proofs.FoundLaws.{found-meets, best-one, second-retargeted}
 use Rattle.certificate.proofs.TablesKept.{HasKeptTable, new-table, again-table, IsBefore}
-
--- a command that is due no refusal is refused nothing
-pub none-due : (airport : Airport) (state : State) (c : Command) → refusal_due airport state c ≡ None → first_refusal airport state c ≡ None
-none-due airport state c none = go (is_built c) (first_refusal airport state c) none where
-  go : (b : Bool) (o : Option Refusal) → cond b o (Some refusal.NotBuilt) ≡ None → o ≡ None
-  go true o e = e
-  go false o e = absurd (cc e)
 
 -- ---- what passes where a walk is sought
 
@@ -100,6 +94,14 @@ sought-keeps s (Windows segment windows) walk table rule.Rows = tt
 sought-keeps s (Windows segment windows) walk table rule.Start = tt
 sought-keeps s (Windows segment windows) walk table rule.Step = tt
 sought-keeps s (Windows segment windows) walk table rule.Target = tt
+sought-keeps s (Occupancy segment held) walk table rule.Rows = tt
+sought-keeps s (Occupancy segment held) walk table rule.Start = tt
+sought-keeps s (Occupancy segment held) walk table rule.Step = tt
+sought-keeps s (Occupancy segment held) walk table rule.Target = tt
+sought-keeps s (Timetable flights) walk table rule.Rows = tt
+sought-keeps s (Timetable flights) walk table rule.Start = tt
+sought-keeps s (Timetable flights) walk table rule.Step = tt
+sought-keeps s (Timetable flights) walk table rule.Target = tt
 
 pub route-table : (s : Sought) (name : List ℕ) (second : ℕ) (steps : List Step) (labels : List LabelRow) → ((r : Rule) → KeepsSought r s (Route name second steps labels))
     → HasKeptTable s.conditions (search_of s.request s.under_way) (Some second) labels
@@ -283,7 +285,7 @@ module _ (airport : Airport) (state : State) (well : IsWellFormed airport) (soun
       after_it = subst (λ b. IsAfter airport state line b after) (sym of.0) of.1;
     }
 
-    module _ (c : Command) (read : command_of line ≡ Some c) (none : refusal_due airport state c ≡ None) where
+    module _ (c : Command) (read : command_of line ≡ Some c) (none : first_refusal airport state c ≡ None) where
       sought-after : (s : Sought) → sought_by airport state line ≡ Some s → (b : Block) → IsFormOf s b → AfterOf state s b after → IsAfter airport state line b after
       sought-after s by (Route name second steps labels) form is = rw by is
       sought-after s by (NoRoute labels) form is = is
@@ -291,6 +293,8 @@ module _ (airport : Airport) (state : State) (well : IsWellFormed airport) (soun
       sought-after s by (Filed name start end) form is = absurd form
       sought-after s by (Cancelled name) form is = absurd form
       sought-after s by (Windows segment windows) form is = absurd form
+      sought-after s by (Occupancy segment held) form is = absurd form
+      sought-after s by (Timetable flights) form is = absurd form
 
       sought-passes : (s : Sought) × (sought_of airport state c ≡ Some s) × PassesSought state s block after → IsPassed airport state line block after
       sought-passes p =
@@ -316,35 +320,37 @@ module _ (airport : Airport) (state : State) (well : IsWellFormed airport) (soun
       after_it = subst (λ b. IsAfter airport state line b after) (sym is) after_told;
     }
 
-    carried-passes : (c : Command) → command_of line ≡ Some c → refusal_due airport state c ≡ None → first_refusal airport state c ≡ None → IsDue airport state line block after
+    carried-passes : (c : Command) → command_of line ≡ Some c → first_refusal airport state c ≡ None → IsDue airport state line block after
         → IsCarriedOut airport state c block after → IsPassed airport state line block after
-    carried-passes (command.File flight class start steps) read none first due done =
+    carried-passes (command.File flight class start steps) read none due done =
         plain-passes (Filed flight (begin_of done.steps) (end_of done.steps)) done.reply.0 (λ s. sought-keeps s (Filed flight (begin_of done.steps) (end_of done.steps)) tt tt)
         (subst (λ b. IsDue airport state line b after) done.reply.0 due) (inr (rw (read, none) (after, done)))
-    carried-passes (command.Arrival flight class from to time hold) read none first due done =
+    carried-passes (command.Arrival flight class from to time hold) read none due done =
         sought-passes (command.Arrival flight class from to time hold) read none (new-passes flight class (arrival_named airport from to time hold) block after done)
-    carried-passes (command.Departure flight class from to time queue) read none first due done =
+    carried-passes (command.Departure flight class from to time queue) read none due done =
         sought-passes (command.Departure flight class from to time queue) read none (new-passes flight class (departure_named airport from to time queue) block after done)
-    carried-passes (command.Cancel flight) read none first due done =
+    carried-passes (command.Cancel flight) read none due done =
         plain-passes (Cancelled flight) done.0 (λ s. sought-keeps s (Cancelled flight) tt tt) (subst (λ b. IsDue airport state line b after) done.0 due) (inr (rw (read, none) (after, done)))
-    carried-passes (command.Reroute flight time) read none first due done =
-        sought-passes (command.Reroute flight time) read none (reroute-passes flight time block after first done)
-    carried-passes (command.Divert flight time node) read none first due done =
-        sought-passes (command.Divert flight time node) read none (divert-passes flight time node block after first done)
-    carried-passes (command.Windows segment) read none first due done =
+    carried-passes (command.Reroute flight time) read none due done =
+        sought-passes (command.Reroute flight time) read none (reroute-passes flight time block after none done)
+    carried-passes (command.Divert flight time node) read none due done =
+        sought-passes (command.Divert flight time node) read none (divert-passes flight time node block after none done)
+    carried-passes (command.Windows segment) read none due done =
         plain-passes (Windows done.segment (windows_among airport state done.segment)) done.reply.0 (λ s. sought-keeps s (Windows done.segment (windows_among airport state done.segment)) tt tt)
         done.reply.1 (inr (rw (read, none) (after, done)))
-    carried-passes (command.Occupancy segment) read none first due done = absurd done
-    carried-passes command.Timetable read none first due done = absurd done
+    carried-passes (command.Occupancy segment) read none due done =
+        plain-passes (Occupancy done.segment done.rows) done.reply.0 (λ s. sought-keeps s (Occupancy done.segment done.rows) tt tt) done.reply.1 (inr (rw (read, none) (after, done)))
+    carried-passes command.Timetable read none due done =
+        plain-passes (Timetable (timetable_rows state)) done.0 (λ s. sought-keeps s (Timetable (timetable_rows state)) tt tt) done.1 (inr (rw read (after, done)))
 
     pub due-passes : IsDue airport state line block after → IsPassed airport state line block after
     unfolding IsDue
     due-passes due = go (command_of line) refl due where
       go : (o : Option Command) → command_of line ≡ o → MatchOption o (IsOf (refused state refusal.BadLine) block after) (λ c. IsDueTo airport state c block after) → IsPassed airport state line block after
       go None read of = refused-passes refusal.BadLine of (inr (rw read of.0))
-      go (Some c) read due_to = by (refusal_due airport state c) refl due_to where
-        by : (o : Option Refusal) → refusal_due airport state c ≡ o → MatchOption o (IsCarriedOut airport state c block after) (λ why. IsOf (refused state why) block after) → IsPassed airport state line block after
-        by None none done = carried-passes c read none (none-due airport state c none) due done
+      go (Some c) read due_to = by (first_refusal airport state c) refl due_to where
+        by : (o : Option Refusal) → first_refusal airport state c ≡ o → MatchOption o (IsCarriedOut airport state c block after) (λ why. IsOf (refused state why) block after) → IsPassed airport state line block after
+        by None none done = carried-passes c read none due done
         by (Some why) is of = refused-passes why of (inr (rw (read, is) of.0))
 
 -- a reply to a line passes

@@ -32,18 +32,19 @@ use Rattle.taxi_text.specs.declared.command.Command.{Command}
 use Rattle.taxi_text.specs.declared.command.Command.TheVariants as command
 use Rattle.taxi_text.specs.Commands.{command_of}
 use Rattle.certificate.specs.declared.block.Block.{Block}
-use Rattle.certificate.specs.declared.block.Block.TheVariants.{Refused, Filed, Cancelled, Route, NoRoute, Windows}
+use Rattle.certificate.specs.declared.block.Block.TheVariants.{Refused, Filed, Cancelled, Route, NoRoute, Windows, Occupancy, Timetable}
 use Rattle.certificate.specs.Printable.{IsShort, IsName, IsPrintableCause, IsPrintableRefusal, IsPrintableStep, IsPrintableWindow, IsPrintable}
 use Rattle.certificate.specs.Asked.{filed_steps, IsInGrammar, arrival_named, departure_named, AnswersRequest}
 use Rattle.certificate.specs.Refusals.{refused_if, first_of, of_flight, not_routed, not_arrival, already_done, already_moving, in_force, unknown_class, unknown_node, no_runway, no_stand, unknown_segment, unknown_arc, not_in_force, full, step_fails, is_filed, is_departure, first_refusal}
-use Rattle.certificate.specs.CarriedOut.{Reply, IsOf, filed_reply, IsFiled, second_of, found_reply, routed_flight, IsRouted, IsRoutedAgain, cancelled_reply, windows_among, windows_reply, IsCarriedOut}
-use Rattle.certificate.specs.Replies.{refused, is_built, IsDueTo, IsDue, HaveNames, DoesAsItSays}
+use Rattle.certificate.specs.CarriedOut.{Reply, IsOf, filed_reply, IsFiled, second_of, found_reply, routed_flight, IsRouted, IsRoutedAgain, cancelled_reply, windows_among, windows_reply, occupancy_reply, timetable_reply, IsCarriedOut}
+use Rattle.certificate.specs.Replies.{refused, IsDueTo, IsDue, HaveNames, DoesAsItSays}
 use Rattle.certificate.proofs.FiledLaws.{filed_steps-length, filed_steps-arcs, filed_steps-joined}
 use Rattle.certificate.proofs.FlightLaws.{flight_named-there}
 use Rattle.certificate.proofs.HolderNames.{holder_at-name, with_flight-names, without-names}
 use Rattle.certificate.proofs.FoundLaws.{walk-end, walk-begin, walk-second, walk-some, walk-count, walk-printable, found-meets, found_again-meets, ArePrintableLabels, found-printable, found_again-printable}
 use Rattle.certificate.proofs.GrammarLaws.{command_of-in_grammar}
 use Rattle.certificate.proofs.RefusalLaws.{none-fails, file-does_not_fail}
+use Rattle.certificate.proofs.ReportsTold.{held-count, held-printable, timetable-count, timetable-printable}
 use Rattle.certificate.proofs.WindowsTold.{windows_among-by, windows_among-count, segment_named-exists}
 
 module _ (airport : Airport) (state : State) (well : IsWellFormed airport) (names : HaveNames state) (sound : IsSound airport state) where
@@ -255,7 +256,7 @@ module _ (airport : Airport) (state : State) (well : IsWellFormed airport) (name
         (route-printable c name flight.request steps labels refl named (Meets-IsFeasibleWalk c asked steps met)
         (found_again-printable c well bounded flight.steps time done.target flight.request (found.Route steps labels) answers))
 
-  -- what is carried out has a text, whether its form is answered yet or not
+  -- what is carried out has a text
   pub carried_out-printable : (c : Command) (block : Block) (after : State) → IsInGrammar c → first_refusal airport state c ≡ None
       → IsCarriedOut airport state c block after → IsPrintable airport block
   carried_out-printable (command.File flight class start steps) block after spoken none done =
@@ -274,22 +275,23 @@ module _ (airport : Airport) (state : State) (well : IsWellFormed airport) (name
         All-weaker (λ w. (w.from < w.until) × (w.until ≤ airport.horizon)) IsPrintableWindow (λ w h. (number w.from (omega (arith, h.0, h.1)), number w.until h.1))
             (windows_among airport state done.segment) (windows_among-by airport state done.segment),
       )
-  carried_out-printable (command.Occupancy segment) block after spoken none done = absurd done
-  carried_out-printable command.Timetable block after spoken none done = absurd done
+  carried_out-printable (command.Occupancy segment) block after spoken none done =
+      of-reply (occupancy_reply state done.segment done.rows) block after done.reply (
+        (segment_named-exists airport segment done.segment done.known, held-count airport state well sound done.segment done.rows done.held),
+        held-printable airport state well sound names done.segment done.rows done.held,
+      )
+  carried_out-printable command.Timetable block after spoken none done =
+      of-reply (timetable_reply state) block after done (timetable-count airport state well sound, timetable-printable airport state well sound names)
 
   of-refusal : (why : Refusal) (block : Block) (after : State) → IsOf (refused state why) block after → IsPrintableRefusal why → IsPrintable airport block
   of-refusal why block after of fine = of-reply (refused state why) block after of fine
 
   due_to-printable : (c : Command) (block : Block) (after : State) → IsInGrammar c → IsDueTo airport state c block after → IsPrintable airport block
-  due_to-printable c block after spoken due = go (is_built c) refl due where
-    go : (b : Bool) → is_built c ≡ b → MatchOption (cond b (first_refusal airport state c) (Some refusal.NotBuilt)) (IsCarriedOut airport state c block after) (λ why. IsOf (refused state why) block after)
+  due_to-printable c block after spoken due = go (first_refusal airport state c) refl (refusal-fine c spoken) due where
+    go : (o : Option Refusal) → first_refusal airport state c ≡ o → IsFine o → MatchOption o (IsCarriedOut airport state c block after) (λ why. IsOf (refused state why) block after)
         → IsPrintable airport block
-    go false e due = of-refusal refusal.NotBuilt block after due tt
-    go true e due = by (first_refusal airport state c) refl (refusal-fine c spoken) due where
-      by : (o : Option Refusal) → first_refusal airport state c ≡ o → IsFine o → MatchOption o (IsCarriedOut airport state c block after) (λ why. IsOf (refused state why) block after)
-          → IsPrintable airport block
-      by None none fine done = carried_out-printable c block after spoken none done
-      by (Some why) some fine of = of-refusal why block after of fine
+    go None none fine done = carried_out-printable c block after spoken none done
+    go (Some why) some fine of = of-refusal why block after of fine
 
   -- the block that a line is due has a text
   pub due-printable : (line : List ℕ) (block : Block) (after : State) → IsDue airport state line block after → IsPrintable airport block
@@ -310,4 +312,6 @@ says-names airport state (Route name second steps labels) after names says fine 
     subst HaveNames (sym says.3) (with_flight-names says.0 (without says.0.name state) (subst IsName (sym says.1) fine.0.0) (without-names says.0.name state names))
 says-names airport state (NoRoute labels) after names says fine = subst HaveNames (sym says) names
 says-names airport state (Windows segment windows) after names says fine = subst HaveNames (sym says.1) names
+says-names airport state (Occupancy segment held) after names says fine = subst HaveNames (sym says.1) names
+says-names airport state (Timetable flights) after names says fine = subst HaveNames (sym says.1) names
 says-names airport state (Refused why) after names says fine = subst HaveNames (sym says) names

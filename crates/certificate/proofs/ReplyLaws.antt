@@ -1,5 +1,5 @@
 -- A reply keeps the state sound, and what it says is so.
-use Rattle.std.proofs.Common.{◌≡◌, ℕ, ◌<◌, cond, Bool, true, false, List, [], length, inl, inr, Option, Some, None, refl, sym, ap, subst, arith}
+use Rattle.std.proofs.Common.{◌≡◌, ℕ, ◌<◌, Bool, true, false, List, [], length, inl, inr, Option, Some, None, refl, sym, ap, subst, arith}
 use Rattle.std.specs.Prelude.{◌⊎◌, Contains, IfSome, MatchOption}
 use Rattle.std.proofs.lemmas.Bool.{and_parts, ltb-true}
 use Rattle.taxi_base.specs.declared.numbers.Node.{Node}
@@ -25,8 +25,8 @@ use Rattle.certificate.specs.declared.block.Block.{Block}
 use Rattle.certificate.specs.declared.block.Block.TheVariants.{Refused, Route, NoRoute}
 use Rattle.certificate.specs.Asked.{IsInGrammar, arrival_named, departure_named, AnswersRequest}
 use Rattle.certificate.specs.Refusals.{is_in_force, not_in_force, first_refusal}
-use Rattle.certificate.specs.CarriedOut.{Reply, IsOf, filed_flight, filed_reply, IsFiled, second_of, found_reply, routed_flight, IsRouted, IsRoutedAgain, cancelled_reply, windows_reply, IsCarriedOut}
-use Rattle.certificate.specs.Replies.{refused, is_built, IsDueTo, IsDue, NeedsNoMemory, IsReply, as_due, no_memory, DoesAsItSays, IsAnswered}
+use Rattle.certificate.specs.CarriedOut.{Reply, IsOf, filed_flight, filed_reply, IsFiled, second_of, found_reply, routed_flight, IsRouted, IsRoutedAgain, cancelled_reply, windows_reply, occupancy_reply, timetable_reply, IsCarriedOut}
+use Rattle.certificate.specs.Replies.{refused, IsDueTo, IsDue, NeedsNoMemory, IsReply, as_due, no_memory, DoesAsItSays, IsAnswered}
 use Rattle.certificate.proofs.FiledLaws.{filed_steps-length, filed_steps-arcs, filed_steps-joined}
 use Rattle.certificate.proofs.FlightLaws.{flight_named-there, flight_named-name, without-none}
 use Rattle.certificate.proofs.RefusalLaws.{none-first, is-in_force, none-fails, HasRoom, file-has_room, file-does_not_fail, arrival-has_room, departure-has_room}
@@ -120,23 +120,21 @@ module _ (airport : Airport) (state : State) (sound : IsSound airport state) whe
   carried_out-kept (command.Divert flight time node) block after spoken none done = again-kept flight time (λ asked target. node_named airport node ≡ Some target) block after done
   carried_out-kept (command.Windows segment) block after spoken none done =
       of-reply (windows_reply airport state done.segment) block after done.reply (record { as_it_says = (windows_among-are airport state done.segment, refl); stays_sound = sound })
-  carried_out-kept (command.Occupancy segment) block after spoken none done = absurd done
-  carried_out-kept command.Timetable block after spoken none done = absurd done
+  carried_out-kept (command.Occupancy segment) block after spoken none done =
+      of-reply (occupancy_reply state done.segment done.rows) block after done.reply (record { as_it_says = (done.held, refl); stays_sound = sound })
+  carried_out-kept command.Timetable block after spoken none done =
+      of-reply (timetable_reply state) block after done (record { as_it_says = (refl, refl); stays_sound = sound })
 
   of-refusal : (why : Refusal) (block : Block) (after : State) → IsOf (refused state why) block after → IsKept block after
   of-refusal why block after of = of-reply (refused state why) block after of (refused-kept why)
 
   -- what a command is due
   due_to-kept : (c : Command) (block : Block) (after : State) → IsInGrammar c → IsDueTo airport state c block after → IsKept block after
-  due_to-kept c block after spoken due = go (is_built c) refl due where
-    go : (b : Bool) → is_built c ≡ b → MatchOption (cond b (first_refusal airport state c) (Some refusal.NotBuilt)) (IsCarriedOut airport state c block after) (λ why. IsOf (refused state why) block after)
+  due_to-kept c block after spoken due = go (first_refusal airport state c) refl due where
+    go : (o : Option Refusal) → first_refusal airport state c ≡ o → MatchOption o (IsCarriedOut airport state c block after) (λ why. IsOf (refused state why) block after)
         → IsKept block after
-    go false e due = of-refusal refusal.NotBuilt block after due
-    go true e due = by (first_refusal airport state c) refl due where
-      by : (o : Option Refusal) → first_refusal airport state c ≡ o → MatchOption o (IsCarriedOut airport state c block after) (λ why. IsOf (refused state why) block after)
-          → IsKept block after
-      by None none done = carried_out-kept c block after spoken none done
-      by (Some why) some of = of-refusal why block after of
+    go None none done = carried_out-kept c block after spoken none done
+    go (Some why) some of = of-refusal why block after of
 
   -- what a line is due
   pub due-kept : (line : List ℕ) (block : Block) (after : State) → IsDue airport state line block after → IsKept block after

@@ -5,6 +5,7 @@ use Rattle.taxi_base.specs.declared.numbers.Node.{Node}
 use Rattle.taxi_base.specs.declared.numbers.Segment.{Segment}
 use Rattle.taxi_base.specs.declared.rows.Step.{Step}
 use Rattle.taxi_base.specs.declared.rows.Span.{Span}
+use Rattle.taxi_base.specs.declared.rows.HeldRow.{HeldRow}
 use Rattle.taxi_base.specs.declared.answers.Request.{Request}
 use Rattle.taxi_base.specs.declared.answers.Request.TheVariants as request
 use Rattle.taxi_base.specs.declared.answers.Flight.{Flight}
@@ -16,11 +17,12 @@ use Rattle.taxi_base.specs.Walks.{begin_of, end_of}
 use Rattle.taxi_base.specs.State.{State, flight_named, with_flight, without, with_route, holds_in, conditions_of}
 use Rattle.taxi_base.specs.Faults.{conditions_in}
 use Rattle.taxi_base.specs.Again.{retargeted, IsTarget, AnswersAgain}
+use Rattle.taxi_base.specs.Reports.{timetable_rows, AreHeldRows}
 use Rattle.taxi_text.specs.declared.command.FiledStep.{FiledStep}
 use Rattle.taxi_text.specs.declared.command.Command.{Command}
 use Rattle.taxi_text.specs.declared.command.Command.TheVariants as command
 use Rattle.certificate.specs.declared.block.Block.{Block}
-use Rattle.certificate.specs.declared.block.Block.TheVariants.{Filed, Cancelled, Route, NoRoute, Windows}
+use Rattle.certificate.specs.declared.block.Block.TheVariants.{Filed, Cancelled, Route, NoRoute, Windows, Occupancy, Timetable}
 use Rattle.certificate.specs.Asked.{filed_steps, arrival_named, departure_named, AnswersRequest}
 
 -- what is answered, and the state afterwards
@@ -103,9 +105,23 @@ pub record AreWindowsTold (airport : Airport) (state : State) (name : List ℕ) 
   pub known : segment_named airport name ≡ Some segment
   pub reply : IsOf (windows_reply airport state segment) block after
 
+-- the rows of what holds a segment
+abbrev pub occupancy_reply : State → Segment → List HeldRow → Reply
+occupancy_reply state segment rows = record { block = Occupancy segment rows; after = state }
+
+pub record IsOccupancyTold (airport : Airport) (state : State) (name : List ℕ) (block : Block) (after : State) : Type 0 where
+  pub segment : Segment
+  pub rows : List HeldRow
+  pub known : segment_named airport name ≡ Some segment
+  pub held : AreHeldRows airport state segment rows
+  pub reply : IsOf (occupancy_reply state segment rows) block after
+
+-- a row for each flight in force
+abbrev pub timetable_reply : State → Reply
+timetable_reply state = record { block = Timetable (timetable_rows state); after = state }
+
 -- ---- every command
 
--- The rows of an occupancy and of a timetable are not defined yet, so nothing carries these out.
 abbrev pub IsCarriedOut : Airport → State → Command → Block → State → Type 0
 IsCarriedOut airport state (command.File flight class start steps) = IsFiled airport state flight class start steps
 IsCarriedOut airport state (command.Arrival flight class from to time hold) = IsRouted airport state flight class (arrival_named airport from to time hold)
@@ -114,5 +130,5 @@ IsCarriedOut airport state (command.Cancel flight) = IsOf (cancelled_reply state
 IsCarriedOut airport state (command.Reroute flight time) = IsRoutedAgain airport state flight time IsTarget
 IsCarriedOut airport state (command.Divert flight time node) = IsRoutedAgain airport state flight time (λ asked target. node_named airport node ≡ Some target)
 IsCarriedOut airport state (command.Windows segment) = AreWindowsTold airport state segment
-IsCarriedOut airport state (command.Occupancy segment) = λ block after. ⊥
-IsCarriedOut airport state command.Timetable = λ block after. ⊥
+IsCarriedOut airport state (command.Occupancy segment) = IsOccupancyTold airport state segment
+IsCarriedOut airport state command.Timetable = IsOf (timetable_reply state)

@@ -14,7 +14,8 @@ use Rattle.certificate.specs.declared.block.Block.TheVariants.{Refused, Filed, C
 use Rattle.certificate.specs.declared.rule.Rule.{Rule}
 use Rattle.certificate.specs.declared.rule.Rule.TheVariants as rule
 use Rattle.certificate.specs.CarriedOut.{second_of, IsCarriedOut}
-use Rattle.certificate.specs.Replies.{refusal_due, IsDue, NeedsNoMemory}
+use Rattle.certificate.specs.Refusals.{first_refusal}
+use Rattle.certificate.specs.Replies.{IsDue, NeedsNoMemory}
 use Rattle.certificate.specs.Sought.{Sought, Search, sought_of, sought_by, search_of, IsWalkFor}
 use Rattle.certificate.specs.TableRules.{KeepsRows, KeepsStart, KeepsStep, KeepsTarget}
 
@@ -35,7 +36,7 @@ IsAsAsked airport state command block =
 abbrev pub IsOfDueForm : Airport → State → List ℕ → Block → Type 0
 IsOfDueForm airport state line block =
     MatchOption (command_of line) (block ≡ Refused refusal.BadLine)
-    (λ command. MatchOption (refusal_due airport state command) (IsAsAsked airport state command block) (λ why. block ≡ Refused why))
+    (λ command. MatchOption (first_refusal airport state command) (IsAsAsked airport state command block) (λ why. block ≡ Refused why))
 
 -- `refused memory` may stand for every reply but one to a line that cancels a flight
 abbrev pub KeepsReply : Airport → State → List ℕ → Block → Type 0

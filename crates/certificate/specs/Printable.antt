@@ -3,17 +3,20 @@ use Rattle.std.specs.Prelude.{ℕ, ◌<◌, ◌≤◌, ◌^◌, List, length, Al
 use Rattle.taxi_base.specs.Words.{is_name}
 use Rattle.taxi_base.specs.Airport.{Airport, arc_exists, layout_of}
 use Rattle.taxi_base.specs.declared.numbers.Arc.{Arc}
+use Rattle.taxi_base.specs.declared.numbers.Class.{Class}
 use Rattle.taxi_base.specs.declared.numbers.Segment.{Segment}
 use Rattle.taxi_base.specs.declared.rows.Step.{Step}
 use Rattle.taxi_base.specs.declared.rows.Span.{Span}
 use Rattle.taxi_base.specs.declared.rows.LabelRow.{LabelRow}
+use Rattle.taxi_base.specs.declared.rows.HeldRow.{HeldRow}
+use Rattle.taxi_base.specs.declared.rows.FlightRow.{FlightRow}
 use Rattle.taxi_base.specs.declared.answers.StepCause.{StepCause}
 use Rattle.taxi_base.specs.declared.answers.StepCause.TheVariants.{Taken}
 use Rattle.taxi_base.specs.declared.answers.StepFault.{StepFault}
 use Rattle.taxi_base.specs.declared.answers.Refusal.{Refusal}
 use Rattle.taxi_base.specs.declared.answers.Refusal.TheVariants as refusal
 use Rattle.certificate.specs.declared.block.Block.{Block}
-use Rattle.certificate.specs.declared.block.Block.TheVariants.{Refused, Filed, Cancelled, Route, NoRoute, Windows}
+use Rattle.certificate.specs.declared.block.Block.TheVariants.{Refused, Filed, Cancelled, Route, NoRoute, Windows, Occupancy, Timetable}
 
 -- ---- numbers and names in a block
 
@@ -34,6 +37,9 @@ HasArc airport arc = IsTrue (arc_exists (layout_of airport) arc)
 abbrev pub HasSegment : Airport → Segment → Type 0
 HasSegment airport segment = segment.0 < length airport.segments
 
+abbrev pub HasClass : Airport → Class → Type 0
+HasClass airport class = class.0 < length airport.classes
+
 -- ---- printable parts
 
 abbrev pub IsPrintableStep : Airport → Step → Type 0
@@ -44,6 +50,12 @@ IsPrintableLabel airport label = HasArc airport label.arc × (IsShort label.from
 
 abbrev pub IsPrintableWindow : Span → Type 0
 IsPrintableWindow window = IsShort window.from × IsShort window.until
+
+abbrev pub IsPrintableHeld : Airport → HeldRow → Type 0
+IsPrintableHeld airport row = IsShort row.from × (IsShort row.until × (IsName row.flight × HasSegment airport row.segment))
+
+abbrev pub IsPrintableFlight : Airport → FlightRow → Type 0
+IsPrintableFlight airport row = IsName row.flight × (HasClass airport row.class × (IsShort row.start × IsShort row.end))
 
 abbrev pub IsPrintableCause : StepCause → Type 0
 IsPrintableCause (Taken at by) = IsShort at × IsName by
@@ -59,8 +71,8 @@ IsPrintableRefusal (refusal.AlreadyMoving start) = IsShort start
 IsPrintableRefusal (refusal.Step fault) = IsPrintableFault fault
 IsPrintableRefusal _ = ⊤
 
--- A block that has a text in the grammar: its arcs and segments are the airport's, its names are names, its numbers have at
--- most 7 digits and its counts at most 10, and a route has at least one step.
+-- A block that has a text in the grammar: its arcs, segments and classes are the airport's, its names are names, its numbers have
+-- at most 7 digits and its counts at most 10, and a route has at least one step.
 abbrev pub IsPrintable : Airport → Block → Type 0
 IsPrintable airport (Refused why) = IsPrintableRefusal why
 IsPrintable airport (Filed flight start end) = IsName flight × (IsShort start × IsShort end)
@@ -70,3 +82,5 @@ IsPrintable airport (Route flight second steps labels) =
     × (All (IsPrintableStep airport) steps × All (IsPrintableLabel airport) labels)
 IsPrintable airport (NoRoute labels) = IsCount (length labels) × All (IsPrintableLabel airport) labels
 IsPrintable airport (Windows segment windows) = (HasSegment airport segment × IsCount (length windows)) × All IsPrintableWindow windows
+IsPrintable airport (Occupancy segment held) = (HasSegment airport segment × IsCount (length held)) × All (IsPrintableHeld airport) held
+IsPrintable airport (Timetable flights) = IsCount (length flights) × All (IsPrintableFlight airport) flights

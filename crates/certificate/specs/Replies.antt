@@ -1,5 +1,5 @@
 -- What may a line be answered, and what does the answer promise?
-use Rattle.std.specs.Prelude.{ℕ, ◌≡◌, Bool, true, false, if◌then◌else◌, List, Option, Some, All, IsTrue, MatchOption, ⊤}
+use Rattle.std.specs.Prelude.{ℕ, ◌≡◌, List, Option, Some, All, IsTrue, MatchOption, ⊤}
 use Rattle.taxi_base.specs.declared.answers.Flight.{Flight}
 use Rattle.taxi_base.specs.declared.answers.Refusal.{Refusal}
 use Rattle.taxi_base.specs.declared.answers.Refusal.TheVariants as refusal
@@ -8,11 +8,12 @@ use Rattle.taxi_base.specs.Windows.{is_free, AreWindows}
 use Rattle.taxi_base.specs.Walks.{IsFeasibleWalk, Meets, begin_of, end_of}
 use Rattle.taxi_base.specs.State.{State, with_flight, without, holds_in, conditions_of, IsClashFree, IsSound}
 use Rattle.taxi_base.specs.Faults.{conditions_in}
+use Rattle.taxi_base.specs.Reports.{timetable_rows, AreHeldRows}
 use Rattle.taxi_text.specs.declared.command.Command.{Command}
 use Rattle.taxi_text.specs.declared.command.Command.TheVariants as command
 use Rattle.taxi_text.specs.Commands.{command_of}
 use Rattle.certificate.specs.declared.block.Block.{Block}
-use Rattle.certificate.specs.declared.block.Block.TheVariants.{Refused, Filed, Cancelled, Route, NoRoute, Windows}
+use Rattle.certificate.specs.declared.block.Block.TheVariants.{Refused, Filed, Cancelled, Route, NoRoute, Windows, Occupancy, Timetable}
 use Rattle.certificate.specs.Printable.{IsName, IsPrintable}
 use Rattle.certificate.specs.Refusals.{is_in_force, first_refusal}
 use Rattle.certificate.specs.CarriedOut.{Reply, IsOf, second_of, IsCarriedOut}
@@ -23,22 +24,10 @@ use Rattle.certificate.specs.CarriedOut.{Reply, IsOf, second_of, IsCarriedOut}
 abbrev pub refused : State → Refusal → Reply
 refused state why = record { block = Refused why; after = state }
 
--- Whether a command's form is answered yet. The line of a form goes when it is.
-abbrev pub is_built : Command → Bool
-is_built (command.Reroute flight time) = false
-is_built (command.Divert flight time node) = false
-is_built (command.Occupancy segment) = false
-is_built command.Timetable = false
-is_built _ = true
-
--- the refusal that a command is due
-abbrev pub refusal_due : Airport → State → Command → Option Refusal
-refusal_due airport state command = if is_built command then first_refusal airport state command else Some refusal.NotBuilt
-
--- a command is due its refusal, and where it has none, that it is carried out
+-- a command is due its first refusal, and where it has none, that it is carried out
 abbrev pub IsDueTo : Airport → State → Command → Block → State → Type 0
 IsDueTo airport state command block after =
-    MatchOption (refusal_due airport state command) (IsCarriedOut airport state command block after) (λ why. IsOf (refused state why) block after)
+    MatchOption (first_refusal airport state command) (IsCarriedOut airport state command block after) (λ why. IsOf (refused state why) block after)
 
 -- a line that is no command is a bad line
 unfoldable pub IsDue : Airport → State → List ℕ → Block → State → Type 0
@@ -62,7 +51,8 @@ pub data IsReply (airport : Airport) (state : State) (line : List ℕ) : Block �
 
 -- What a block says is so, and nothing else changes: a filed route is a feasible walk among the holders before, and its
 -- flight goes in; a cancelled flight was in force, and goes out; a route does what its flight asked for among the other
--- holders, and its flight has it afterwards; the windows of a segment are those that the holders leave.
+-- holders, and its flight has it afterwards; the windows of a segment are those that the holders leave; the rows of an occupancy
+-- are those of all that holds a segment in conflict with it; the rows of a timetable are those of the flights in force.
 abbrev pub DoesAsItSays : Airport → State → Block → State → Type 0
 DoesAsItSays airport state (Filed name start end) after =
     (flight : Flight) × (flight.name ≡ name) × (after ≡ with_flight flight state)
@@ -75,6 +65,8 @@ DoesAsItSays airport state (Route name second steps labels) after =
 DoesAsItSays airport state (NoRoute labels) after = after ≡ state
 DoesAsItSays airport state (Windows segment windows) after =
     AreWindows (is_free airport.conflicts airport.horizon (holds_in airport state) segment) windows × (after ≡ state)
+DoesAsItSays airport state (Occupancy segment held) after = AreHeldRows airport state segment held × (after ≡ state)
+DoesAsItSays airport state (Timetable flights) after = (flights ≡ timetable_rows state) × (after ≡ state)
 DoesAsItSays airport state (Refused why) after = after ≡ state
 
 -- the name of each holder is a name

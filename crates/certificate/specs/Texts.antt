@@ -4,14 +4,18 @@ use Rattle.taxi_base.specs.declared.numbers.Segment.{Segment}
 use Rattle.taxi_base.specs.declared.rows.Step.{Step}
 use Rattle.taxi_base.specs.declared.rows.Span.{Span}
 use Rattle.taxi_base.specs.declared.rows.LabelRow.{LabelRow}
+use Rattle.taxi_base.specs.declared.rows.HeldRow.{HeldRow}
+use Rattle.taxi_base.specs.declared.rows.FlightKind.{FlightKind}
+use Rattle.taxi_base.specs.declared.rows.FlightKind.TheVariants as kind
+use Rattle.taxi_base.specs.declared.rows.FlightRow.{FlightRow}
 use Rattle.taxi_base.specs.declared.answers.StepCause.{StepCause}
 use Rattle.taxi_base.specs.declared.answers.StepCause.TheVariants.{ClassBarred, BadTurn, TooFast, PastHorizon, Taken}
 use Rattle.taxi_base.specs.declared.answers.Refusal.{Refusal}
 use Rattle.taxi_base.specs.declared.answers.Refusal.TheVariants as refusal
 use Rattle.taxi_base.specs.Airport.{Airport}
-use Rattle.airport_file.specs.Words.{segment_word, word_of_arc}
+use Rattle.airport_file.specs.Words.{class_word, segment_word, word_of_arc}
 use Rattle.certificate.specs.declared.block.Block.{Block}
-use Rattle.certificate.specs.declared.block.Block.TheVariants.{Refused, Filed, Cancelled, Route, NoRoute, Windows}
+use Rattle.certificate.specs.declared.block.Block.TheVariants.{Refused, Filed, Cancelled, Route, NoRoute, Windows, Occupancy, Timetable}
 
 -- words with one blank between two, and a line feed
 abbrev pub line_text : List (List ℕ) → List ℕ
@@ -46,7 +50,6 @@ refusal_words (refusal.AlreadyDone end) = codes "already-done" ∷ decimal end �
 refusal_words (refusal.AlreadyMoving start) = codes "already-moving" ∷ decimal start ∷ []
 refusal_words refusal.Full = codes "full" ∷ []
 refusal_words (refusal.Step fault) = codes "step" ∷ decimal fault.number ∷ cause_words fault.cause
-refusal_words refusal.NotBuilt = codes "not-built" ∷ []
 refusal_words refusal.Memory = codes "memory" ∷ []
 
 -- ---- rows
@@ -60,6 +63,18 @@ label_words airport label =
 
 abbrev pub window_words : Span → List (List ℕ)
 window_words window = codes "window" ∷ decimal window.from ∷ decimal window.until ∷ []
+
+abbrev pub held_words : Airport → HeldRow → List (List ℕ)
+held_words airport row = codes "held" ∷ decimal row.from ∷ decimal row.until ∷ row.flight ∷ segment_word airport row.segment ∷ []
+
+abbrev pub kind_word : FlightKind → List ℕ
+kind_word kind.Filed = codes "filed"
+kind_word kind.Arrival = codes "arrival"
+kind_word kind.Departure = codes "departure"
+
+abbrev pub flight_words : Airport → FlightRow → List (List ℕ)
+flight_words airport row =
+    codes "flight" ∷ row.flight ∷ kind_word row.kind ∷ class_word airport row.class ∷ decimal row.start ∷ decimal row.end ∷ []
 
 -- the lines of the windows of a segment
 abbrev pub segment_lines : Airport → Segment → List Span → List (List (List ℕ))
@@ -78,6 +93,9 @@ block_lines airport (Route flight second steps labels) =
     ∷ (map (step_words airport) steps ++ map (label_words airport) labels)
 block_lines airport (NoRoute labels) = (codes "no-route" ∷ decimal (length labels) ∷ []) ∷ map (label_words airport) labels
 block_lines airport (Windows segment windows) = segment_lines airport segment windows
+block_lines airport (Occupancy segment held) =
+    (codes "occupancy" ∷ segment_word airport segment ∷ decimal (length held) ∷ []) ∷ map (held_words airport) held
+block_lines airport (Timetable flights) = (codes "timetable" ∷ decimal (length flights) ∷ []) ∷ map (flight_words airport) flights
 
 -- the text of a block
 unfoldable pub block_text : Airport → Block → List ℕ

@@ -1,7 +1,7 @@
 //! What answers a command.
-use taxi_base::{LabelRow, List, Name, Refusal, Segment, Span, Step, Time};
+use taxi_base::{FlightRow, HeldRow, LabelRow, List, Name, Refusal, Segment, Span, Step, Time};
 
-/// What is answered to one command. Arcs, segments and nodes are those of the airport that the block is for.
+/// What is answered to one command. Arcs, segments and classes are those of the airport that the block is for.
 #[derive(Drop)]
 pub enum Block {
     /// The command changes nothing, and why.
@@ -31,5 +31,14 @@ pub enum Block {
     Windows {
         segment: Segment,
         windows: List<Span>,
+    },
+    /// What is held of a segment and of those in conflict with it.
+    Occupancy {
+        segment: Segment,
+        held: List<HeldRow>,
+    },
+    /// The flights in force.
+    Timetable {
+        flights: List<FlightRow>,
     },
 }

@@ -11,7 +11,7 @@ ghost use Rattle.certificate.specs.Replies.{IsDue, IsReply, DoesAsItSays, IsAnsw
 ghost use Rattle.certificate.specs.Passes.{IsPassed, TellsBest};
 
 /// Where the state is sound, each reply answers its line as is promised, and leaves it sound. So does each command that is
-/// refused nothing and carried out, whether its form is answered yet or not.
+/// refused nothing and carried out.
 pub fn replies_keep_flights_sound()
     ensures replies { (airport : Airport) (state : State) (line : List ℕ) (block : Block) (after : State) → IsSound airport state → IsReply airport state line block after → IsAnswered airport state line block after × IsSound airport after }
     ensures carried_out { (airport : Airport) (state : State) (command : Command) (block : Block) (after : State) → IsSound airport state → IsInGrammar command → first_refusal airport state command ≡ None → IsCarriedOut airport state command block after → DoesAsItSays airport state block after × IsSound airport after }

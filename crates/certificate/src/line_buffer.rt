@@ -1,13 +1,13 @@
 //! One line of a block, written from its end to its front in a buffer that is kept for the next. So digits are written
 //! where they are to stand, the last first.
 ghost use Rattle.std.specs.Prelude.{◌≡◌, ◌+◌, ◌≤◌, ◌∷◌, ◌++◌, [], length, decimal};
-ghost use Rattle.airport_file.specs.Words.{segment_word, word_of_arc};
-ghost use Rattle.certificate.specs.Printable.{HasArc, HasSegment};
+ghost use Rattle.airport_file.specs.Words.{class_word, segment_word, word_of_arc};
+ghost use Rattle.certificate.specs.Printable.{HasArc, HasSegment, HasClass};
 
 use airport_file::Airport;
 use itoa::write_digits;
 use std::marker::Model;
-use taxi_base::{Arc, Segment};
+use taxi_base::{Arc, Class, Segment};
 
 const ROOM: usize = 96;
 
@@ -87,6 +87,16 @@ impl LineBuffer {
         ensures length { length self.new ≤ length self.old + 16 }
     {
         self.put(airport.segment_name(segment).bytes());
+    }
+
+    /// The name of a class before what is written.
+    pub(crate) fn put_class(&mut self, airport: &Airport, class: Class)
+        requires exists { HasClass airport.now class }
+        requires room { length self.old + 16 ≤ 96 }
+        ensures text { self.new ≡ class_word airport.now class ++ self.old }
+        ensures length { length self.new ≤ length self.old + 16 }
+    {
+        self.put(airport.class_name(class).bytes());
     }
 
     /// The word of an arc before what is written.

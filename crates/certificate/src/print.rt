@@ -44,6 +44,16 @@ pub fn print_block(airport: &Airport, block: &Block, out: &mut Vec<u8>) -> Resul
             write_windows_head(airport, *segment, windows.as_slice().len(), &mut line);
             print_rows(airport, &mut line, windows.as_slice(), out)
         }
+        Block::Occupancy { segment, held } => {
+            let mut line = LineBuffer::new();
+            write_occupancy_head(airport, *segment, held.as_slice().len(), &mut line);
+            print_rows(airport, &mut line, held.as_slice(), out)
+        }
+        Block::Timetable { flights } => {
+            let mut line = LineBuffer::new();
+            write_timetable_head(flights.as_slice().len(), &mut line);
+            print_rows(airport, &mut line, flights.as_slice(), out)
+        }
         _ => push_bytes(out, short_text(block).unwrap().bytes()),
     }
 }
@@ -116,4 +126,23 @@ fn write_windows_head(airport: &Airport, segment: Segment, windows: usize, line:
     line.put(b" ");
     line.put_segment(airport, segment);
     line.put(b"windows ");
+}
+
+fn write_occupancy_head(airport: &Airport, segment: Segment, held: usize, line: &mut LineBuffer)
+    requires { HasSegment airport.now segment }
+    ensures { line.new ≡ line_text (codes "occupancy" ∷ segment_word airport.now segment ∷ decimal held ∷ []) }
+{
+    line.begin();
+    line.put_number(held as u64);
+    line.put(b" ");
+    line.put_segment(airport, segment);
+    line.put(b"occupancy ");
+}
+
+fn write_timetable_head(flights: usize, line: &mut LineBuffer)
+    ensures { line.new ≡ line_text (codes "timetable" ∷ decimal flights ∷ []) }
+{
+    line.begin();
+    line.put_number(flights as u64);
+    line.put(b"timetable ");
 }

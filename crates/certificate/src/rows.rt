@@ -1,13 +1,13 @@
 //! The rows of a block, each of one line.
-ghost use Rattle.std.specs.Prelude.{◌≡◌, ◌++◌, ℕ, List, All, OnOk, OnErr, ⊤};
+ghost use Rattle.std.specs.Prelude.{◌≡◌, ◌≤◌, ◌++◌, ℕ, List, length, All, OnOk, OnErr, ⊤};
 ghost use Rattle.taxi_base.specs.Airport.{Airport as Plain};
-ghost use Rattle.certificate.specs.Texts.{line_text, step_words, label_words, window_words};
-ghost use Rattle.certificate.specs.Printable.{HasArc};
+ghost use Rattle.certificate.specs.Texts.{line_text, step_words, label_words, window_words, held_words, flight_words, kind_word};
+ghost use Rattle.certificate.specs.Printable.{HasArc, HasSegment, HasClass};
 ghost use Rattle.certificate.specs.Printed.{rows_text, IsCutShort};
 
 use crate::line_buffer::LineBuffer;
 use airport_file::Airport;
-use taxi_base::{LabelRow, Memory, Span, Step};
+use taxi_base::{FlightKind, FlightRow, HeldRow, LabelRow, Memory, Span, Step};
 use taxi_text::push_bytes;
 
 /// What is written as one line.
@@ -70,6 +70,55 @@ impl Row for Span {
         line.put(b" ");
         line.put_number(u64::from(self.from));
         line.put(b"window ");
+    }
+}
+
+impl Row for HeldRow {
+    ghost words = { held_words };
+
+    ghost IsWritableRow = { λ airport row. HasSegment airport row.segment };
+
+    fn write(&self, airport: &Airport, line: &mut LineBuffer) {
+        line.begin();
+        line.put_segment(airport, self.segment);
+        line.put(b" ");
+        line.put(self.flight.bytes());
+        line.put(b" ");
+        line.put_number(u64::from(self.until));
+        line.put(b" ");
+        line.put_number(u64::from(self.from));
+        line.put(b"held ");
+    }
+}
+
+impl Row for FlightRow {
+    ghost words = { flight_words };
+
+    ghost IsWritableRow = { λ airport row. HasClass airport row.class };
+
+    fn write(&self, airport: &Airport, line: &mut LineBuffer) {
+        line.begin();
+        line.put_number(u64::from(self.end));
+        line.put(b" ");
+        line.put_number(u64::from(self.start));
+        line.put(b" ");
+        line.put_class(airport, self.class);
+        line.put(b" ");
+        line.put(kind_word(self.kind));
+        line.put(b" ");
+        line.put(self.flight.bytes());
+        line.put(b"flight ");
+    }
+}
+
+fn kind_word(kind: FlightKind) -> &'static [u8]
+    ensures text { result.now ≡ kind_word kind }
+    ensures length { length result.now ≤ 9 }
+{
+    match kind {
+        FlightKind::Filed => b"filed",
+        FlightKind::Arrival => b"arrival",
+        FlightKind::Departure => b"departure",
     }
 }
 

@@ -29,7 +29,11 @@ pub(crate) fn short_text(block: &Block) -> Option<ShortText>
         Block::Refused(why) => Some(refused_text(why)),
         Block::Filed { flight, start, end } => Some(filed_text(flight, *start, *end)),
         Block::Cancelled { flight } => Some(cancelled_text(flight)),
-        Block::Route { .. } | Block::NoRoute { .. } | Block::Windows { .. } => None,
+        Block::Route { .. }
+        | Block::NoRoute { .. }
+        | Block::Windows { .. }
+        | Block::Occupancy { .. }
+        | Block::Timetable { .. } => None,
     }
 }
 
@@ -70,7 +74,6 @@ fn refused_text(why: &Refusal) -> ShortText
         Refusal::AlreadyMoving { start } => refused_at(b"already-moving", *start),
         Refusal::Full => refused_as(b"full"),
         Refusal::Step(fault) => refused_step(fault),
-        Refusal::NotBuilt => refused_as(b"not-built"),
         Refusal::Memory => refused_as(b"memory"),
     }
 }

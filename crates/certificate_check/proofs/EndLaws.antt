@@ -1,59 +1,69 @@
 -- How a walk begins and ends, by its first step and its last.
-use Rattle.std.proofs.Common.{◌≡◌, ◌↔◌, suc, ◌+◌, ◌-◌, ◌<◌, List, [], ◌∷◌, length, get_or, arith}
+use Rattle.std.proofs.Common.{◌≡◌, ◌↔◌, ◌∙◌, ℕ, suc, ◌-◌, ◌<◌, ◌≤◌, Bool, true, false, ◌&&◌, eqb, List, [], ◌∷◌, length, get_or, Option, Some, IsTrue, sym, arith}
+use Rattle.std.proofs.lemmas.Bool.{and_parts, and_from, eqb-true, eq-eqb, le-leb, leb-true, both_ways, false≢true}
+use Rattle.taxi_base.specs.declared.numbers.Node.{Node}
 use Rattle.taxi_base.specs.declared.rows.Step.{Step}
-use Rattle.taxi_base.specs.declared.answers.Request.{Request}
-use Rattle.taxi_base.specs.declared.answers.Request.TheVariants.{Filed, Arrival, Departure}
-use Rattle.taxi_base.specs.Airport.{layout_of}
-use Rattle.taxi_base.specs.Walks.{Conditions, AtFirst, AtLast, IsFeasibleWalk, LeavesNode, LeavesNodeWithin, ReachesNode, ReachesNodeWithin, Meets}
-use Rattle.taxi_base.proofs.WalkLaws.{begin_of-at, end_of-at}
-use Rattle.certificate.specs.CarriedOut.{second_of}
-use Rattle.certificate_check.specs.Steps.{GoesAsAsked, second_at}
-use Rattle.certificate_check.proofs.StepLaws.{walk-some}
+use Rattle.taxi_base.specs.Airport.{Layout, tail, head}
+use Rattle.taxi_base.specs.Walks.{AtFirst, AtLast, LeavesNode, ReachesNodeWithin, end_of}
+use Rattle.taxi_base.proofs.WalkLaws.{end_of-at}
+use Rattle.certificate_check.specs.Course.{is_within}
+use Rattle.certificate_check.specs.Steps.{Departs}
 
-at-first : (P : Step → Type 0) (steps : List Step) (d : Step) → 0 < length steps → AtFirst P steps ↔ P (get_or steps 0 d)
+pub within-is : (second earliest latest : ℕ) → IsTrue (is_within second earliest latest) ↔ ((earliest ≤ second) × (second ≤ latest))
+within-is second earliest latest = (
+  λ e. let parts = and_parts _ _ e in (leb-true _ _ parts.0, leb-true _ _ parts.1),
+  λ both. and_from _ _ (le-leb _ _ both.0) (le-leb _ _ both.1),
+)
+
+pub at-first : (P : Step → Type 0) (steps : List Step) (d : Step) → 0 < length steps → AtFirst P steps ↔ P (get_or steps 0 d)
 at-first P [] d some = absurd (omega arith)
 at-first P (s ∷ steps) d some = (λ h. h, λ h. h)
 
-at-last : (P : Step → Type 0) (steps : List Step) (d : Step) → 0 < length steps → AtLast P steps ↔ P (get_or steps (length steps - 1) d)
+pub at-last : (P : Step → Type 0) (steps : List Step) (d : Step) → 0 < length steps → AtLast P steps ↔ P (get_or steps (length steps - 1) d)
 at-last P [] d some = absurd (omega arith)
 at-last P (s ∷ []) d some = (λ h. h, λ h. h)
 at-last P (s ∷ t ∷ steps) d some =
     let e : suc (suc (length steps)) - 1 ≡ suc (suc (length steps) - 1) = omega arith in rw e (at-last P (t ∷ steps) d (omega arith))
 
-module _ (c : Conditions) (steps : List Step) (d : Step) where
-  abbrev first : Step
-  first = get_or steps 0 d
+-- ---- a departure by its first step and its last
 
-  abbrev last : Step
-  last = get_or steps (length steps - 1) d
+module _ (layout : Layout) (from to tail_node head_node : Node) (earliest latest : ℕ) (steps : List Step) (d : Step) (some : 0 < length steps)
+    (tail_there : ◌≡◌ {A = Option Node} (Some tail_node) (tail layout (get_or steps 0 d).arc)) (head_there : ◌≡◌ {A = Option Node} (Some head_node) (head layout (get_or steps (length steps - 1) d).arc)) where
+  abbrev Joined : Type 0
+  Joined = (tail layout (get_or steps 0 d).arc ≡ Some from) × (head layout (get_or steps (length steps - 1) d).arc ≡ Some to)
 
-  pub asked-meets : (r : Request) → IsFeasibleWalk c steps → GoesAsAsked (layout_of c.airport) r first last → Meets c r steps
-  asked-meets Filed walk goes = walk
-  asked-meets (Arrival from to time hold) walk goes = record {
-    walk = walk;
-    begins = (at-first (LeavesNodeWithin (layout_of c.airport) from time (time + hold)) steps d (walk-some c steps walk)).1 goes.0;
-    ends = (at-last (ReachesNode (layout_of c.airport) to) steps d (walk-some c steps walk)).1 goes.1;
-  }
-  asked-meets (Departure from to time queue) walk goes = record {
-    walk = walk;
-    begins = (at-first (LeavesNode (layout_of c.airport) from) steps d (walk-some c steps walk)).1 goes.0;
-    ends = (at-last (ReachesNodeWithin (layout_of c.airport) to (time - queue) time) steps d (walk-some c steps walk)).1 goes.1;
-  }
+  same-node : {x y : Node} → ◌≡◌ {A = Option Node} (Some x) (Some y) → x.0 ≡ y.0
+  same-node e = cc
 
-  pub meets-asked : (r : Request) → Meets c r steps → GoesAsAsked (layout_of c.airport) r first last
-  meets-asked Filed met = tt
-  meets-asked (Arrival from to time hold) met =
-      let some = walk-some c steps met.walk in (
-        (at-first (LeavesNodeWithin (layout_of c.airport) from time (time + hold)) steps d some).0 met.begins,
-        (at-last (ReachesNode (layout_of c.airport) to) steps d some).0 met.ends,
-      )
-  meets-asked (Departure from to time queue) met =
-      let some = walk-some c steps met.walk in (
-        (at-first (LeavesNode (layout_of c.airport) from) steps d some).0 met.begins,
-        (at-last (ReachesNodeWithin (layout_of c.airport) to (time - queue) time) steps d some).0 met.ends,
+  joined-is : IsTrue (eqb tail_node.0 from.0 && eqb head_node.0 to.0) ↔ Joined
+  joined-is = (
+    λ e. (let parts = and_parts _ _ e in
+        let m = eqb-true _ _ parts.0 in
+        let n = eqb-true _ _ parts.1 in
+        (sym tail_there ∙ (λ i. Some (record { 0 = m i })), sym head_there ∙ (λ i. Some (record { 0 = n i })))),
+    λ j. and_from _ _ (eq-eqb _ _ (same-node (tail_there ∙ j.0))) (eq-eqb _ _ (same-node (head_there ∙ j.1))),
+  )
+
+  pub departs-is : (eqb tail_node.0 from.0 && eqb head_node.0 to.0) ≡ true → IsTrue (is_within (get_or steps (length steps - 1) d).leave earliest latest) ↔ Departs layout from to earliest latest steps
+  departs-is joined =
+      let nodes = joined-is.0 joined in
+      let time = within-is (get_or steps (length steps - 1) d).leave earliest latest in (
+        λ e. (
+          (at-first (LeavesNode layout from) steps d some).1 nodes.0,
+          (at-last (ReachesNodeWithin layout to earliest latest) steps d some).1 (record { reaches = nodes.1; not_before = (time.0 e).0; not_after = (time.0 e).1 }),
+        ),
+        λ departs. (let last = (at-last (ReachesNodeWithin layout to earliest latest) steps d some).0 departs.1 in time.1 (last.not_before, last.not_after)),
       )
 
-  pub second-at : (r : Request) → 0 < length steps → second_of r steps ≡ second_at r first last
-  second-at Filed some = end_of-at steps d some
-  second-at (Arrival from to time hold) some = end_of-at steps d some
-  second-at (Departure from to time queue) some = begin_of-at steps d some
+  pub departs-not : (eqb tail_node.0 from.0 && eqb head_node.0 to.0) ≡ false → IsTrue false ↔ Departs layout from to earliest latest steps
+  departs-not apart = (
+    λ e. absurd (false≢true e),
+    λ departs. absurd (both_ways _ apart (joined-is.1 (
+      (at-first (LeavesNode layout from) steps d some).0 departs.0,
+      ((at-last (ReachesNodeWithin layout to earliest latest) steps d some).0 departs.1).reaches,
+    ))),
+  )
+
+-- the end of a walk
+pub last-second : (steps : List Step) (d : Step) → 0 < length steps → (get_or steps (length steps - 1) d).leave ≡ end_of steps
+last-second steps d some = sym (end_of-at steps d some)

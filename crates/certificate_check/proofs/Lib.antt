@@ -1,4 +1,17 @@
 mod InsideLaws
 mod StepLaws
 mod EndLaws
+mod CourseLaws
 mod ToldLaws
+mod TableLaws
+mod AskedLaws
+mod JudgedLaws
+mod DeskLaws
+mod RoutedLaws
+mod PassedLaws
+mod AgainLaws
+mod GoOnLaws
+mod AnewLaws
+mod OccupiedLaws
+mod TakenLaws
+mod FilingLaws

@@ -1,13 +1,16 @@
 -- What can be said of steps without what others hold? No public clause cites these.
-use Rattle.std.specs.Prelude.{ℕ, ◌+◌, ◌-◌, ◌<◌, Bool, false, ◌&&◌, ◌==◌, nat_le, List, length, ⊤}
+use Rattle.std.specs.Prelude.{ℕ, ◌+◌, ◌-◌, ◌<◌, Bool, false, ◌&&◌, ◌==◌, nat_le, List, length, Option, ⊤}
 use Rattle.std.specs.Option.{option_map_or}
 use Rattle.std.specs.List.{AllAdjacentBelow}
 use Rattle.taxi_base.specs.declared.numbers.Class.{Class}
+use Rattle.taxi_base.specs.declared.numbers.Node.{Node}
 use Rattle.taxi_base.specs.declared.rows.Step.{Step}
 use Rattle.taxi_base.specs.declared.answers.Request.{Request}
 use Rattle.taxi_base.specs.declared.answers.Request.TheVariants.{Filed, Arrival, Departure}
 use Rattle.taxi_base.specs.Airport.{Airport, Layout, layout_of, arc_exists, segment_of, seconds, permits}
-use Rattle.taxi_base.specs.Walks.{Follows, LeavesNode, LeavesNodeWithin, ReachesNode, ReachesNodeWithin}
+use Rattle.taxi_base.specs.Walks.{Follows, AtFirst, AtLast, LeavesNode, ReachesNodeWithin}
+use Rattle.certificate.specs.Sought.{UnderWay}
+use Rattle.certificate_check.specs.Course.{beginning_for, done_for, GoesBy}
 
 -- whether a step takes the time that its class needs
 abbrev pub lasts : Airport → Class → Step → Bool
@@ -24,13 +27,12 @@ follows layout step next = step.leave == next.enter && permits layout step.arc n
 abbrev pub IsChain : Layout → List Step → Type 0
 IsChain layout steps = (0 < length steps) × AllAdjacentBelow (Follows layout) steps (length steps)
 
--- a walk with this first and this last step begins and ends as was asked
-abbrev pub GoesAsAsked : Layout → Request → Step → Step → Type 0
-GoesAsAsked layout Filed first last = ⊤
-GoesAsAsked layout (Arrival from to time hold) first last = LeavesNodeWithin layout from time (time + hold) first × ReachesNode layout to last
-GoesAsAsked layout (Departure from to time queue) first last = LeavesNode layout from first × ReachesNodeWithin layout to (time - queue) time last
+-- a walk leads from one node to another, and ends within a time
+abbrev pub Departs : Layout → Node → Node → ℕ → ℕ → List Step → Type 0
+Departs layout from to earliest latest steps = AtFirst (LeavesNode layout from) steps × AtLast (ReachesNodeWithin layout to earliest latest) steps
 
--- the second that is told of such a walk
-abbrev pub second_at : Request → Step → Step → ℕ
-second_at (Departure from to time queue) first last = first.enter
-second_at _ first last = last.leave
+-- a walk begins and ends as was asked
+abbrev pub GoesAsAsked : Layout → Request → Option UnderWay → List Step → Type 0
+GoesAsAsked layout Filed way steps = ⊤
+GoesAsAsked layout (Arrival from to time hold) way steps = GoesBy layout (done_for way) (beginning_for from time hold way) to steps
+GoesAsAsked layout (Departure from to time queue) way steps = Departs layout from to (time - queue) time steps

@@ -1,4 +1,4 @@
--- Which rule does a block break first, where it tells of a search for a new flight?
+-- Which rule does a block break first, where it tells of a search?
 use Rattle.std.specs.Prelude.{ℕ, ◌<◌, List, length, Option, Some, None, MatchOption}
 use Rattle.taxi_base.specs.declared.answers.Request.{Request}
 use Rattle.taxi_base.specs.declared.answers.Request.TheVariants as request
@@ -8,7 +8,7 @@ use Rattle.taxi_base.specs.Walks.{Conditions}
 use Rattle.certificate.specs.declared.rule.Rule.{Rule}
 use Rattle.certificate.specs.declared.rule.Rule.TheVariants as rule
 use Rattle.certificate.specs.Printable.{IsShort}
-use Rattle.certificate.specs.Sought.{search_of}
+use Rattle.certificate.specs.Sought.{UnderWay, search_of}
 use Rattle.certificate.specs.TableRules.{KeepsRows, KeepsStart, KeepsStep, KeepsTarget}
 use Rattle.certificate.specs.Passes.{turn_of}
 use Rattle.check_rows.specs.declared.verdict.RowRule.{RowRule}
@@ -37,7 +37,7 @@ rule_of (Some Step) = Some rule.Step
 rule_of (Some Target) = Some rule.Target
 
 -- the first rule for rows that the table of a search breaks
-abbrev pub IsVerdictOn : Conditions → Request → Option ℕ → List LabelRow → Option RowRule → Type 0
-IsVerdictOn c request bound rows verdict =
-    MatchOption (search_of request None) ⊥
+abbrev pub IsVerdictOn : Conditions → Request → Option UnderWay → Option ℕ → List LabelRow → Option RowRule → Type 0
+IsVerdictOn c request way bound rows verdict =
+    MatchOption (search_of request way) ⊥
     (λ search. IsVerdict (KeepsRows c rows) (KeepsStart c search bound rows) (KeepsStep c search bound rows) (KeepsTarget c search bound rows) verdict)

@@ -1,30 +1,34 @@
 //! The rules for the table of a search.
-ghost use Rattle.std.specs.Prelude.{◌≡◌, IfOk, length};
+ghost use Rattle.std.specs.Prelude.{◌≡◌, ◌≤◌, All, IfOk, length};
+ghost use Rattle.std.specs.Option.{ForSome};
 ghost use Rattle.taxi_base.specs.Walks.{conditions_among, free_among};
 ghost use Rattle.check_rows.specs.Known.{AreKnown};
+ghost use Rattle.certificate_check.specs.Course.{way_of};
 ghost use Rattle.certificate_check.specs.Told.{CanBeSought, IsVerdictOn, rule_of};
 
+use crate::course::{Asked, course_of};
 use airport_file::Airport;
 use certificate::Rule;
-use check_rows::{Begin, End, HoldsOf, KnownWindows, RowRule, check_arrival, check_departure};
+use check_rows::{End, HoldsOf, KnownWindows, RowRule, check_arrival, check_departure};
 use taxi_base::{Class, LabelRow, Memory, Request, Time};
 
-/// The first rule that the table of the search for a new flight breaks, with the bound that its route gives.
+/// The first rule that the table of a search breaks, with the bound that its route gives.
 pub fn check_table<H: HoldsOf>(
     airport: &Airport,
     class: Class,
     holds: &H,
     known: &mut KnownWindows,
-    request: Request,
+    asked: &Asked<'_>,
     labels: &[LabelRow],
     bound: Option<Time>,
 ) -> Result<Option<RowRule>, Memory>
-    requires sought { CanBeSought airport.now request }
+    requires sought { CanBeSought airport.now asked.now.request }
+    requires early { ForSome (way_of asked.now.way) (λ way. All (λ step. step.enter ≤ 9999999) way.steps) }
     requires known { AreKnown (length airport.now.segments) (free_among airport.now (H.held holds.now)) known.old }
     ensures known { AreKnown (length airport.now.segments) (free_among airport.now (H.held holds.now)) known.new }
-    ensures verdict { IfOk result (IsVerdictOn (conditions_among airport.now class (H.held holds.now)) request bound labels.now) }
+    ensures verdict { IfOk result (IsVerdictOn (conditions_among airport.now class (H.held holds.now)) asked.now.request (way_of asked.now.way) bound labels.now) }
 {
-    match request {
+    match asked.request {
         Request::Filed => Ok(None),
         Request::Arrival {
             from,
@@ -32,11 +36,7 @@ pub fn check_table<H: HoldsOf>(
             time,
             hold,
         } => {
-            let begin = Begin::AtNode {
-                node: from,
-                earliest: time,
-                latest: time + hold,
-            };
+            let begin = course_of(from, time, hold, asked).begin;
             check_arrival(airport, class, holds, known, begin, &[to], labels, bound)
         }
         Request::Departure {

@@ -1,33 +1,37 @@
-//! Whether what a block tells of a search for a new flight is right.
-ghost use Rattle.std.specs.Prelude.{◌≡◌, None, IfOk, length};
+//! Whether what a block tells of a search is right.
+ghost use Rattle.std.specs.Prelude.{◌≡◌, ◌≤◌, All, IfOk, length};
+ghost use Rattle.std.specs.Option.{ForSome};
 ghost use Rattle.taxi_base.specs.Walks.{conditions_among, free_among};
 ghost use Rattle.certificate.specs.Sought.{Sought};
 ghost use Rattle.certificate.specs.Passes.{KeepsSought};
 ghost use Rattle.check_rows.specs.Known.{AreKnown};
+ghost use Rattle.certificate_check.specs.Course.{way_of};
 ghost use Rattle.certificate_check.specs.Told.{CanBeSought, IsFirstOf};
 
+use crate::course::Asked;
 use crate::tables::{check_table, rule_of};
 use crate::walk::keeps_walk;
 use airport_file::Airport;
 use certificate::{Block, Rule};
 use check_rows::{HoldsOf, KnownWindows};
-use taxi_base::{Class, Memory, Request};
+use taxi_base::{Class, Memory};
 
 /// The first rule that a block breaks of those for what is told of a search: `walk`, `rows`, `start`, `step` and `target`.
-/// What is sought is a walk of a new flight of a class among the holds. None where the block keeps them all. The windows are
+/// What is sought is a walk of a flight of a class among the holds, which may be under way. None where the block keeps them all. The windows are
 /// to be known for these holds, and stay so, also after an error.
 pub fn check_told<H: HoldsOf>(
     airport: &Airport,
     class: Class,
     holds: &H,
     known: &mut KnownWindows,
-    request: Request,
+    asked: &Asked<'_>,
     block: &Block,
 ) -> Result<Option<Rule>, Memory>
-    requires sought { CanBeSought airport.now request }
+    requires sought { CanBeSought airport.now asked.now.request }
+    requires early { ForSome (way_of asked.now.way) (λ way. All (λ step. step.enter ≤ 9999999) way.steps) }
     requires known { AreKnown (length airport.now.segments) (free_among airport.now (H.held holds.now)) known.old }
     ensures known { AreKnown (length airport.now.segments) (free_among airport.now (H.held holds.now)) known.new }
-    ensures first { IfOk result (λ broken. (s : Sought) → s.conditions ≡ conditions_among airport.now class (H.held holds.now) → s.request ≡ request → s.under_way ≡ None → IsFirstOf (λ rule. KeepsSought rule s block.now) broken) }
+    ensures first { IfOk result (λ broken. (s : Sought) → s.conditions ≡ conditions_among airport.now class (H.held holds.now) → s.request ≡ asked.now.request → s.under_way ≡ way_of asked.now.way → IsFirstOf (λ rule. KeepsSought rule s block.now) broken) }
 {
     match block {
         Block::Route {
@@ -37,25 +41,17 @@ pub fn check_told<H: HoldsOf>(
             ..
         } => {
             let steps = steps.as_slice();
-            let walk = keeps_walk(airport, class, holds, known, request, steps, *second)?;
+            let walk = keeps_walk(airport, class, holds, known, asked, steps, *second)?;
             if !walk {
                 return Ok(Some(Rule::Walk));
             }
             let labels = labels.as_slice();
-            let verdict = check_table(
-                airport,
-                class,
-                holds,
-                known,
-                request,
-                labels,
-                Some(*second),
-            )?;
+            let verdict = check_table(airport, class, holds, known, asked, labels, Some(*second))?;
             Ok(rule_of(verdict))
         }
         Block::NoRoute { labels } => {
             let labels = labels.as_slice();
-            let verdict = check_table(airport, class, holds, known, request, labels, None)?;
+            let verdict = check_table(airport, class, holds, known, asked, labels, None)?;
             Ok(rule_of(verdict))
         }
         _ => Ok(None),

@@ -176,7 +176,7 @@ module _ (sets : List (List Segment)) (steps : List Step) (s : Segment) (away : 
       no_step : Step
       no_step = record { arc = record { 0 = 0 }; enter = 0; leave = 0 }
 
-  blocked : (holds others : List Hold) (t : ℕ) → DifferOn steps holds others → IsTrue (list_any (blocks sets s t) holds) → IsTrue (list_any (blocks sets s t) others)
+  pub blocked : (holds others : List Hold) (t : ℕ) → DifferOn steps holds others → IsTrue (list_any (blocks sets s t) holds) → IsTrue (list_any (blocks sets s t) others)
   blocked holds others t differ held_then =
       let hold = list_any-true (blocks sets s t) holds held_then in
       let parts = and_parts (conflict sets s hold.0.segment) (span_has hold.0.span t) hold.2 in

@@ -1,5 +1,5 @@
 -- What fits an airport: a ledger with none lifted, one with a lifted flight, and what they become after each call.
-use Rattle.std.proofs.Common.{◌≡◌, ℕ, ◌+◌, ◌<◌, ◌≤◌, List, ◌++◌, length, Option, Some, None, refl, sym, ◌∙◌, ap, subst, arith}
+use Rattle.std.proofs.Common.{◌≡◌, ℕ, ◌<◌, List, ◌++◌, length, Option, Some, None, refl, sym, ◌∙◌, ap, subst, arith}
 use Rattle.std.specs.Prelude.{map, remove, slice_get, IsSome, IfSome, IsSomeAnd}
 use Rattle.std.specs.Option.{is_some, option_and_then}
 use Rattle.std.proofs.lemmas.Option.{get_or_from_slice_get, slice_get_within}
@@ -22,9 +22,9 @@ use Rattle.window_store.specs.Stands.{ListStandsFor, StandsFor, HasRoomFor, rout
 use Rattle.window_store.specs.Kept.{KeepsNodes}
 use Rattle.commitments.specs.Book.{Book, state_with, state_of, without_lifted, remaining, lifted_flight, route_of, Fits}
 use Rattle.commitments.specs.Places.{IsFlightPlace}
-use Rattle.commitments.proofs.Names.{find-named}
+use Rattle.taxi_base.proofs.FlightNames.{find-named}
 use Rattle.commitments.proofs.Numbers.{walk-on_segments, walk-takes_time, walk-in_time}
-use Rattle.commitments.proofs.SameHolds.{StandsFor-permutation, flights_hold-with, flights_hold-remove, flights_hold-back}
+use Rattle.commitments.proofs.SameHolds.{StandsFor-permutation, flights_hold-with, flights_hold-back}
 
 -- the routes of flights hold what the flights hold
 pub routes-hold : (airport : Airport) (flights : List Flight) → route_holds airport.horizon (map (route_of airport) flights) ≡ flights_hold airport flights

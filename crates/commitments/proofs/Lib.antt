@@ -3,7 +3,6 @@ pub mod Stored
 pub mod Edits
 pub mod TakenFirst
 pub mod TakenCause
-pub mod RouteFaults
 pub mod SameHolds
 pub mod Numbers
 pub mod Fitting

@@ -7,7 +7,7 @@ use Rattle.taxi_base.specs.declared.answers.Flight.{Flight}
 use Rattle.taxi_base.proofs.ListLaws.{AllPairs-first, AllPairs-rest}
 use Rattle.commitments.specs.Book.{flights_of, AreNamed}
 use Rattle.commitments.specs.Places.{AreInOrder}
-use Rattle.commitments.proofs.Names.{Precedes, precedes_itself}
+use Rattle.taxi_base.proofs.FlightNames.{Precedes, precedes_itself}
 
 abbrev pub Names : Type 0
 Names = List (List ℕ × ℕ)

@@ -1,9 +1,9 @@
 -- The cause of a step whose segment is taken, from the first second and flight that were found.
-use Rattle.std.proofs.Common.{◌≡◌, ℕ, zero, suc, ◌+◌, ◌-◌, ◌<◌, ◌≤◌, Bool, not, ◌||◌, List, [], ◌∷◌, length, IsTrue, IsFalse, Option, Some, None, refl, sym, ap, ◌∙◌, inl, inr, arith}
+use Rattle.std.proofs.Common.{◌≡◌, ℕ, ◌<◌, ◌≤◌, Bool, ◌||◌, List, [], ◌∷◌, length, IsTrue, IsFalse, Option, Some, None, refl, ap, ◌∙◌, arith}
 use Rattle.std.specs.Prelude.{option_map, option_and_then, find, flat_map}
-use Rattle.std.specs.List.{list_any, range_with_len}
+use Rattle.std.specs.List.{list_any}
 use Rattle.std.specs.Option.{is_some}
-use Rattle.std.proofs.lemmas.Bool.{cases_lt, cond_both, and_parts, and_from, lt-ltb, false_from_ne_true, not_from_false, both_ways}
+use Rattle.std.proofs.lemmas.Bool.{cond_both, and_parts, and_from, lt-ltb, false_from_ne_true, both_ways}
 use Rattle.std.proofs.lemmas.List.Folds.{list_any-append}
 use Rattle.taxi_base.specs.declared.answers.Flight.{Flight}
 use Rattle.taxi_base.specs.declared.answers.StepCause.{StepCause}
@@ -14,7 +14,7 @@ use Rattle.taxi_base.specs.Walks.{free_among}
 use Rattle.taxi_base.specs.State.{State, flight_holds, holds_in}
 use Rattle.taxi_base.specs.Faults.{first_taken, holder_at, taken_by}
 use Rattle.taxi_base.proofs.HoldLaws.{is_free-true, is_free-from}
-use Rattle.taxi_base.proofs.FaultLaws.{first_taken-None}
+use Rattle.taxi_base.proofs.FaultLaws.{first_taken-None, first_taken-at}
 use Rattle.taxi_base.proofs.ListLaws.{Contains-map}
 use Rattle.taxi_base.proofs.WindowLaws.{AreWindows-member}
 use Rattle.interval_list.specs.declared.window.Window.{Window}
@@ -24,15 +24,6 @@ use Rattle.window_store.specs.Stands.{StandsFor}
 use Rattle.window_store.specs.Kept.{IsWindowAt}
 use Rattle.commitments.specs.Book.{state_with}
 use Rattle.commitments.specs.Taken.{holder, IsFirstTaken}
-
--- the first of the seconds in a row that passes a test
-find-first : (p : ℕ → Bool) (a n t : ℕ) → a ≤ t → t < a + n → IsTrue (p t) → ((u : ℕ) → a ≤ u → u < t → IsFalse (p u)) → find p (range_with_len a n) ≡ Some t
-find-first p a zero t low high here before = absurd (omega arith)
-find-first p a (suc n) t low high here before =
-    elim (cases_lt a t) [
-      | inl later ↦ rw (before a (omega arith) later) (find-first p (a + 1) n t (omega arith) (omega arith) here (λ u from until. before u (omega arith) until))
-      | inr now ↦ let e : t ≡ a = omega arith in rw (rw e at here) (ap Some (sym e))
-    ]
 
 -- some hold of the flights passes a test just where some flight has one that does
 any-found : (p : Hold → Bool) (holds : Flight → List Hold) (fs : List Flight) → list_any p (flat_map holds fs) ≡ is_some (find (λ f. list_any p (holds f)) fs)
@@ -61,11 +52,11 @@ module _ (airport : Airport) (fs : List Flight) (hold : Hold) (on_segment : hold
   unheld t high none = and_from _ _ (lt-ltb _ _ on_segment) (is_free-from airport.conflicts airport.horizon (holds_in airport state) hold.segment t (omega arith)
       (any-found (blocks airport.conflicts hold.segment t) (flight_holds airport) fs ∙ ap is_some none))
 
-  held : (t : ℕ) (name : List ℕ) → option_map (λ f. f.name) (holder airport hold.segment fs t) ≡ Some name → IsTrue (not (free t))
+  held : (t : ℕ) (name : List ℕ) → option_map (λ f. f.name) (holder airport hold.segment fs t) ≡ Some name → IsFalse (free t)
   held t name found =
-      not_from_false (free t) (false_from_ne_true (free t) (λ e.
+      false_from_ne_true (free t) (λ e.
       let unblocked = (is_free-true airport.conflicts airport.horizon (holds_in airport state) hold.segment t (and_parts _ _ e).1).1 in
-      both_ways _ unblocked (any-found (blocks airport.conflicts hold.segment t) (flight_holds airport) fs ∙ some-found name (holder airport hold.segment fs t) found)))
+      both_ways _ unblocked (any-found (blocks airport.conflicts hold.segment t) (flight_holds airport) fs ∙ some-found name (holder airport hold.segment fs t) found))
 
   pub taken_by-found : (r : Option (ℕ × List ℕ)) → IsFirstTaken airport hold.segment hold.span fs r → taken_by airport state hold ≡ option_map (λ found. Taken found.0 found.1) r
   taken_by-found None none =
@@ -73,8 +64,8 @@ module _ (airport : Airport) (fs : List Flight) (hold : Hold) (on_segment : hold
       ap (option_and_then causes) unfound
   taken_by-found (Some (t, name)) taken =
       let first : first_taken free hold.span ≡ Some t =
-      find-first (λ t. not (free t)) hold.span.from (hold.span.until - hold.span.from) t taken.0 (omega (arith, taken.1)) (held t name taken.2)
-      (λ u low high. rw (unheld u (omega (arith, taken.1)) (taken.3 u low high)) refl) in
+      first_taken-at free hold.span t taken.0 taken.1 (held t name taken.2)
+      (λ u low high. unheld u (omega (arith, taken.1)) (taken.3 u low high)) in
       ap (option_and_then causes) first ∙ ap (option_map (λ name. Taken t name)) taken.2
 
   -- nothing is taken where the span lies in one of its segment's free windows

@@ -1,7 +1,7 @@
--- The cells that are laid are what an arrival's search is asked.
-use Rattle.std.proofs.Common.{◌≡◌, ℕ, zero, suc, ◌*◌, ◌<◌, ◌≤◌, ◌&&◌, eqb, ◌==◌, Bool, true, false, List, [], ◌∷◌, length, get_or, IsTrue, Option, Some, None, option_map, is_some, cond, refl, sym, ◌∙◌, ap, subst, arith, inl, inr}
+-- The numbered cells are what an arrival's search is asked.
+use Rattle.std.proofs.Common.{◌≡◌, ℕ, zero, suc, ◌<◌, ◌&&◌, ◌==◌, Bool, true, false, List, [], ◌∷◌, length, get_or, IsTrue, Some, None, cond, refl, sym, ◌∙◌, ap, subst, arith}
 use Rattle.std.specs.Prelude.{Contains}
-use Rattle.std.proofs.lemmas.Bool.{and_parts, cond-true, cases_Bool, false≢true, eqb-true}
+use Rattle.std.proofs.lemmas.Bool.{and_parts, cond-true, eqb-true}
 use Rattle.std.proofs.lemmas.List.{get_or_default}
 use Rattle.taxi_base.specs.declared.numbers.Arc.{Arc}
 use Rattle.taxi_base.specs.declared.numbers.Node.{Node}
@@ -9,16 +9,14 @@ use Rattle.taxi_base.specs.Airport.{Layout, Ends, ends, arc_exists, tail, meet}
 use Rattle.label_core.specs.Walks.{Start as CellStart}
 use Rattle.label_search.specs.Problem.{IsProblem, IsIn}
 use Rattle.walk_labels.specs.Places.{Place, place_at}
-use Rattle.walk_labels.specs.PlacesInWindows.{cells_in}
 use Rattle.walk_labels.specs.Requests.{Beginning, starts_by}
 use Rattle.walk_labels.specs.Requests.Beginning.{at_node, resuming}
 use Rattle.walk_labels.proofs.RequestCells.{if_some, meet-same}
-use Rattle.place_cells.specs.Laid.{run_of_arc}
 use Rattle.place_cells.specs.Turns.{leaving_arcs, next_arcs, no_arc}
-use Rattle.place_cells.specs.Ground.{Ground, IsSound, arc_in, usable_in}
-use Rattle.place_cells.proofs.RunLaws.{in_run_of_arc, run_inside}
+use Rattle.place_cells.specs.Ground.{Ground, cells_of, run_of_arc, IsSound, arc_in, usable_in}
+use Rattle.place_cells.proofs.RunLaws.{usable_parts, in_run_of_arc, run_inside}
 use Rattle.place_cells.proofs.TurnLaws.{leaving_arcs-all, some-exists}
-use Rattle.place_cells.proofs.GroundLaws.{usable_parts, usable_exists, turn_parts, turns_inside, in_next_run, takes, small_seconds, small_last, arc_below}
+use Rattle.place_cells.proofs.GroundLaws.{usable_exists, turn_parts, turns_inside, in_next_run, takes, small_seconds, small_last, arc_below}
 use Rattle.forward_search.specs.declared.starting.Start.{Start}
 use Rattle.forward_search.specs.declared.starting.Start.TheVariants as start
 use Rattle.forward_search.specs.Arrivals.{beginning_of, start_at, first_arcs, arrival_problem}
@@ -71,13 +69,13 @@ first_exist layout (resuming begun exit_from) i on = go (arc_exists layout begun
 -- ---- the problem
 
 module _ (g : Ground) (sound : IsSound g) where
-  in_first_run : (b : Beginning) (k : ℕ) (s : CellStart) → starts_by g.layout (usable_in g) (place_at (cells_in g.windows)) b k ≡ Some s
-      → (i : ℕ) × (i < length (first_arcs g.layout b)) × IsIn (run_of_arc g.windows (get_or (first_arcs g.layout b) i no_arc)) k
+  in_first_run : (b : Beginning) (k : ℕ) (s : CellStart) → starts_by g.layout (usable_in g) (place_at (cells_of g)) b k ≡ Some s
+      → (i : ℕ) × (i < length (first_arcs g.layout b)) × IsIn (run_of_arc g (get_or (first_arcs g.layout b) i no_arc)) k
   in_first_run b k s e =
-      let parts = usable_parts g k (start_inside g.layout (usable_in g) (place_at (cells_in g.windows)) b k s e) in
-      let found = first_arc g.layout (usable_in g) (place_at (cells_in g.windows)) b k s e (usable_exists g (arc_in g k) parts.1) in
+      let parts = usable_parts g k (start_inside g.layout (usable_in g) (place_at (cells_of g)) b k s e) in
+      let found = first_arc g.layout (usable_in g) (place_at (cells_of g)) b k s e (usable_exists g (arc_in g k) parts.1) in
       let same : get_or (first_arcs g.layout b) found.0 no_arc ≡ arc_in g k = get_or_default (first_arcs g.layout b) found.0 no_arc (arc_in g k) found.1 ∙ found.2 in
-      (found.0, found.1, subst (λ (a : Arc). IsIn (run_of_arc g.windows a) k) (sym same) (in_run_of_arc g.windows k parts.0))
+      (found.0, found.1, subst (λ (a : Arc). IsIn (run_of_arc g a) k) (sym same) (in_run_of_arc g sound.numbered k (start_inside g.layout (usable_in g) (place_at (cells_of g)) b k s e)))
 
   in_runs : (j k : ℕ) → IsTrue (usable_in g j) → (i : ℕ) → i < length (next_arcs g.layout (arc_in g j)) → i < cond (usable_in g j) (length (next_arcs g.layout (arc_in g j))) 0
   in_runs j k usable i on = omega (arith, cond-true (usable_in g j) (length (next_arcs g.layout (arc_in g j))) 0 usable)
@@ -87,11 +85,11 @@ module _ (g : Ground) (sound : IsSound g) where
     takes = takes g sound;
     small_seconds = small_seconds g sound;
     small_last = small_last g sound;
-    turns_in_runs = λ j k turn. (let found = in_next_run g j k turn in (found.0, in_runs j k (turn_parts g j k turn).0 found.0 found.1, found.2));
+    turns_in_runs = λ j k turn. (let found = in_next_run g sound.numbered j k turn in (found.0, in_runs j k (turn_parts g j k turn).0 found.0 found.1, found.2));
     turns_inside = turns_inside g;
-    starts_inside = λ k s e. (usable_parts g k (start_inside g.layout (usable_in g) (place_at (cells_in g.windows)) b k s e)).0;
+    starts_inside = λ k s e. (usable_parts g k (start_inside g.layout (usable_in g) (place_at (cells_of g)) b k s e)).0;
     starts_in_runs = in_first_run b;
-    first_runs_inside = λ i on. (run_inside g.windows (get_or (first_arcs g.layout b) i no_arc) (arc_below g sound.lists (get_or (first_arcs g.layout b) i no_arc) (first_exist g.layout b i on))).1;
+    first_runs_inside = λ i on. (run_inside g sound.numbered sound.room (get_or (first_arcs g.layout b) i no_arc) (arc_below g sound.lists (get_or (first_arcs g.layout b) i no_arc) (first_exist g.layout b i on))).1;
   }
 
 -- when a step that was begun was to be left makes no other problem

@@ -6,12 +6,10 @@ use Rattle.taxi_base.specs.Airport.{Layout, arc_exists, tail, meet}
 use Rattle.label_core.specs.Walks.{Start as CellStart}
 use Rattle.label_search.specs.Problem.{Problem}
 use Rattle.walk_labels.specs.Places.{place_at}
-use Rattle.walk_labels.specs.PlacesInWindows.{cells_in}
 use Rattle.walk_labels.specs.Requests.{Beginning, starts_by, targets_at}
 use Rattle.walk_labels.specs.Requests.Beginning.{at_node, resuming}
-use Rattle.place_cells.specs.Laid.{run_of_arc}
 use Rattle.place_cells.specs.Turns.{next_arcs, leaving_arcs, no_arc}
-use Rattle.place_cells.specs.Ground.{Ground, network_in, arc_in, usable_in}
+use Rattle.place_cells.specs.Ground.{Ground, cells_of, run_of_arc, network_in, arc_in, usable_in}
 use Rattle.forward_search.specs.declared.starting.Start.{Start}
 use Rattle.forward_search.specs.declared.starting.Start.TheVariants as start
 
@@ -32,16 +30,16 @@ abbrev pub first_arcs : Layout → Beginning → List Arc
 first_arcs layout (at_node node earliest latest) = leaving_arcs layout node
 first_arcs layout (resuming begun exit_from) = if arc_exists layout begun.arc then begun.arc ∷ [] else []
 
--- The cells are those of all arcs by their numbers. Walks begin in the runs of the first arcs, and the runs that may follow a
+-- The cells are those of all arcs by their numbers, of which some are left over. Walks begin in the runs of the first arcs, and the runs that may follow a
 -- cell that the class can use are those of the arcs that may follow its arc.
 abbrev pub arrival_problem : Ground → Beginning → List Node → Problem
 arrival_problem g b to = record {
   network = network_in g;
-  starts = starts_by g.layout (usable_in g) (place_at (cells_in g.windows)) b;
-  target = targets_at g.layout (place_at (cells_in g.windows)) to;
-  count = length (cells_in g.windows);
+  starts = starts_by g.layout (usable_in g) (place_at (cells_of g)) b;
+  target = targets_at g.layout (place_at (cells_of g)) to;
+  count = length (cells_of g);
   runs = λ k. if usable_in g k then length (next_arcs g.layout (arc_in g k)) else 0;
-  run = λ k i. run_of_arc g.windows (slice_index_or (next_arcs g.layout (arc_in g k)) i no_arc);
+  run = λ k i. run_of_arc g (slice_index_or (next_arcs g.layout (arc_in g k)) i no_arc);
   first_runs = length (first_arcs g.layout b);
-  first_run = λ i. run_of_arc g.windows (slice_index_or (first_arcs g.layout b) i no_arc);
+  first_run = λ i. run_of_arc g (slice_index_or (first_arcs g.layout b) i no_arc);
 }

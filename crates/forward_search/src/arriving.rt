@@ -5,14 +5,14 @@ ghost use Rattle.taxi_base.specs.Walks.{conditions_in_windows};
 ghost use Rattle.taxi_base.specs.Labels.{AnswersArrival};
 ghost use Rattle.walk_labels.specs.Requests.{BeginsBy};
 ghost use Rattle.walk_labels.specs.PlacesInWindows.{AreWindowLists};
-ghost use Rattle.place_cells.specs.Laid.{windows_of, AreSearched};
+ghost use Rattle.place_cells.specs.Laid.{windows_of, HaveNumbers};
 ghost use Rattle.forward_search.specs.Arrivals.{beginning_of};
 
 use crate::cells::ArrivalCells;
 use crate::starting::Start;
 use airport_file::Airport;
 use label_search::{LabelRoom, earliest_exits};
-use place_cells::{PlaceCells, SearchGround, SearchRoom, rows_of, steps_of};
+use place_cells::{CellNumbers, SearchGround, SearchRoom, rows_of, steps_of};
 use std::alloc::Global;
 use taxi_base::{Class, Found, Memory, Node, Time};
 use window_store::WindowStore;
@@ -56,13 +56,13 @@ pub fn arrive_in(
 {
     // With the horizon comes that the airport keeps the rules.
     let _horizon = airport.horizon();
-    room.cells.lay(airport.graph(), store)?;
+    room.numbers.fit(airport.graph().segments(), store)?;
     search_among(
         alloc,
         &mut room.labels,
         airport,
         store,
-        &room.cells,
+        &room.numbers,
         start,
         class,
         to,
@@ -70,20 +70,20 @@ pub fn arrive_in(
     )
 }
 
-/// The same over the cells that are laid.
+/// The same over cells that have numbers.
 fn search_among<'x>(
     alloc: Global,
     labels: &mut LabelRoom,
     airport: &'x Airport,
     store: &'x WindowStore,
-    cells: &'x PlaceCells,
+    numbers: &'x CellNumbers,
     start: Start,
     class: Class,
     to: Node,
     clearance: Time,
 ) -> Result<Found, Memory>
     requires lists { AreWindowLists airport.now (windows_of store.now) }
-    requires searched { AreSearched (windows_of store.now) cells.now }
+    requires room { HaveNumbers (windows_of store.now) numbers.now.first.items }
     requires rules { IsWellFormed airport.now }
     ensures { (leave : ℕ) → IfOk result (AnswersArrival (conditions_in_windows airport.now class clearance (windows_of store.now)) (BeginsBy (layout_of airport.now) (beginning_of start leave)) to) }
 {
@@ -91,7 +91,7 @@ fn search_among<'x>(
         graph: airport.graph(),
         classes: airport.classes(),
         store,
-        cells,
+        numbers,
         class,
         horizon: airport.horizon(),
         clearance,
@@ -103,11 +103,11 @@ fn search_among<'x>(
         to: &to,
     };
     let label_search::Found { values, route } = earliest_exits(alloc, labels, &asked)?;
-    let labels = rows_of(alloc, &cells.cells, &values)?;
+    let labels = rows_of(alloc, &ground, &values)?;
     match route {
         None => Ok(Found::NoRoute { labels }),
         Some(route) => {
-            let steps = steps_of(alloc, &cells.cells, &route.steps)?;
+            let steps = steps_of(alloc, &ground, &route.steps)?;
             Ok(Found::Route { steps, labels })
         }
     }

@@ -33,11 +33,9 @@ impl ForwardCells for ArrivalCells<'_> {
     }
 
     fn start(&self, cell: usize) -> Option<Opening> {
-        let arc = self.ground.arc(cell);
-        if self.ground.can_use(arc) {
-            opening_at(self.ground.graph, self.start, arc)
-        } else {
-            None
+        match self.ground.usable(cell) {
+            None => None,
+            Some(arc) => opening_at(self.ground.graph, self.start, arc),
         }
     }
 
@@ -60,17 +58,14 @@ impl ForwardCells for ArrivalCells<'_> {
     }
 
     fn runs(&self, cell: usize) -> usize {
-        let arc = self.ground.arc(cell);
-        if self.ground.can_use(arc) {
-            self.ground.next(arc).len()
-        } else {
-            0
+        match self.ground.usable(cell) {
+            None => 0,
+            Some(arc) => self.ground.next(arc).len(),
         }
     }
 
-    fn run(&self, cell: usize, run: usize, ready: u32) -> Run {
+    fn run(&self, cell: usize, run: usize, ready: u32, last: u32) -> Run {
         let next = self.ground.next(self.ground.arc(cell))[run];
-        let last = self.ground.cell(cell).last;
         self.ground.part(next, ready, last)
     }
 }

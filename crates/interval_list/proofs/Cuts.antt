@@ -169,7 +169,7 @@ length-cut s (w ∷ ws) ss low some apart room =
     let later = length-cut s ws (cut_spare s w ss) (w.until + 1) some apart.2 (room-rest s w ws low ss some apart room) in
     omega (arith, later, length-cut_window s w ss spare, length-append (cut_window s w ss) rest.0)
 
-cut_window-away : (s : Span) (w : Window) (ss : List ℕ) → s.from < s.until → w.from < w.until → (w.until ≤ s.from) ⊎ (s.until ≤ w.from) → cut_window s w ss ≡ w ∷ []
+pub cut_window-away : (s : Span) (w : Window) (ss : List ℕ) → s.from < s.until → w.from < w.until → (w.until ≤ s.from) ⊎ (s.until ≤ w.from) → cut_window s w ss ≡ w ∷ []
 cut_window-away s w ss some whole away =
     elim away [
       | inl past ↦

@@ -1,3 +1,4 @@
+mod Beginnings
 mod Cuts
 mod Edited
 mod Lent

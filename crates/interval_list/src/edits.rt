@@ -1,5 +1,5 @@
 //! Seconds are taken out of a chain of windows and given back, in nodes that are there.
-ghost use Rattle.std.specs.Prelude.{◌≡◌, ◌+◌, ◌^◌, ◌<◌, ◌≤◌, ◌++◌, length, take, drop};
+ghost use Rattle.std.specs.Prelude.{◌≡◌, ◌+◌, ◌-◌, ◌^◌, ◌<◌, ◌≤◌, ◌++◌, length, take, drop};
 ghost use Rattle.taxi_base.specs.Windows.{AreApart};
 ghost use Rattle.interval_list.specs.Cells.{IsAt, IsGap, place_of, node_of, windows_of};
 ghost use Rattle.interval_list.specs.Edits.{inserted};
@@ -27,8 +27,9 @@ pub(crate) fn take_out(
     ensures windows { windows_of windows.new ≡ (cut (span from until) (windows_of windows.old) (ids_of (windows_of spares.old))).0 }
     ensures spares { ids_of (windows_of spares.new) ≡ (cut (span from until) (windows_of windows.old) (ids_of (windows_of spares.old))).1 }
 {
-    let mut place = windows.first();
-    let mut i = 0;
+    let start = first_beyond(windows, from);
+    let mut place = start.place;
+    let mut i = start.index;
     while i < windows.len() {
         let window = windows.window(place, i);
         if until <= window.from {
@@ -37,6 +38,40 @@ pub(crate) fn take_out(
         let next = windows.next(place, i);
         i += cut_at(windows, spares, alloc, place, i, from, until);
         place = next;
+    }
+}
+
+/// A node's number and its place, if there is such a node.
+#[derive(Clone, Copy)]
+struct Start {
+    index: usize,
+    place: Place,
+}
+
+/// The first window that reaches beyond a second. It is looked for from the end, near which most edits are, since traffic
+/// comes in order of time.
+fn first_beyond(windows: &Chain, second: Time) -> Start
+    ensures inside { result.index ≤ length windows.now }
+    ensures place { result.index < length windows.now → result.place.at ≡ place_of windows.now result.index }
+    ensures over { 0 < result.index → (node_of windows.now (result.index - 1)).window.until ≤ second }
+{
+    let mut place = windows.last();
+    let mut beyond = place;
+    let mut left = windows.len();
+    while left > 0 {
+        if windows.window(place, left - 1).until <= second {
+            return Start {
+                index: left,
+                place: beyond,
+            };
+        }
+        beyond = place;
+        place = windows.prev(place, left - 1);
+        left -= 1;
+    }
+    Start {
+        index: 0,
+        place: beyond,
     }
 }
 

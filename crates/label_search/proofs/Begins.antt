@@ -1,11 +1,11 @@
 -- The search begins with the start entries.
-use Rattle.std.proofs.Common.{◌≡◌, ℕ, ◌+◌, ◌<◌, ◌≤◌, false, Option, Some, None, refl, sym, ap, ◌∙◌, subst, ◌⊎◌, inl, inr, arith, ◌↔◌}
+use Rattle.std.proofs.Common.{◌≡◌, ℕ, ◌+◌, false, Option, Some, None, refl, sym, ap, ◌∙◌, subst, ◌⊎◌, inl, inr, arith, ◌↔◌}
 use Rattle.std.proofs.lemmas.Bool.{cases_eq, cases_lt, false≢true}
 use Rattle.label_queue.specs.Keys.{key_of, lesser}
 use Rattle.label_core.specs.Labels.{IsStartEntry}
 use Rattle.label_core.proofs.SearchEnds.{search_begins}
 use Rattle.label_search.specs.declared.labels.Label.{Label}
-use Rattle.label_search.specs.Problem.{Problem, IsProblem, IsIn}
+use Rattle.label_search.specs.Problem.{Problem, IsIn}
 use Rattle.label_search.specs.Labels.{Standing, label_of, HasValue, IsOffered, IsImproved}
 use Rattle.label_search.specs.Labels.IsOffered.{first, lower, tied, kept}
 use Rattle.label_search.specs.Expanding.{HasRoom}

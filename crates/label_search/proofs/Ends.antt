@@ -1,5 +1,5 @@
 -- What a search has found that is at its end.
-use Rattle.std.proofs.Common.{◌≡◌, ℕ, ◌<◌, ◌≤◌, ◌↔◌, List, [], ◌∷◌, length, get_or, take, map, reverse, arith, true, false, Option, Some, None, IfSome, IfNone, refl, sym, ap, ◌∙◌, ◌⊎◌, inl, inr}
+use Rattle.std.proofs.Common.{◌≡◌, ℕ, ◌≤◌, ◌↔◌, List, [], ◌∷◌, length, get_or, take, map, reverse, arith, true, false, Option, Some, None, IfSome, IfNone, refl, sym, ap, ◌∙◌, ◌⊎◌, inl, inr}
 use mathlib.Core.List.{reverse_aux, reverse-reverse}
 use Rattle.std.proofs.lemmas.Bool.{cases_Bool}
 use Rattle.std.proofs.lemmas.List.{length-map, length-take-le}

@@ -1,8 +1,8 @@
 -- A problem backward in time and its mirror: what is found in the one is found in the other.
-use Rattle.std.proofs.Common.{◌≡◌, ℕ, zero, suc, ◌-◌, ◌≤◌, ◌↔◌, List, [], ◌∷◌, get_or, map, reverse, Option, Some, None, option_map, IfSome, IfNone, refl, sym, ap, ◌∙◌, subst, arith}
+use Rattle.std.proofs.Common.{◌≡◌, ℕ, ◌-◌, ◌≤◌, List, [], ◌∷◌, get_or, map, reverse, Option, Some, None, option_map, IfSome, IfNone, refl, sym, ap, ◌∙◌, subst, arith}
 use mathlib.Core.List.{reverse_aux}
 use Rattle.std.proofs.lemmas.List.{length-map}
-use Rattle.label_core.specs.Walks.{Step, IsEarliestExit}
+use Rattle.label_core.specs.Walks.{Step}
 use Rattle.label_core.specs.Tables.{IsBelow}
 use Rattle.label_core.specs.Best.{IsBestEnd, HasNoWalk, IsPickedRoute}
 use Rattle.label_core.specs.BackwardWalks.{IsLatestEntry}

@@ -1,5 +1,5 @@
 -- Which values does a search hand out?
-use Rattle.std.specs.Prelude.{◌≡◌, ℕ, suc, ◌<◌, ◌↔◌, nat_lt, if◌then◌else◌, List, [], ◌∷◌, length, map, Option, Some, None, slice_index_or}
+use Rattle.std.specs.Prelude.{◌≡◌, ℕ, suc, ◌↔◌, nat_lt, if◌then◌else◌, List, [], ◌∷◌, length, map, Option, Some, None, slice_index_or}
 use Rattle.label_core.specs.Walks.{Network, Start, IsEarliestExit}
 use Rattle.label_core.specs.BackwardWalks.{Finish, IsLatestEntry}
 use Rattle.label_core.specs.Tables.{IsBelow}

@@ -64,9 +64,10 @@ impl<C: BackwardCells> ForwardCells for Mirror<'_, C> {
         self.cells.runs_before(cell)
     }
 
-    fn run(&self, cell: usize, run: usize, ready: u32) -> Run {
-        self.cells
-            .run_before(cell, run, MIRROR.saturating_sub(ready))
+    fn run(&self, cell: usize, run: usize, ready: u32, last: u32) -> Run {
+        let until = MIRROR.saturating_sub(ready);
+        let from = MIRROR.saturating_sub(last);
+        self.cells.run_before(cell, run, until, from)
     }
 }
 

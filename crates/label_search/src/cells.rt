@@ -69,10 +69,11 @@ pub trait ForwardCells {
         requires { cell < (problem self.now).count }
         ensures { result ≡ (problem self.now).runs cell };
 
-    /// The part of a run that a walk can go on to which may leave the cell from `ready` on.
-    fn run(&self, cell: usize, run: usize, ready: u32) -> Run
+    /// The part of a run that a walk can go on to which may leave the cell from `ready` on, and until `last`.
+    fn run(&self, cell: usize, run: usize, ready: u32, last: u32) -> Run
         requires inside { cell < (problem self.now).count }
         requires is_run { run < (problem self.now).runs cell }
+        requires last { last ≡ (problem self.now).network.last cell }
         ensures { IsPartOf (problem self.now) cell ready ((problem self.now).run cell run) result };
 }
 
@@ -112,9 +113,10 @@ pub trait BackwardCells {
         requires { cell < (backward self.now).count }
         ensures { result ≡ (backward self.now).runs cell };
 
-    /// The part of a run from which a walk can come that may enter the cell until `ready`.
-    fn run_before(&self, cell: usize, run: usize, ready: u32) -> Run
+    /// The part of a run from which a walk can come that may enter the cell from `from` on, and until `ready`.
+    fn run_before(&self, cell: usize, run: usize, ready: u32, from: u32) -> Run
         requires inside { cell < (backward self.now).count }
         requires is_run { run < (backward self.now).runs cell }
+        requires from { from ≡ (backward self.now).network.from cell }
         ensures { IsBackwardPartOf (backward self.now) cell ready ((backward self.now).run cell run) result };
 }

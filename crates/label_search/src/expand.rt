@@ -86,7 +86,7 @@ pub(crate) fn expand<C: ForwardCells>(cells: &C, from: Ready, labels: &mut Label
     ensures { IsExpanded (C.problem cells.now).network from.cell from.at (λ d. ⊤) (standing labels.old) (standing labels.new) }
 {
     for run in 0..cells.runs(from.cell) {
-        let part = cells.run(from.cell, run, from.at);
+        let part = cells.run(from.cell, run, from.at, from.last);
         expand_run(cells, from, part, labels);
     }
 }

@@ -87,7 +87,7 @@ impl ForwardCells for ForwardList<'_> {
         2
     }
 
-    fn run(&self, cell: usize, run: usize, _ready: u32) -> Run {
+    fn run(&self, cell: usize, run: usize, _ready: u32, _last: u32) -> Run {
         if run == 0 {
             self.cells[cell].near
         } else {
@@ -136,7 +136,7 @@ impl BackwardCells for BackwardList<'_> {
         2
     }
 
-    fn run_before(&self, cell: usize, run: usize, _ready: u32) -> Run {
+    fn run_before(&self, cell: usize, run: usize, _ready: u32, _from: u32) -> Run {
         if run == 0 {
             self.cells[cell].near
         } else {

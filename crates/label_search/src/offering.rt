@@ -7,12 +7,12 @@ ghost use Rattle.label_search.specs.Values.{rows_from, values_kept};
 
 use crate::labels::{Label, Labels};
 use crate::marks::clear_marked;
-use crate::values::{CellValue, push_values};
+use crate::values::{CellValue, push_blocks};
 use label_queue::LabelQueue;
 use std::alloc::Global;
 use taxi_base::Memory;
 
-/// How many cells share a mark.
+/// How many cells share a mark, and how many blocks that of a group.
 pub(crate) const BLOCK: usize = 16;
 
 impl Labels {
@@ -25,6 +25,7 @@ impl Labels {
             known: Vec::from_elem(alloc, None, count)?,
             queue: LabelQueue::new(alloc, count)?,
             marks: Vec::from_elem(alloc, false, count / BLOCK + 1)?,
+            groups: Vec::from_elem(alloc, false, (count / BLOCK + 1) / BLOCK + 1)?,
         })
     }
 
@@ -35,8 +36,7 @@ impl Labels {
         ensures unqueued { OnOk result ((c : ℕ) → key_of self.new.queue c ≡ None) }
     {
         if self.known.len() < count {
-            // With half as much again, room is seldom made anew.
-            *self = Labels::new(alloc, count.saturating_add(count / 2))?;
+            *self = Labels::new(alloc, count)?;
         } else {
             self.clear();
         }
@@ -49,7 +49,7 @@ impl Labels {
         ensures queue { self.new.queue ≡ replicate (length self.old.queue) None }
         ensures unlabelled { (c : ℕ) → label_of self.new.known.items c ≡ None }
     {
-        clear_marked(&mut self.known, &mut self.marks);
+        clear_marked(&mut self.known, &mut self.marks, &mut self.groups);
         self.queue.clear();
     }
 
@@ -74,7 +74,9 @@ impl Labels {
         ensures known { self.new.known.items ≡ slice_set self.old.known.items cell (Some label) }
         ensures queue { self.new.queue ≡ self.old.queue }
     {
-        self.marks[cell / BLOCK] = true;
+        let block = cell / BLOCK;
+        self.groups[block / BLOCK] = true;
+        self.marks[block] = true;
         self.known[cell] = Some(label);
     }
 
@@ -87,13 +89,14 @@ impl Labels {
         ensures { IfOk result (λ values. values.items ≡ rows_from 0 (values_kept bound self.now.known.items)) }
     {
         let mut values = Vec::new(alloc);
-        let count = self.known.len();
-        for block in 0..self.marks.len() {
-            if self.marks[block] {
-                let first = block * BLOCK;
-                push_values(
+        let count = self.marks.len();
+        for group in 0..self.groups.len() {
+            if self.groups[group] {
+                let first = group * BLOCK;
+                push_blocks(
                     &mut values,
                     &self.known,
+                    &self.marks,
                     bound,
                     first,
                     count.min(first + BLOCK),

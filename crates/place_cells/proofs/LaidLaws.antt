@@ -1,15 +1,16 @@
--- What cells are laid, arc by arc.
-use Rattle.std.proofs.Common.{◌≡◌, ℕ, suc, ◌+◌, ◌*◌, ◌/◌, ◌<◌, List, [], ◌∷◌, ◌++◌, length, get_or, map, append_assoc, inl, inr, refl, sym, ◌∙◌, ap, subst, arith}
+-- How numbers are laid, block by block.
+use Rattle.std.proofs.Common.{◌≡◌, ℕ, zero, suc, ◌+◌, ◌-◌, ◌*◌, ◌/◌, ◌<◌, ◌≤◌, List, [], ◌∷◌, ◌++◌, length, get_or, inl, inr, refl, sym, ◌∙◌, ap, subst, arith}
+use Rattle.std.specs.Prelude.{All}
 use Rattle.std.proofs.lemmas.Bool.{cases_lt}
-use Rattle.std.proofs.lemmas.List.{get_or-map, get_or_past, get_or_append_left, get_or_push, length-map, map-append, length-append}
+use Rattle.std.proofs.lemmas.List.{get_or-map, get_or_past, get_or_default, get_or_append_left, get_or-append-add, get_or-append_right, get_or_push, length-map, length-append}
 use Rattle.taxi_base.specs.declared.numbers.Arc.{Arc}
 use Rattle.taxi_base.specs.declared.rows.Span.{Span}
+use Rattle.taxi_base.specs.Windows.{AreApart}
 use Rattle.window_store.specs.Store.{Store, no_list, spans_at}
 use Rattle.interval_list.specs.Intervals.{spans_of}
-use Rattle.walk_labels.specs.PlacesInWindows.{cells_of_arc, cells_before, cells_in}
-use Rattle.place_cells.specs.declared.cells.PlaceCell.{PlaceCell}
-use Rattle.place_cells.specs.declared.cells.PlaceCells.{PlaceCells}
-use Rattle.place_cells.specs.Laid.{windows_of, cell_of_place, AreLaid}
+use Rattle.place_cells.specs.declared.spots.Spot.{Spot}
+use Rattle.place_cells.specs.Laid.{windows_of, no_spot, spot_in, first_in, AreNumbered}
+use Rattle.place_cells.specs.Blocks.{block}
 
 -- a segment's windows are its list's
 pub windows_of-at : (store : Store) (k : ℕ) → get_or (windows_of store) k [] ≡ spans_at store (record { 0 = k })
@@ -22,54 +23,138 @@ windows_of-at store k =
 pub windows_of-length : (store : Store) → length (windows_of store) ≡ length store.lists
 windows_of-length store = length-map store.lists (λ l. spans_of l.intervals.windows)
 
--- one more window of an arc is laid
-pub window_more : (arc : Arc) (w : Span) (rest : List Span) (cells more all : List PlaceCell)
-    → more ≡ cells ++ record { arc = arc; from = w.from; until = w.until } ∷ [] → cells ++ map cell_of_place (cells_of_arc arc (w ∷ rest)) ≡ all
-    → more ++ map cell_of_place (cells_of_arc arc rest) ≡ all
-window_more arc w rest cells more all pushed so_far =
-    ap (λ list. list ++ map cell_of_place (cells_of_arc arc rest)) pushed
-    ∙ append_assoc cells (record { arc = arc; from = w.from; until = w.until } ∷ []) (map cell_of_place (cells_of_arc arc rest)) ∙ so_far
+-- ---- a block
 
--- ---- arc by arc
+pub length-block : (arc : Arc) (n : ℕ) → length (block arc n) ≡ n
+length-block arc zero = refl
+length-block arc (suc n) = omega (arith, length-block arc n, length-append (block arc n) (record { arc = arc; window = n } ∷ []))
 
--- the cells of the first arcs are laid
-pub record AreLaidTo (windows : List (List Span)) (n : ℕ) (cells : List PlaceCell) (first : List ℕ) : Type 0 where
-  pub in_order : cells ≡ map cell_of_place (cells_before windows n)
-  pub count : length first ≡ n
-  pub starts : (arc : ℕ) → arc < n → get_or first arc 0 ≡ length (cells_before windows arc)
+pub block_at : (arc : Arc) (n j : ℕ) (d : Spot) → j < n → get_or (block arc n) j d ≡ record { arc = arc; window = j }
+block_at arc zero j d on = absurd (omega arith)
+block_at arc (suc n) j d on =
+    elim (cases_lt j n) [
+      | inl earlier ↦ get_or_append_left (block arc n) (record { arc = arc; window = n } ∷ []) d j (omega (arith, earlier, length-block arc n)) ∙ block_at arc n j d earlier
+      | inr last ↦
+          let e : n ≡ j = omega arith in
+          get_or_push (block arc n) (record { arc = arc; window = n }) d j (length-block arc n ∙ e) ∙ ap (λ (w : ℕ). record { arc = arc; window = w }) e
+    ]
 
-module _ (windows : List (List Span)) where
-  pub none_laid : AreLaidTo windows 0 [] []
-  none_laid = record { in_order = refl; count = refl; starts = λ arc on. absurd (omega arith) }
+-- ---- block by block
 
-  first_more : (n : ℕ) (cells : List PlaceCell) (first : List ℕ) → AreLaidTo windows n cells first
-      → (arc : ℕ) → arc < n + 1 → get_or (first ++ length cells ∷ []) arc 0 ≡ length (cells_before windows arc)
-  first_more n cells first laid arc on =
-      elim (cases_lt arc n) [
-        | inl earlier ↦ get_or_append_left first (length cells ∷ []) 0 arc (omega (arith, laid.count)) ∙ laid.starts arc earlier
-        | inr last ↦
-            let e : n ≡ arc = omega arith in
-            get_or_push first (length cells) 0 arc (laid.count ∙ e) ∙ ap length laid.in_order ∙ length-map (cells_before windows n) cell_of_place ∙ ap (λ k. length (cells_before windows k)) e
+pub none_numbered : AreNumbered [] (0 ∷ [])
+none_numbered = record {
+  rising = λ a b le on. omega (arith, none_first a, none_first b);
+  inside = λ a on. omega (arith, none_first a);
+  block = λ a j on within. absurd (omega (arith, on));
+  own = λ k on. absurd (omega (arith, on));
+}
+  where
+    none_first : (a : ℕ) → first_in (0 ∷ []) a ≡ 0
+    none_first zero = refl
+    none_first (suc a) = refl
+
+module _ (spots : List Spot) (first : List ℕ) (n room : ℕ) (are : AreNumbered spots first) (many : length first ≡ suc n) (last : first_in first n ≡ length spots) where
+  abbrev more : List Spot
+  more = block (record { 0 = n }) room
+
+  abbrev end : ℕ
+  end = length (spots ++ more)
+
+  end_is : end ≡ length spots + room
+  end_is = omega (arith, length-append spots more, length-block (record { 0 = n }) room)
+
+  first_old : (a : ℕ) → a < suc n → first_in (first ++ end ∷ []) a ≡ first_in first a
+  first_old a on = get_or_append_left first (end ∷ []) 0 a (omega (arith, on, many))
+
+  first_end : (a : ℕ) → a ≡ suc n → first_in (first ++ end ∷ []) a ≡ end
+  first_end a is = get_or_push first end 0 a (many ∙ sym is)
+
+  first_by : (a : ℕ) → a < length (first ++ end ∷ []) → first_in (first ++ end ∷ []) a ≤ end
+  first_by a on =
+      elim (cases_lt a (suc n)) [
+        | inl old ↦ omega (arith, first_old a old, are.inside a (omega (arith, old, many)), end_is)
+        | inr new ↦ omega (arith, first_end a (omega (arith, new, on, many, length-append first (end ∷ []))))
       ]
 
-  pub laid_more : (n : ℕ) (cells more : List PlaceCell) (first : List ℕ) → AreLaidTo windows n cells first
-      → more ≡ cells ++ map cell_of_place (cells_of_arc (record { 0 = n }) (get_or windows (n / 2) []))
-      → AreLaidTo windows (n + 1) more (first ++ length cells ∷ [])
-  laid_more n cells more first laid added = record {
-    in_order =
-        let next : suc n ≡ n + 1 = omega arith in
-        subst (λ k. more ≡ map cell_of_place (cells_before windows k)) next
-        (added
-        ∙ ap (λ list. list ++ map cell_of_place (cells_of_arc (record { 0 = n }) (get_or windows (n / 2) []))) laid.in_order
-        ∙ sym (map-append cell_of_place (cells_before windows n) (cells_of_arc (record { 0 = n }) (get_or windows (n / 2) []))));
-    count = omega (arith, laid.count, length-append first (length cells ∷ []));
-    starts = first_more n cells first laid;
+  pub numbered_more : AreNumbered (spots ++ more) (first ++ end ∷ [])
+  numbered_more = record { rising = rising; inside = first_by; block = blocks; own = own }
+    where
+      count : length (first ++ end ∷ []) ≡ suc (suc n)
+      count = omega (arith, length-append first (end ∷ []), many)
+
+      rising : (a b : ℕ) → a ≤ b → b < length (first ++ end ∷ []) → first_in (first ++ end ∷ []) a ≤ first_in (first ++ end ∷ []) b
+      rising a b le on =
+          elim (cases_lt b (suc n)) [
+            | inl old ↦ omega (arith, first_old a (omega (arith, le, old)), first_old b old, are.rising a b le (omega (arith, old, many)))
+            | inr new ↦ omega (arith, first_end b (omega (arith, new, on, count)), first_by a (omega (arith, le, on)))
+          ]
+
+      blocks : (a j : ℕ) → suc a < length (first ++ end ∷ []) → first_in (first ++ end ∷ []) a + j < first_in (first ++ end ∷ []) (suc a)
+          → spot_in (spots ++ more) (first_in (first ++ end ∷ []) a + j) ≡ record { arc = record { 0 = a }; window = j }
+      blocks a j on within =
+          elim (cases_lt a n) [
+            | inl old ↦
+                let here = first_old a (omega (arith, old)) in
+                let low : first_in first a + j < first_in first (suc a) = omega (arith, within, here, first_old (suc a) (omega (arith, old))) in
+                let inside : first_in first a + j < length spots = omega (arith, low, are.inside (suc a) (omega (arith, old, many))) in
+                ap (λ (k : ℕ). spot_in (spots ++ more) (k + j)) here ∙ get_or_append_left spots more no_spot (first_in first a + j) inside ∙ are.block a j (omega (arith, old, many)) low
+            | inr new ↦
+                let is : n ≡ a = omega (arith, new, on, count) in
+                let here : first_in (first ++ end ∷ []) a ≡ length spots = ap (first_in (first ++ end ∷ [])) (sym is) ∙ first_old n (omega arith) ∙ last in
+                let low : j < room = omega (arith, within, here, first_end (suc a) (ap suc (sym is)), end_is) in
+                ap (λ (k : ℕ). spot_in (spots ++ more) (k + j)) here ∙ get_or-append-add spots more j no_spot ∙ block_at (record { 0 = n }) room j no_spot low ∙ ap (λ (m : ℕ). record { arc = record { 0 = m }; window = j }) is
+          ]
+
+      Own : ℕ → Spot → Type 0
+      Own k s = (suc s.arc.0 < length (first ++ end ∷ [])) × (first_in (first ++ end ∷ []) s.arc.0 + s.window ≡ k) × (k < first_in (first ++ end ∷ []) (suc s.arc.0))
+
+      own : (k : ℕ) → k < length (spots ++ more) → Own k (spot_in (spots ++ more) k)
+      own k on =
+          elim (cases_lt k (length spots)) [
+            | inl old ↦
+                let h = are.own k old in
+                subst (Own k) (sym (get_or_append_left spots more no_spot k old))
+                (omega (arith, h.0, count, many), omega (arith, h.1, first_old (spot_in spots k).arc.0 (omega (arith, h.0, many))), omega (arith, h.2, first_old (suc (spot_in spots k).arc.0) (omega (arith, h.0, many))))
+            | inr new ↦
+                let m : ℕ = k - length spots in
+                let low : m < room = omega (arith, on, new, end_is) in
+                let is : spot_in (spots ++ more) k ≡ record { arc = record { 0 = n }; window = m } = get_or-append_right spots more (length spots) k no_spot refl new ∙ block_at (record { 0 = n }) room m no_spot low in
+                subst (Own k) (sym is) (omega (arith, count), omega (arith, first_old n (omega arith), last, new), omega (arith, first_end (suc n) refl, on))
+          ]
+
+-- the first arcs are numbered, and the windows of their segments have room and lie apart
+pub record AreNumberedTo (windows : List (List Span)) (n : ℕ) (spots : List Spot) (first : List ℕ) : Type 0 where
+  pub are : AreNumbered spots first
+  pub count : length first ≡ suc n
+  pub last : first_in first n ≡ length spots
+  pub room : (a : ℕ) → a < n → first_in first a + length (get_or windows (a / 2) []) ≤ first_in first (suc a)
+  pub apart : (a : ℕ) → a < n → AreApart 0 (get_or windows (a / 2) [])
+
+module _ (windows : List (List Span)) where
+  pub none_numbered_to : AreNumberedTo windows 0 [] (0 ∷ [])
+  none_numbered_to = record { are = none_numbered; count = refl; last = refl; room = λ a on. absurd (omega (arith, on)); apart = λ a on. absurd (omega (arith, on)) }
+
+  pub numbered_to_more : (n room : ℕ) (spots : List Spot) (first : List ℕ) → AreNumberedTo windows n spots first → length (get_or windows (n / 2) []) ≤ room → AreApart 0 (get_or windows (n / 2) [])
+      → AreNumberedTo windows (n + 1) (spots ++ block (record { 0 = n }) room) (first ++ length (spots ++ block (record { 0 = n }) room) ∷ [])
+  numbered_to_more n room spots first to fits apart = record {
+    are = numbered_more spots first n room to.are to.count to.last;
+    count = omega (arith, length-append first (end spots first n room to.are to.count to.last ∷ []), to.count);
+    last = first_end spots first n room to.are to.count to.last (n + 1) (omega arith);
+    room = λ a on. elim (cases_lt a n) [
+      | inl old ↦ omega (arith, to.room a old, first_old spots first n room to.are to.count to.last a (omega (arith, old)), first_old spots first n room to.are to.count to.last (suc a) (omega (arith, old)))
+      | inr new ↦
+          let is : n ≡ a = omega (arith, new, on) in
+          subst (λ (b : ℕ). first_in (first ++ end spots first n room to.are to.count to.last ∷ []) b + length (get_or windows (b / 2) []) ≤ first_in (first ++ end spots first n room to.are to.count to.last ∷ []) (suc b)) is
+          (omega (arith, fits, first_old spots first n room to.are to.count to.last n (omega arith), first_end spots first n room to.are to.count to.last (suc n) refl, to.last, end_is spots first n room to.are to.count to.last))
+    ];
+    apart = λ a on. elim (cases_lt a n) [
+      | inl old ↦ to.apart a old
+      | inr new ↦ let is : n ≡ a = omega (arith, new, on) in subst (λ (b : ℕ). AreApart 0 (get_or windows (b / 2) [])) is apart
+    ];
   }
 
-  pub laid_whole : (n : ℕ) (cells : List PlaceCell) (first last : List ℕ) (laid : PlaceCells) → AreLaidTo windows n cells first → n ≡ 2 * length windows
-      → laid.cells.items ≡ cells → laid.first.items ≡ last → last ≡ first ++ length cells ∷ [] → AreLaid windows laid
-  laid_whole n cells first last laid to whole same_cells same_first is_last = record {
-    cells = same_cells ∙ subst (λ k. cells ≡ map cell_of_place (cells_before windows k)) whole to.in_order;
-    arcs = omega (arith, ap length same_first, ap length is_last, length-append first (length cells ∷ []), to.count);
-    first = λ arc on. ap (λ list. get_or list arc 0) (same_first ∙ is_last) ∙ first_more n cells first to arc (omega (arith, whole));
-  }
+  -- what holds for each arc's windows holds for each segment's
+  pub apart_all : (n : ℕ) → 2 * length windows ≡ n → ((a : ℕ) → a < n → AreApart 0 (get_or windows (a / 2) [])) → All (AreApart 0) windows
+  apart_all n whole each k d on =
+      let half : 2 * k / 2 ≡ k = omega arith in
+      subst (AreApart 0) (get_or_default windows k [] d on) (subst (λ (i : ℕ). AreApart 0 (get_or windows i [])) half (each (2 * k) (omega (arith, on, whole))))

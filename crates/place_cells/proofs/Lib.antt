@@ -1,6 +1,8 @@
 pub mod LaidLaws
-pub mod CutLaws
+mod CutLaws
 pub mod RunLaws
 pub mod TurnLaws
 pub mod GroundLaws
 pub mod RowLaws
+pub mod PlacesNumbered
+pub mod StoreConditions

@@ -1,144 +1,102 @@
--- Each arc's cells are a run of the numbers, in which later cells neither begin nor end earlier.
-use Rattle.std.proofs.Common.{◌≡◌, ℕ, zero, suc, ◌+◌, ◌-◌, ◌*◌, ◌/◌, ◌<◌, ◌≤◌, List, [], ◌∷◌, length, get_or, inl, inr, sym, ◌∙◌, ap, subst, arith}
+-- Each arc's cells are a run of the numbers.
+use Rattle.std.proofs.Common.{◌≡◌, ℕ, suc, ◌+◌, ◌-◌, ◌*◌, ◌/◌, ◌<◌, ◌≤◌, ◌&&◌, ltb, List, [], length, get_or, inl, inr, IsTrue, sym, ◌∙◌, ap, subst, arith}
 use Rattle.std.specs.Prelude.{All}
-use Rattle.std.proofs.lemmas.Bool.{cases_lt, cases_order}
-use Rattle.std.proofs.lemmas.List.{get_or-map, length-map, length-append}
+use Rattle.std.proofs.lemmas.Bool.{cases_lt, and_parts, ltb-true}
+use Rattle.std.proofs.lemmas.List.{get_or-map, get_or_past, length-map}
+use Rattle.std.proofs.lemmas.List.Elements.{All-nil, All-map}
 use Rattle.taxi_base.specs.declared.numbers.Arc.{Arc}
 use Rattle.taxi_base.specs.declared.rows.Span.{Span}
 use Rattle.taxi_base.specs.Windows.{AreApart}
 use Rattle.label_search.specs.Problem.{IsIn}
-use Rattle.std.proofs.lemmas.List.Elements.{All-nil, All-cons, All-append, All-map}
 use Rattle.walk_labels.specs.Places.{Place, no_place, place_at}
-use Rattle.walk_labels.specs.PlacesInWindows.{cells_of_arc, cells_before, cells_in}
 use Rattle.walk_labels.proofs.FitConditions.{All-at}
-use Rattle.walk_labels.proofs.PlacesMade.{length_before, run_of_place, place_in_run}
-use Rattle.place_cells.specs.declared.cells.PlaceCell.{PlaceCell}
-use Rattle.place_cells.specs.declared.cells.PlaceCells.{PlaceCells}
-use Rattle.place_cells.specs.Laid.{cell_of_place, run_of_arc, AreLaid, AreSearched}
-use Rattle.place_cells.specs.Cut.{cell_at, no_cell, IsRising}
+use Rattle.window_store.specs.Rows.{no_span, span_in}
+use Rattle.window_store.proofs.Rows.{apart_at}
+use Rattle.place_cells.specs.declared.spots.Spot.{Spot}
+use Rattle.place_cells.specs.Laid.{no_spot, spot_in, first_in, place_of_spot, window_of_spot, AreNumbered, HaveNumbers}
+use Rattle.place_cells.specs.Ground.{Ground, cells_of, run_of_arc, arc_in, window_in, can_use_in, usable_in}
 
-abbrev no_span : Span
-no_span = record { from = 0; until = 0 }
+module _ (g : Ground) where
+  -- an arc's windows
+  abbrev pub row_of : Arc → List Span
+  row_of arc = get_or g.windows (arc.0 / 2) []
 
--- windows that lie apart begin no sooner than their bound, and none is empty
-apart_at : (low : ℕ) (ws : List Span) → AreApart low ws → (k : ℕ) → k < length ws → (low ≤ (get_or ws k no_span).from) × ((get_or ws k no_span).from < (get_or ws k no_span).until)
-apart_at low [] apart k on = absurd (omega arith)
-apart_at low (w ∷ ws) apart zero on = (apart.0, apart.1)
-apart_at low (w ∷ ws) apart (suc k) on = let h = apart_at (w.until + 1) ws apart.2 k (omega arith) in (omega (arith, apart.0, apart.1, h.0), h.1)
+  pub length-cells : length (cells_of g) ≡ length g.numbers.spots
+  length-cells = length-map g.numbers.spots (place_of_spot g.windows)
 
--- and later ones begin after earlier ones end
-apart_in_order : (low : ℕ) (ws : List Span) → AreApart low ws → (j k : ℕ) → j < k → k < length ws
-    → ((get_or ws j no_span).from < (get_or ws j no_span).until) × ((get_or ws j no_span).until < (get_or ws k no_span).from) × ((get_or ws k no_span).from < (get_or ws k no_span).until)
-apart_in_order low [] apart j k before on = absurd (omega arith)
-apart_in_order low (w ∷ ws) apart j zero before on = absurd (omega arith)
-apart_in_order low (w ∷ ws) apart zero (suc k) before on = let h = apart_at (w.until + 1) ws apart.2 k (omega arith) in (apart.1, omega (arith, h.0), h.1)
-apart_in_order low (w ∷ ws) apart (suc j) (suc k) before on = apart_in_order (w.until + 1) ws apart.2 j k (omega arith) (omega arith)
+  pub cell_is : (k : ℕ) → k < length g.numbers.spots → place_at (cells_of g) k ≡ place_of_spot g.windows (spot_in g.numbers.spots k)
+  cell_is k on = get_or-map (place_of_spot g.windows) g.numbers.spots k no_spot no_place on
 
-module _ (windows : List (List Span)) where
-  -- a cell in the run of an arc is of that arc
-  pub arc_in_run : (arc : Arc) (k : ℕ) → k < length (cells_in windows) → IsIn (run_of_arc windows arc) k → (place_at (cells_in windows) k).arc.0 ≡ arc.0
-  arc_in_run arc k on inside =
-      let own = run_of_place windows (2 * length windows) k no_place on in
-      elim (cases_order (place_at (cells_in windows) k).arc.0 arc.0) [
-        | inl same ↦ same
-        | inr differ ↦ elim differ [
-          | inl below ↦ absurd (omega (arith, own.2, inside.from_first, length_before windows (suc (place_at (cells_in windows) k).arc.0) arc.0 (omega arith)))
-          | inr above ↦ absurd (omega (arith, own.1, inside.until_end, length_before windows (suc arc.0) (place_at (cells_in windows) k).arc.0 (omega arith)))
-        ]
-      ]
+  -- a number that is a cell's has an arc that the class can use, and a window that is not empty
+  pub usable_parts : (k : ℕ) → IsTrue (usable_in g k) → (k < length (cells_of g)) × IsTrue (can_use_in g (arc_in g k)) × ((window_in g k).from < (window_in g k).until)
+  usable_parts k h =
+      let parts = and_parts (ltb k (length (cells_of g))) (can_use_in g (arc_in g k) && ltb (window_in g k).from (window_in g k).until) h in
+      let both = and_parts (can_use_in g (arc_in g k)) (ltb (window_in g k).from (window_in g k).until) parts.1 in
+      (ltb-true k (length (cells_of g)) parts.0, both.0, ltb-true (window_in g k).from (window_in g k).until both.1)
 
-  -- and a cell of an arc is in its run
-  pub in_run_of_arc : (k : ℕ) → k < length (cells_in windows) → IsIn (run_of_arc windows (place_at (cells_in windows) k).arc) k
-  in_run_of_arc k on =
-      let own = run_of_place windows (2 * length windows) k no_place on in
-      record { from_first = own.1; until_end = own.2 }
+  module _ (numbered : AreNumbered g.numbers.spots g.numbers.first) where
+    -- where a number's window is not empty, it is one of its arc's, at the number's place in the block
+    pub whole_window : (k : ℕ) → k < length (cells_of g) → (window_in g k).from < (window_in g k).until
+        → (first_in g.numbers.first (arc_in g k).0 ≤ k) × (k - first_in g.numbers.first (arc_in g k).0 < length (row_of (arc_in g k)))
+        × (window_in g k ≡ span_in (row_of (arc_in g k)) (k - first_in g.numbers.first (arc_in g k).0))
+    whole_window k on some =
+        let inside : k < length g.numbers.spots = omega (arith, on, length-cells) in
+        let is = cell_is k inside in
+        subst (λ (p : Place). p.window.from < p.window.until → (first_in g.numbers.first p.arc.0 ≤ k) × (k - first_in g.numbers.first p.arc.0 < length (row_of p.arc)) × (p.window ≡ span_in (row_of p.arc) (k - first_in g.numbers.first p.arc.0)))
+        (sym is) (at (spot_in g.numbers.spots k) (numbered.own k inside).1) some
+      where
+        at : (s : Spot) → first_in g.numbers.first s.arc.0 + s.window ≡ k → (window_of_spot g.windows s).from < (window_of_spot g.windows s).until
+            → (first_in g.numbers.first s.arc.0 ≤ k) × (k - first_in g.numbers.first s.arc.0 < length (row_of s.arc)) × (window_of_spot g.windows s ≡ span_in (row_of s.arc) (k - first_in g.numbers.first s.arc.0))
+        at s own some =
+            let same : s.window ≡ k - first_in g.numbers.first s.arc.0 = omega (arith, own) in (
+              omega (arith, own),
+              elim (cases_lt s.window (length (row_of s.arc))) [
+                | inl within ↦ omega (arith, within, same)
+                | inr past ↦ let none : window_of_spot g.windows s ≡ no_span = get_or_past (row_of s.arc) s.window no_span past in absurd (omega (arith, some, ap (λ (w : Span). w.from) none, ap (λ (w : Span). w.until) none))
+              ],
+              ap (span_in (row_of s.arc)) same,
+            )
 
-  pub run_inside : (arc : Arc) → arc.0 < 2 * length windows → ((run_of_arc windows arc).first ≤ (run_of_arc windows arc).until) × ((run_of_arc windows arc).until ≤ length (cells_in windows))
-  run_inside arc below = (length_before windows arc.0 (suc arc.0) (omega arith), length_before windows (suc arc.0) (2 * length windows) (omega arith))
+    -- a cell of an arc is in its run
+    pub in_run_of_arc : (k : ℕ) → IsTrue (usable_in g k) → IsIn (run_of_arc g (arc_in g k)) k
+    in_run_of_arc k h =
+        let parts = usable_parts k h in
+        let own = whole_window k parts.0 parts.2 in
+        record { from_first = own.0; until_end = omega (arith, own.0, own.1) }
 
-  module _ (laid : PlaceCells) (are : AreLaid windows laid) where
-    pub laid_count : length laid.cells.items ≡ length (cells_in windows)
-    laid_count = ap length are.cells ∙ length-map (cells_in windows) cell_of_place
+    module _ (room : HaveNumbers g.windows g.numbers.first) (arc : Arc) (below : arc.0 < 2 * length g.windows) where
+      pub run_inside : ((run_of_arc g arc).first ≤ (run_of_arc g arc).until) × ((run_of_arc g arc).until ≤ length (cells_of g))
+      run_inside = (omega arith, omega (arith, room.room arc.0 below, room.arcs, numbered.inside (suc arc.0) (omega (arith, below, room.arcs)), length-cells))
 
-    pub laid_at : (k : ℕ) → k < length (cells_in windows) → (d : PlaceCell) → get_or laid.cells.items k d ≡ cell_of_place (place_at (cells_in windows) k)
-    laid_at k on d = ap (λ list. get_or list k d) are.cells ∙ get_or-map cell_of_place (cells_in windows) k no_place d on
+      -- and what is in the run of an arc is the arc with the window of that place in its list
+      pub in_run : (k : ℕ) → IsIn (run_of_arc g arc) k → place_at (cells_of g) k ≡ record { arc = arc; window = span_in (row_of arc) (k - (run_of_arc g arc).first) }
+      in_run k inside =
+          let j : ℕ = k - (run_of_arc g arc).first in
+          let same : first_in g.numbers.first arc.0 + j ≡ k = omega (arith, inside.from_first) in
+          let spot : spot_in g.numbers.spots k ≡ record { arc = arc; window = j } =
+          ap (spot_in g.numbers.spots) (sym same) ∙ numbered.block arc.0 j (omega (arith, below, room.arcs)) (omega (arith, inside.until_end, inside.from_first, room.room arc.0 below)) in
+          cell_is k (omega (arith, inside.until_end, run_inside.1, length-cells)) ∙ ap (place_of_spot g.windows) spot
 
-    pub run_first : (arc : Arc) → arc.0 < 2 * length windows → (get_or laid.first.items arc.0 0 ≡ (run_of_arc windows arc).first)
-    run_first arc below = are.first arc.0 (omega arith)
+  -- ---- each cell's window
 
-    pub run_until : (arc : Arc) → arc.0 < 2 * length windows → (get_or laid.first.items (arc.0 + 1) 0 ≡ (run_of_arc windows arc).until)
-    run_until arc below =
-        let next : arc.0 + 1 ≡ suc arc.0 = omega arith in
-        are.first (arc.0 + 1) (omega arith) ∙ ap (λ n. length (cells_before windows n)) next
+  -- none ends after what ends all
+  pub window_by : (horizon : ℕ) → All (All (λ w. w.until ≤ horizon)) g.windows → (k : ℕ) → (window_in g k).until ≤ horizon
+  window_by horizon by k =
+      All-at (λ (p : Place). p.window.until ≤ horizon) (cells_of g) k no_place (omega arith)
+      (All-map (λ (p : Place). p.window.until ≤ horizon) (place_of_spot g.windows) g.numbers.spots
+      (λ j d on. All-at (λ (w : Span). w.until ≤ horizon) (row_of (get_or g.numbers.spots j d).arc) (get_or g.numbers.spots j d).window no_span (omega arith)
+      (All-at (All (λ (w : Span). w.until ≤ horizon)) g.windows ((get_or g.numbers.spots j d).arc.0 / 2) [] (All-nil (λ (w : Span). w.until ≤ horizon)) by)))
 
-    module _ (apart : All (AreApart 0) windows) where
-      -- later cells of an arc neither begin nor end earlier
-      pub run_rising : (arc : Arc) → arc.0 < 2 * length windows → IsRising laid.cells.items (run_of_arc windows arc)
-      run_rising arc below = record {
-        inside = (let h = run_inside arc below in (h.0, omega (arith, h.1, laid_count)));
-        from = λ j k low le high. (both j k low le high).0;
-        until = λ j k low le high. (both j k low le high).1;
-      }
-        where
-          spans : List Span
-          spans = get_or windows (arc.0 / 2) []
-
-          many : length (cells_of_arc arc spans) ≡ length spans
-          many = length-map spans (λ w. record { arc = arc; window = w })
-
-          -- the cell at a place of the run has the window at that place of the list
-          read : (i : ℕ) → i < length spans → cell_at laid.cells.items ((run_of_arc windows arc).first + i) ≡ record { arc = arc; from = (get_or spans i no_span).from; until = (get_or spans i no_span).until }
-          read i on =
-              let inside = run_inside arc below in
-              let here : (run_of_arc windows arc).first + i < length (cells_in windows) = omega (arith, inside.1, many, length-append (cells_before windows arc.0) (cells_of_arc arc spans)) in
-              laid_at ((run_of_arc windows arc).first + i) here no_cell
-              ∙ ap cell_of_place (place_in_run windows (2 * length windows) arc.0 i no_place below (omega (arith, many)) ∙ get_or-map (λ w. record { arc = arc; window = w }) spans i no_span no_place on)
-
-          both : (j k : ℕ) → (run_of_arc windows arc).first ≤ j → j ≤ k → k < (run_of_arc windows arc).until
-              → ((cell_at laid.cells.items j).from ≤ (cell_at laid.cells.items k).from) × ((cell_at laid.cells.items j).until ≤ (cell_at laid.cells.items k).until)
-          both j k low le high =
-              let first : ℕ = (run_of_arc windows arc).first in
-              let k_on : k - first < length spans = omega (arith, many, length-append (cells_before windows arc.0) (cells_of_arc arc spans)) in
-              let at_j : first + (j - first) ≡ j = omega arith in
-              let at_k : first + (k - first) ≡ k = omega arith in
-              let read_j : cell_at laid.cells.items j ≡ record { arc = arc; from = (get_or spans (j - first) no_span).from; until = (get_or spans (j - first) no_span).until } = ap (cell_at laid.cells.items) (sym at_j) ∙ read (j - first) (omega arith) in
-              let read_k : cell_at laid.cells.items k ≡ record { arc = arc; from = (get_or spans (k - first) no_span).from; until = (get_or spans (k - first) no_span).until } = ap (cell_at laid.cells.items) (sym at_k) ∙ read (k - first) k_on in
-              elim (cases_lt j k) [
-                | inl before ↦
-                    let up = apart_in_order 0 spans (All-at (AreApart 0) windows (arc.0 / 2) [] tt apart) (j - first) (k - first) (omega arith) k_on in
-                    (omega (arith, up.0, up.1, ap (λ (x : PlaceCell). x.from) read_j, ap (λ (x : PlaceCell). x.from) read_k), omega (arith, up.1, up.2, ap (λ (x : PlaceCell). x.until) read_j, ap (λ (x : PlaceCell). x.until) read_k))
-                | inr not ↦
-                    let same : j ≡ k = omega arith in
-                    (omega (arith, ap (λ n. (cell_at laid.cells.items n).from) same), omega (arith, ap (λ n. (cell_at laid.cells.items n).until) same))
-              ]
-
-      -- a search may rest on them
-      pub laid_searched : AreSearched windows laid
-      laid_searched = record { are_laid = are; rising = run_rising }
-
--- ---- each cell's window
-
-all_of_arc : (P : Span → Type 0) (arc : Arc) (ws : List Span) → All P ws → All (λ (p : Place). P p.window) (cells_of_arc arc ws)
-all_of_arc P arc ws all = All-map (λ (p : Place). P p.window) (λ w. record { arc = arc; window = w }) ws all
-
-all_before : (P : Span → Type 0) (windows : List (List Span)) → ((k : ℕ) → All P (get_or windows k [])) → (n : ℕ) → All (λ (p : Place). P p.window) (cells_before windows n)
-all_before P windows all zero = All-nil (λ (p : Place). P p.window)
-all_before P windows all (suc n) =
-    All-append (λ (p : Place). P p.window) (cells_before windows n) (cells_of_arc (record { 0 = n }) (get_or windows (n / 2) [])) (all_before P windows all n)
-    (all_of_arc P (record { 0 = n }) (get_or windows (n / 2) []) (all (n / 2)))
-
--- none ends after what ends all
-pub window_by : (windows : List (List Span)) (horizon : ℕ) → All (All (λ w. w.until ≤ horizon)) windows → (k : ℕ) → (place_at (cells_in windows) k).window.until ≤ horizon
-window_by windows horizon by k =
-    All-at (λ (p : Place). p.window.until ≤ horizon) (cells_in windows) k no_place (omega arith)
-    (all_before (λ w. w.until ≤ horizon) windows (λ j. All-at (All (λ (w : Span). w.until ≤ horizon)) windows j [] (All-nil (λ (w : Span). w.until ≤ horizon)) by) (2 * length windows))
-
-each_in_order : (low : ℕ) (ws : List Span) → AreApart low ws → All (λ w. w.from ≤ w.until) ws
-each_in_order low [] apart = All-nil (λ (w : Span). w.from ≤ w.until)
-each_in_order low (w ∷ ws) apart = All-cons (λ (v : Span). v.from ≤ v.until) w ws (omega (arith, apart.1)) (each_in_order (w.until + 1) ws apart.2)
-
--- and none begins after its end
-pub window_from_by : (windows : List (List Span)) → All (AreApart 0) windows → (k : ℕ) → (place_at (cells_in windows) k).window.from ≤ (place_at (cells_in windows) k).window.until
-window_from_by windows apart k =
-    All-at (λ (p : Place). p.window.from ≤ p.window.until) (cells_in windows) k no_place (omega arith)
-    (all_before (λ w. w.from ≤ w.until) windows (λ j. each_in_order 0 (get_or windows j []) (All-at (AreApart 0) windows j [] tt apart)) (2 * length windows))
+  -- and none begins after its end
+  pub window_from_by : All (AreApart 0) g.windows → (k : ℕ) → (window_in g k).from ≤ (window_in g k).until
+  window_from_by apart k =
+      All-at (λ (p : Place). p.window.from ≤ p.window.until) (cells_of g) k no_place (omega arith)
+      (All-map (λ (p : Place). p.window.from ≤ p.window.until) (place_of_spot g.windows) g.numbers.spots
+      (λ j d on. in_order (get_or g.numbers.spots j d)))
+    where
+      in_order : (s : Spot) → (window_of_spot g.windows s).from ≤ (window_of_spot g.windows s).until
+      in_order s =
+          elim (cases_lt s.window (length (row_of s.arc))) [
+            | inl within ↦ omega (arith, (apart_at 0 (row_of s.arc) (All-at (AreApart 0) g.windows (s.arc.0 / 2) [] tt apart) s.window within).1)
+            | inr past ↦ let none : window_of_spot g.windows s ≡ no_span = get_or_past (row_of s.arc) s.window no_span past in omega (arith, ap (λ (w : Span). w.from) none)
+          ]

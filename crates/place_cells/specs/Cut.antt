@@ -1,22 +1,17 @@
--- Which part of a run of cells is not over before a second, and has begun by another?
-use Rattle.std.specs.Prelude.{ℕ, ◌<◌, ◌≤◌, List, length, slice_index_or}
+-- Which part of a row of windows is not over before a second, and has begun by another?
+use Rattle.std.specs.Prelude.{ℕ, ◌<◌, ◌≤◌, List, length}
+use Rattle.taxi_base.specs.declared.rows.Span.{Span}
 use Rattle.label_search.specs.declared.cells.Run.{Run}
 use Rattle.label_search.specs.Problem.{IsIn}
-use Rattle.place_cells.specs.declared.cells.PlaceCell.{PlaceCell}
+use Rattle.window_store.specs.Rows.{span_in}
 
-abbrev pub no_cell : PlaceCell
-no_cell = record { arc = record { 0 = 0 }; from = 0; until = 0 }
+-- the part is of windows of the row, and has each that does not end before `low` nor begin after `high`
+pub record IsCut (row : List Span) (low high : ℕ) (part : Run) : Type 0 where
+  pub ordered : part.first ≤ part.until
+  pub within : part.until ≤ length row
+  pub whole : (k : ℕ) → k < length row → low ≤ (span_in row k).until → (span_in row k).from ≤ high → IsIn part k
 
-abbrev pub cell_at : List PlaceCell → ℕ → PlaceCell
-cell_at cells k = slice_index_or cells k no_cell
-
--- later cells of the run neither begin nor end earlier
-pub record IsRising (cells : List PlaceCell) (run : Run) : Type 0 where
-  pub inside : (run.first ≤ run.until) × (run.until ≤ length cells)
-  pub from : (j k : ℕ) → run.first ≤ j → j ≤ k → k < run.until → (cell_at cells j).from ≤ (cell_at cells k).from
-  pub until : (j k : ℕ) → run.first ≤ j → j ≤ k → k < run.until → (cell_at cells j).until ≤ (cell_at cells k).until
-
--- the part lies in the run, and has each of its cells that does not end before `low` nor begin after `high`
-pub record IsCut (cells : List PlaceCell) (run : Run) (low high : ℕ) (part : Run) : Type 0 where
-  pub within : (k : ℕ) → IsIn part k → IsIn run k
-  pub whole : (k : ℕ) → IsIn run k → low ≤ (cell_at cells k).until → (cell_at cells k).from ≤ high → IsIn part k
+-- so many windows of a row end before a second, and the others do not
+pub record IsFirstNotOver (row : List Span) (second n : ℕ) : Type 0 where
+  pub few : n ≤ length row
+  pub over : (k : ℕ) → k < n → (span_in row k).until < second

@@ -1,38 +1,47 @@
--- Which cells are laid in a store's windows?
-use Rattle.std.specs.Prelude.{ℕ, suc, ◌≡◌, ◌*◌, ◌≤◌, ◌<◌, List, length, map, slice_index_or}
-use Rattle.taxi_base.specs.declared.numbers.Arc.{Arc}
+-- Which numbers have cells? Each arc has a block of them: first those of its segment's windows in order, then those left over.
+use Rattle.std.specs.Prelude.{ℕ, suc, ◌≡◌, ◌+◌, ◌*◌, ◌/◌, ◌≤◌, ◌<◌, List, [], length, map, slice_index_or}
 use Rattle.taxi_base.specs.declared.rows.Span.{Span}
 use Rattle.interval_list.specs.Intervals.{spans_of}
 use Rattle.window_store.specs.Store.{Store}
-use Rattle.label_search.specs.declared.cells.Run.{Run}
+use Rattle.window_store.specs.Rows.{no_span}
 use Rattle.walk_labels.specs.Places.{Place}
-use Rattle.walk_labels.specs.PlacesInWindows.{cells_before, cells_in}
-use Rattle.place_cells.specs.declared.cells.PlaceCell.{PlaceCell}
-use Rattle.place_cells.specs.declared.cells.PlaceCells.{PlaceCells}
-use Rattle.place_cells.specs.Cut.{IsRising}
+use Rattle.place_cells.specs.declared.spots.Spot.{Spot}
 
 -- the windows of a store, segment by segment
 abbrev pub windows_of : Store → List (List Span)
 windows_of store = map (λ l. spans_of l.intervals.windows) store.lists
 
--- the cell of an arc with a window, and back
-abbrev pub cell_of_place : Place → PlaceCell
-cell_of_place p = record { arc = p.arc; from = p.window.from; until = p.window.until }
+-- the spot of each number, and the first number of each arc's block and of the end
+pub record Numbers : Type 0 where
+  pub spots : List Spot
+  pub first : List ℕ
 
-abbrev pub place_of_cell : PlaceCell → Place
-place_of_cell x = record { arc = x.arc; window = record { from = x.from; until = x.until } }
+abbrev pub no_spot : Spot
+no_spot = record { arc = record { 0 = 0 }; window = 0 }
 
--- The cells are all, arc by arc. For each arc, and for the end, it is known how many come before its own.
-pub record AreLaid (windows : List (List Span)) (laid : PlaceCells) : Type 0 where
-  pub cells : laid.cells.items ≡ map cell_of_place (cells_in windows)
-  pub arcs : length laid.first.items ≡ suc (2 * length windows)
-  pub first : (arc : ℕ) → arc ≤ 2 * length windows → slice_index_or laid.first.items arc 0 ≡ length (cells_before windows arc)
+abbrev pub spot_in : List Spot → ℕ → Spot
+spot_in spots k = slice_index_or spots k no_spot
 
--- the numbers of an arc's cells
-abbrev pub run_of_arc : List (List Span) → Arc → Run
-run_of_arc windows arc = record { first = length (cells_before windows arc.0); until = length (cells_before windows (suc arc.0)) }
+abbrev pub first_in : List ℕ → ℕ → ℕ
+first_in first arc = slice_index_or first arc 0
 
--- they are laid, and in each arc's run later cells neither begin nor end earlier
-pub record AreSearched (windows : List (List Span)) (laid : PlaceCells) : Type 0 where
-  pub are_laid : AreLaid windows laid
-  pub rising : (arc : Arc) → arc.0 < 2 * length windows → IsRising laid.cells.items (run_of_arc windows arc)
+-- Blocks follow one another. A number is that of the spot whose place it has in the block of its arc.
+pub record AreNumbered (spots : List Spot) (first : List ℕ) : Type 0 where
+  pub rising : (a b : ℕ) → a ≤ b → b < length first → first_in first a ≤ first_in first b
+  pub inside : (a : ℕ) → a < length first → first_in first a ≤ length spots
+  pub block : (a j : ℕ) → suc a < length first → first_in first a + j < first_in first (suc a) → spot_in spots (first_in first a + j) ≡ record { arc = record { 0 = a }; window = j }
+  pub own : (k : ℕ) → k < length spots
+      → (suc (spot_in spots k).arc.0 < length first) × (first_in first (spot_in spots k).arc.0 + (spot_in spots k).window ≡ k) × (k < first_in first (suc (spot_in spots k).arc.0))
+
+-- each arc has numbers for the windows of its segment
+pub record HaveNumbers (windows : List (List Span)) (first : List ℕ) : Type 0 where
+  pub arcs : length first ≡ suc (2 * length windows)
+  pub room : (a : ℕ) → a < 2 * length windows → first_in first a + length (slice_index_or windows (a / 2) []) ≤ first_in first (suc a)
+
+-- the window of a spot: an empty one where there is none
+abbrev pub window_of_spot : List (List Span) → Spot → Span
+window_of_spot windows spot = slice_index_or (slice_index_or windows (spot.arc.0 / 2) []) spot.window no_span
+
+-- the arc of a spot with its window
+abbrev pub place_of_spot : List (List Span) → Spot → Place
+place_of_spot windows spot = record { arc = spot.arc; window = window_of_spot windows spot }

@@ -1,4 +1,5 @@
 pub mod Laid
+pub mod Blocks
 pub mod Cut
 pub mod Turns
 pub mod Ground

@@ -3,13 +3,15 @@
 #![tactic(auto)]
 
 mod answer;
-mod cells;
 mod cut;
 mod ground;
+mod numbers;
 mod reading;
 mod room;
+mod spots;
 
 pub use answer::{rows_of, steps_of};
-pub use cells::{PlaceCell, PlaceCells};
 pub use ground::SearchGround;
+pub use numbers::CellNumbers;
 pub use room::SearchRoom;
+pub use spots::{CellPlace, Spot};

@@ -1,47 +1,88 @@
 //! What a search asks of its ground.
-ghost use Rattle.std.specs.Prelude.{◌≡◌, ℕ, ◌<◌, length, unwrap_or, Some, IsTrue};
+ghost use Rattle.std.specs.Prelude.{◌≡◌, ℕ, ◌/◌, ◌<◌, length, unwrap_or, Some, is_some, IsTrue, IfSome};
 ghost use Rattle.taxi_base.specs.declared.numbers.Arc.{Arc as ArcNumber};
 ghost use Rattle.taxi_base.specs.declared.numbers.Node.{Node as NodeNumber};
 ghost use Rattle.taxi_base.specs.Airport.{arc_exists, tail, head, meet, segment_of, seconds_in};
 ghost use Rattle.label_search.specs.Problem.{cell_of};
-ghost use Rattle.walk_labels.specs.PlacesInWindows.{cells_in};
+ghost use Rattle.walk_labels.specs.Places.{place_at};
 ghost use Rattle.walk_labels.specs.Requests.{leads_to_one_of};
 ghost use Rattle.place_cells.specs.Turns.{next_arcs, previous_arcs, leaving_arcs, entering_arcs};
-ghost use Rattle.place_cells.specs.Laid.{run_of_arc};
-ghost use Rattle.place_cells.specs.Ground.{last_in, network_in, arc_in, can_use_in, IsArcPart};
-ghost use Rattle.place_cells.specs.Grounds.{ground_of};
+ghost use Rattle.place_cells.specs.Laid.{windows_of, window_of_spot};
+ghost use Rattle.place_cells.specs.Ground.{last_in, network_in, cells_of, run_of_arc, arc_in, can_use_in, usable_in, IsArcPart};
+ghost use Rattle.place_cells.specs.Grounds.{ground_of, place_of};
 
-use crate::cut::run_between;
+use crate::cut::part_between;
 use crate::ground::SearchGround;
+use crate::spots::{CellPlace, Spot};
 use label_search::{Cell, Run};
 use segment_graph::segment_of;
-use taxi_base::{Arc, Node, Time};
+use taxi_base::{Arc, Node, Span, Time};
 
 impl<'a> SearchGround<'a> {
-    /// How many cells there are.
+    /// How many numbers there are.
     pub fn count(&self) -> usize
-        ensures { result ≡ length (cells_in (ground_of self.now).windows) }
+        ensures { result ≡ length (cells_of (ground_of self.now)) }
     {
-        self.cells.cells.len()
+        self.numbers.spots.len()
     }
 
-    /// The arc of a cell.
+    /// The arc and the window of a number. Of one that is no cell's the window is empty.
+    pub fn place(&self, cell: usize) -> CellPlace
+        ensures { place_of result ≡ place_at (cells_of (ground_of self.now)) cell }
+    {
+        match self.numbers.spots.get(cell) {
+            None => CellPlace {
+                arc: Arc(0),
+                window: Span { from: 0, until: 0 },
+            },
+            Some(spot) => CellPlace {
+                arc: spot.arc,
+                window: self.window(*spot),
+            },
+        }
+    }
+
+    /// The window of a spot, an empty one where there is none.
+    fn window(&self, spot: Spot) -> Span
+        requires { spot.arc.0 / 2 < length self.now.store.now.lists }
+        ensures { result ≡ window_of_spot (windows_of self.now.store.now) spot }
+    {
+        match self.store.spans(segment_of(spot.arc)).get(spot.window) {
+            None => Span { from: 0, until: 0 },
+            Some(window) => *window,
+        }
+    }
+
+    /// The arc of a number.
     pub fn arc(&self, cell: usize) -> Arc
-        requires { cell < length (cells_in (ground_of self.now).windows) }
+        requires { cell < length (cells_of (ground_of self.now)) }
         ensures { result ≡ arc_in (ground_of self.now) cell }
     {
-        self.cells.cells[cell].arc
+        self.numbers.spots[cell].arc
+    }
+
+    /// The arc of a number, if it is that of a cell.
+    pub fn usable(&self, cell: usize) -> Option<Arc>
+        requires { cell < length (cells_of (ground_of self.now)) }
+        ensures some { IfSome result (λ arc. arc ≡ arc_in (ground_of self.now) cell) }
+        ensures is { is_some result ≡ usable_in (ground_of self.now) cell }
+    {
+        let place = self.place(cell);
+        if self.can_use(place.arc) && place.window.from < place.window.until {
+            Some(place.arc)
+        } else {
+            None
+        }
     }
 
     /// The window of a cell, the last second at which a step may leave in it, and the seconds that the class takes.
     pub fn cell(&self, cell: usize) -> Cell
-        requires { cell < length (cells_in (ground_of self.now).windows) }
         ensures { result ≡ cell_of (network_in (ground_of self.now)) cell }
     {
-        let place = self.cells.cells[cell];
+        let place = self.place(cell);
         Cell {
-            from: place.from,
-            last: last_second(place.until, self.horizon, self.clearance),
+            from: place.window.from,
+            last: last_second(place.window.until, self.horizon, self.clearance),
             seconds: self.seconds(place.arc),
         }
     }
@@ -123,11 +164,13 @@ impl<'a> SearchGround<'a> {
     /// The cells of an arc.
     pub fn run(&self, arc: Arc) -> Run
         requires { IsTrue (arc_exists (ground_of self.now).layout arc) }
-        ensures { result ≡ run_of_arc (ground_of self.now).windows arc }
+        ensures { result ≡ run_of_arc (ground_of self.now) arc }
     {
+        let first = self.numbers.first[arc.0 as usize];
+        let windows = self.store.spans(segment_of(arc)).len();
         Run {
-            first: self.cells.first[arc.0 as usize],
-            until: self.cells.first[arc.0 as usize + 1],
+            first,
+            until: first + windows,
         }
     }
 
@@ -136,9 +179,14 @@ impl<'a> SearchGround<'a> {
         requires { IsTrue (arc_exists (ground_of self.now).layout arc) }
         ensures { IsArcPart (ground_of self.now) arc low high result }
     {
-        match self.classes.seconds(self.class, segment_of(arc)) {
-            None => Run { first: 0, until: 0 },
-            Some(_) => run_between(&self.cells.cells, self.run(arc), low, high),
+        if self.classes.seconds(self.class, segment_of(arc)).is_none() {
+            return Run { first: 0, until: 0 };
+        }
+        let first = self.numbers.first[arc.0 as usize];
+        let part = part_between(self.store.spans(segment_of(arc)), low, high);
+        Run {
+            first: first + part.first,
+            until: first + part.until,
         }
     }
 }

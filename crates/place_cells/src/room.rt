@@ -1,5 +1,5 @@
 //! What searches use up.
-use crate::cells::PlaceCells;
+use crate::numbers::CellNumbers;
 use label_search::LabelRoom;
 use std::alloc::Global;
 use taxi_base::Memory;
@@ -7,7 +7,7 @@ use taxi_base::Memory;
 /// What searches use up, kept from one to the next so that none makes it anew.
 #[derive(Drop)]
 pub struct SearchRoom {
-    pub cells: PlaceCells,
+    pub numbers: CellNumbers,
     pub labels: LabelRoom,
 }
 
@@ -15,7 +15,7 @@ impl SearchRoom {
     /// Room for no search yet. It grows with the searches.
     pub fn new(alloc: Global) -> Result<SearchRoom, Memory> {
         Ok(SearchRoom {
-            cells: PlaceCells::new(alloc),
+            numbers: CellNumbers::new(alloc),
             labels: LabelRoom::new(alloc)?,
         })
     }

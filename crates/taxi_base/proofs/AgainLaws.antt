@@ -34,7 +34,8 @@ IsFeasibleWalk-back_changed c (f ∷ []) s t old new walk arc enter again =
 IsFeasibleWalk-back_changed c (f ∷ g ∷ front) s t old new walk arc enter again =
     (walk.0, walk.1, IsFeasibleWalk-back_changed c (g ∷ front) s t old new walk.2 arc enter again)
 
-end_of-back : (front : List Step) (t : Step) (back : List Step) → end_of (front ++ t ∷ back) ≡ end_of (t ∷ back)
+-- the end of a list is that of its back
+pub end_of-back : (front : List Step) (t : Step) (back : List Step) → end_of (front ++ t ∷ back) ≡ end_of (t ∷ back)
 end_of-back [] t back = refl
 end_of-back (f ∷ []) t back = refl
 end_of-back (f ∷ g ∷ front) t back = end_of-back (g ∷ front) t back
@@ -63,7 +64,8 @@ parted (t ∷ steps) zero s h = (steps, ap (λ u. u ∷ steps) (same h)) where
   same e = cc
 parted (t ∷ steps) (suc k) s h = let rest = parted steps k s h in (rest.0, ap (λ us. t ∷ us) rest.1)
 
-begun-parts : (time : ℕ) (old : List Step) (begun : Step) → step_begun time old ≡ Some begun → (later : List Step) × (old ≡ steps_done time old ++ begun ∷ later)
+-- where a step was begun, the steps done come before it
+pub begun-parts : (time : ℕ) (old : List Step) (begun : Step) → step_begun time old ≡ Some begun → (later : List Step) × (old ≡ steps_done time old ++ begun ∷ later)
 begun-parts time old begun h = go (entered_count time old) h where
   go : (k : ℕ) → slice_get (take k old) (k - 1) ≡ Some begun → (later : List Step) × (old ≡ take (k - 1) old ++ begun ∷ later)
   go zero h = absurd (none-some begun h)
@@ -77,7 +79,8 @@ module _ (c : Conditions) (old : List Step) (time : ℕ) (begun : Step) (target 
   abbrev IsWayOn : List Step → Type 0
   IsWayOn rest = IsRoute c (Resumes begun time) (ReachesNode (layout_of c.airport) target) rest
 
-  resumed-way : (done steps : List Step) → IsResumed c done begun time target steps → (rest : List Step) × IsWayOn rest × (end_of steps ≡ end_of rest)
+  -- a walk that goes on with the step begun has a way on at its end
+  pub resumed-way : (done steps : List Step) → IsResumed c done begun time target steps → (rest : List Step) × IsWayOn rest × (end_of steps ≡ end_of rest)
   resumed-way done steps resumed = go resumed.rest resumed.joined resumed.begins resumed.ends where
     go : (rest : List Step) → steps ≡ done ++ rest → AtFirst (Resumes begun time) rest → AtLast (ReachesNode (layout_of c.airport) target) rest
         → (rest : List Step) × IsWayOn rest × (end_of steps ≡ end_of rest)

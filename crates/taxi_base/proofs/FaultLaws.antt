@@ -1,5 +1,5 @@
 -- The first fault of a route: there is none just where the route is a feasible walk. The same of shutting a segment.
-use Rattle.std.proofs.Common.{◌≡◌, ℕ, zero, suc, ◌+◌, ◌-◌, ◌<◌, ◌≤◌, Bool, not, List, [], ◌∷◌, length, map, inl, inr, IsTrue, IsFalse, Option, Some, None, refl, sym, subst, arith, ◌↔◌}
+use Rattle.std.proofs.Common.{◌≡◌, ℕ, zero, suc, ◌+◌, ◌-◌, ◌<◌, ◌≤◌, Bool, not, List, [], ◌∷◌, length, map, inl, inr, IsTrue, IsFalse, Option, Some, None, refl, sym, ap, subst, arith, ◌↔◌}
 use Rattle.std.specs.Prelude.{All, flat_map, option_map}
 use Rattle.std.specs.List.{list_any, find, range_with_len}
 use Rattle.std.specs.Option.{option_map_or}
@@ -52,6 +52,19 @@ taken-some free a (suc n) t h =
   where
     some_same : Some a ≡ Some t → a ≡ t
     some_same e = cc
+
+-- a second that is taken, with none before it, is the first
+taken-at : (free : ℕ → Bool) (a n t : ℕ) → a ≤ t → t < a + n → IsFalse (free t) → ((u : ℕ) → a ≤ u → u < t → IsTrue (free u)) → find (λ t. not (free t)) (range_with_len a n) ≡ Some t
+taken-at free a zero t low high shut before = absurd (omega arith)
+taken-at free a (suc n) t low high shut before =
+    elim (cases_lt a t) [
+      | inl later ↦ rw (before a (omega arith) later) (taken-at free (a + 1) n t (omega arith) (omega arith) shut (λ u from until. before u (omega arith) until))
+      | inr now ↦ let e : t ≡ a = omega arith in rw (rw e at shut) (ap Some (sym e))
+    ]
+
+pub first_taken-at : (free : ℕ → Bool) (span : Span) (t : ℕ) → span.from ≤ t → t < span.until → IsFalse (free t) → ((u : ℕ) → span.from ≤ u → u < t → IsTrue (free u))
+    → first_taken free span ≡ Some t
+first_taken-at free span t low high shut before = taken-at free span.from (span.until - span.from) t low (omega arith) shut before
 
 -- there is none just where each second of the span is free
 pub first_taken-None : (free : ℕ → Bool) (span : Span) → (first_taken free span ≡ None) ↔ AllFree free span

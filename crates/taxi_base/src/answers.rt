@@ -82,7 +82,5 @@ pub enum Refusal {
     AlreadyMoving { start: Time },
     Full,
     Step(StepFault),
-    /// The command's form is not answered yet.
-    NotBuilt,
     Memory,
 }

@@ -1,73 +1,89 @@
 -- The status that is due, where the files are told: each outcome has it.
-use Rattle.std.proofs.Common.{◌≡◌, ◌<◌, ◌≤◌, ◌∙◌, ◌⊎◌, inl, inr, ℕ, List, Bool, true, false, length, refl, sym, ap, subst, cond, nat_lt, Option, Some, None, Result, Ok, Err, arith}
+use Rattle.std.proofs.Common.{◌≡◌, ◌≤◌, ◌⊎◌, inl, inr, ℕ, List, length, refl, sym, subst, Option, Some, None, Result, Ok, Err}
 use Rattle.taxi_base.specs.Airport.{Airport}
+use Rattle.taxi_text.specs.Lines.{commands_of}
 use Rattle.taxi_io.specs.Counts.{Rose}
 use Rattle.taxi_io.specs.Files.{Files, IsFile, IsLonger, file_of}
-use Rattle.airport_file.specs.Reading.{RecordFault, airport_of}
+use Rattle.airport_file.specs.Reading.{RecordFault}
 use Rattle.taxi_cli.specs.declared.status.Status.{Status}
 use Rattle.taxi_cli.specs.declared.status.Status.TheVariants as status
-use Rattle.taxi_cli.specs.Asked.{Asked, Route, Migrate}
-use Rattle.taxi_cli.specs.Outcomes.{airport_limit, commands_limit, IsJudged, IsDoneText, IsRefused, IsTooLarge, due_to_commands, due_to_judgement, due_to_airport, due_to}
+use Rattle.taxi_cli.specs.Asked.{FileNames, Asked, Route, Check, Migrate}
+use Rattle.taxi_cli.specs.Outcomes.{airport_limit, commands_limit, transcript_limit, IsJudged, AreAccepted, IsDoneText, IsWrongText, IsRefused, IsRunTooLarge, IsTooLarge}
+use Rattle.taxi_cli.specs.Due.{IsDueOfFile, IsDueOfJudgement, IsDueOfAirport, IsDueOfTranscript, IsDueOfRun, IsDueOf}
 use Rattle.taxi_cli.specs.Endings.{Call, Ends}
 
-not-longer : (m n : ℕ) → n ≤ m → nat_lt m n ≡ false
-not-longer m n h = grind (arith, h)
+file-due : (files : Files) (name bytes : List ℕ) (limit : ℕ) (Within : List ℕ → Type 0) (due : Status)
+    → IsFile (Some files) name bytes → length bytes ≤ limit → Within bytes → IsDueOfFile (file_of files name) limit Within due
+file-due files name bytes limit Within due file within holds = subst (λ (f : Option (List ℕ)). IsDueOfFile f limit Within due) (sym file) (inr (within, holds))
 
-is-longer : (m n : ℕ) → m < n → nat_lt m n ≡ true
-is-longer m n h = grind (arith, h)
+longer-due : (files : Files) (name : List ℕ) (limit : ℕ) (Within : List ℕ → Type 0)
+    → IsLonger (Some files) name limit → IsDueOfFile (file_of files name) limit Within status.TooLarge
+longer-due files name limit Within longer = subst (λ (f : Option (List ℕ)). IsDueOfFile f limit Within status.TooLarge) (sym longer.1) (inl (longer.2, refl))
 
-judged-due : (files : Files) (name : List ℕ) (judgement : Result Airport RecordFault) (accepted : Option Status) → IsJudged (Some files) name judgement
-    → due_to_airport (file_of files name) accepted ≡ due_to_judgement judgement accepted
-judged-due files name judgement accepted judged =
-    ap (λ (file : Option (List ℕ)). due_to_airport file accepted) judged.file
-    ∙ ap (λ (long : Bool). cond long (Some status.TooLarge) (due_to_judgement (airport_of judged.bytes) accepted)) (not-longer airport_limit (length judged.bytes) judged.within)
-    ∙ ap (λ (j : Result Airport RecordFault). due_to_judgement j accepted) judged.judged
+judged-due : (files : Files) (name : List ℕ) (judgement : Result Airport RecordFault) (Accepted : Airport → Type 0) (due : Status)
+    → IsJudged (Some files) name judgement → IsDueOfJudgement judgement Accepted due → IsDueOfAirport (file_of files name) Accepted due
+judged-due files name judgement Accepted due judged holds =
+    file-due files name judged.bytes airport_limit _ due judged.file judged.within
+    (subst (λ (j : Result Airport RecordFault). IsDueOfJudgement j Accepted due) (sym judged.judged) holds)
 
-longer-due : (files : Files) (name : List ℕ) (accepted : Option Status) → IsLonger (Some files) name airport_limit → due_to_airport (file_of files name) accepted ≡ Some status.TooLarge
-longer-due files name accepted longer =
-    ap (λ (file : Option (List ℕ)). due_to_airport file accepted) longer.1
-    ∙ ap (λ (long : Bool). cond long (Some status.TooLarge) (due_to_judgement (airport_of longer.0) accepted)) (is-longer airport_limit (length longer.0) longer.2)
+run-due : (files : Files) (names : FileNames) (airport : Airport) (commands : List ℕ) (Accepted : Airport → List (List ℕ) → Type 0) (due : Status)
+    → AreAccepted (Some files) names airport commands → Accepted airport (commands_of commands) → IsDueOfRun files names Accepted due
+run-due files names airport commands Accepted due accepted holds =
+    judged-due files names.airport (Ok airport) _ due accepted.accepted (file-due files names.commands commands commands_limit _ due accepted.file accepted.within holds)
 
-commands-due : (files : Files) (name bytes : List ℕ) → IsFile (Some files) name bytes → length bytes ≤ commands_limit → due_to_commands (file_of files name) ≡ Some status.Done
-commands-due files name bytes file within =
-    ap due_to_commands file ∙ ap (λ (long : Bool). Some (cond long status.TooLarge status.Done)) (not-longer commands_limit (length bytes) within)
+run-large : (files : Files) (names : FileNames) (Accepted : Airport → List (List ℕ) → Type 0) → IsRunTooLarge (Some files) names → IsDueOfRun files names Accepted status.TooLarge
+run-large files names Accepted (inl longer) = longer-due files names.airport airport_limit _ longer
+run-large files names Accepted (inr (airport, accepted, longer)) =
+    judged-due files names.airport (Ok airport) _ status.TooLarge accepted (longer-due files names.commands commands_limit _ longer)
 
-commands-long : (files : Files) (name bytes : List ℕ) → IsFile (Some files) name bytes → commands_limit < length bytes → due_to_commands (file_of files name) ≡ Some status.TooLarge
-commands-long files name bytes file longer =
-    ap due_to_commands file ∙ ap (λ (long : Bool). Some (cond long status.TooLarge status.Done)) (is-longer commands_limit (length bytes) longer)
+-- what is due of a check where its airport and commands are accepted
+abbrev OfCheck : Files → List ℕ → Status → Airport → List (List ℕ) → Type 0
+OfCheck files transcript due airport commands = IsDueOfFile (file_of files transcript) transcript_limit (λ text. IsDueOfTranscript airport commands text due) due
 
-done-due : (files : Files) (asked : Asked) (text : List ℕ) → IsDoneText (Some files) asked text → due_to files (Some asked) ≡ Some status.Done
-done-due files (Route names) text t = judged-due files names.airport (Ok t.airport) (due_to_commands (file_of files names.commands)) t.accepted.accepted ∙ commands-due files names.commands t.commands t.accepted.file t.accepted.within
-done-due files (Migrate airport) text t = judged-due files airport (Ok t.airport) (Some status.Done) t.accepted
+done-due : (files : Files) (asked : Asked) (text : List ℕ) → IsDoneText (Some files) asked text → IsDueOf files (Some asked) status.Done
+done-due files (Route names) text t = run-due files names t.airport t.commands (λ airport commands. status.Done ≡ status.Done) status.Done t.accepted refl
+done-due files (Check names transcript) text t =
+    run-due files names t.airport t.commands (OfCheck files transcript status.Done) status.Done t.files.accepted
+    (file-due files transcript t.bytes transcript_limit (λ text. IsDueOfTranscript t.airport (commands_of t.commands) text status.Done) status.Done t.files.file t.files.within
+    (inl ((t.blocks, t.right), refl)))
+done-due files (Migrate airport) text t = judged-due files airport (Ok t.airport) _ status.Done t.accepted refl
 
-refused-due : (files : Files) (asked : Asked) (fault : RecordFault) → IsRefused (Some files) asked fault → due_to files (Some asked) ≡ Some status.AirportRefused
-refused-due files (Route names) fault judged = judged-due files names.airport (Err fault) (due_to_commands (file_of files names.commands)) judged
-refused-due files (Migrate airport) fault judged = judged-due files airport (Err fault) (Some status.Done) judged
+wrong-due : (files : Files) (asked : Asked) (text : List ℕ) → IsWrongText (Some files) asked text → IsDueOf files (Some asked) status.Wrong
+wrong-due files (Route names) text t = absurd t
+wrong-due files (Check names transcript) text t =
+    run-due files names t.airport t.commands (OfCheck files transcript status.Wrong) status.Wrong t.files.accepted
+    (file-due files transcript t.bytes transcript_limit (λ text. IsDueOfTranscript t.airport (commands_of t.commands) text status.Wrong) status.Wrong t.files.file t.files.within
+    (inr ((t.number, t.why, t.wrong), refl)))
+wrong-due files (Migrate airport) text t = absurd t
 
-the-same : {x y z : Status} → Some x ≡ Some y → z ≡ x → z ≡ y
-the-same e h = cc (e, h)
+refused-due : (files : Files) (asked : Asked) (fault : RecordFault) → IsRefused (Some files) asked fault → IsDueOf files (Some asked) status.AirportRefused
+refused-due files (Route names) fault judged = judged-due files names.airport (Err fault) _ status.AirportRefused judged refl
+refused-due files (Check names transcript) fault judged = judged-due files names.airport (Err fault) _ status.AirportRefused judged refl
+refused-due files (Migrate airport) fault judged = judged-due files airport (Err fault) _ status.AirportRefused judged refl
 
-too_large-due : (files : Files) (asked : Asked) → IsTooLarge (Some files) asked → due_to files (Some asked) ≡ Some status.TooLarge
-too_large-due files (Route names) (inl longer) = longer-due files names.airport (due_to_commands (file_of files names.commands)) longer
-too_large-due files (Route names) (inr (airport, accepted, longer)) =
-    judged-due files names.airport (Ok airport) (due_to_commands (file_of files names.commands)) accepted ∙ commands-long files names.commands longer.0 longer.1 longer.2
-too_large-due files (Migrate airport) longer = longer-due files airport (Some status.Done) longer
+too_large-due : (files : Files) (asked : Asked) → IsTooLarge (Some files) asked → IsDueOf files (Some asked) status.TooLarge
+too_large-due files (Route names) large = run-large files names (λ airport commands. status.TooLarge ≡ status.Done) large
+too_large-due files (Check names transcript) (inl large) = run-large files names (OfCheck files transcript status.TooLarge) large
+too_large-due files (Check names transcript) (inr (airport, commands, accepted, longer)) =
+    run-due files names airport commands (OfCheck files transcript status.TooLarge) status.TooLarge accepted
+    (longer-due files transcript transcript_limit (λ text. IsDueOfTranscript airport (commands_of commands) text status.TooLarge) longer)
+too_large-due files (Migrate airport) longer = longer-due files airport airport_limit _ longer
 
 -- a call that ends where no fault was counted ends with the status that is due, but for want of memory
-pub due-is : (call : Call) (files : Files) (asked : Option Asked) (ended due : Status) → call.files ≡ Some files → Ends call asked ended → due_to files asked ≡ Some due
-    → (Rose call.reads.0 call.reads.1 → ⊥) → (Rose call.writes.0 call.writes.1 → ⊥) → (ended ≡ due) ⊎ (ended ≡ status.Memory)
-due-is call files None status.Usage due told ends is no_read no_write = inl (the-same is refl)
-due-is call files None status.Done due told ends is no_read no_write = absurd ends.1
-due-is call files None status.AirportRefused due told ends is no_read no_write = absurd ends.1
-due-is call files None status.ReadFault due told ends is no_read no_write = absurd ends.1
-due-is call files None status.TooLarge due told ends is no_read no_write = absurd ends.1
-due-is call files (Some asked) status.Usage due told ends is no_read no_write = absurd ends.1
-due-is call files (Some asked) status.Done due told ends is no_read no_write = inl (the-same (sym (done-due files asked ends.0 (subst (λ t. IsDoneText t asked ends.0) told ends.1)) ∙ is) refl)
-due-is call files (Some asked) status.AirportRefused due told ends is no_read no_write =
-    inl (the-same (sym (refused-due files asked ends.1.0 (subst (λ t. IsRefused t asked ends.1.0) told ends.1.1)) ∙ is) refl)
-due-is call files (Some asked) status.ReadFault due told ends is no_read no_write = absurd (no_read ends.1.0)
-due-is call files (Some asked) status.TooLarge due told ends is no_read no_write =
-    inl (the-same (sym (too_large-due files asked (subst (λ t. IsTooLarge t asked) told ends.1.0)) ∙ is) refl)
-due-is call files asked status.WriteFault due told ends is no_read no_write = absurd (no_write ends.0)
-due-is call files asked status.Memory due told ends is no_read no_write = inr refl
-due-is call files asked status.Wrong due told ends is no_read no_write = absurd ends
+pub due-is : (call : Call) (files : Files) (asked : Option Asked) (ended : Status) → call.files ≡ Some files → Ends call asked ended
+    → (Rose call.reads.0 call.reads.1 → ⊥) → (Rose call.writes.0 call.writes.1 → ⊥) → IsDueOf files asked ended ⊎ (ended ≡ status.Memory)
+due-is call files None status.Usage told ends no_read no_write = inl refl
+due-is call files None status.Done told ends no_read no_write = absurd ends.1
+due-is call files None status.AirportRefused told ends no_read no_write = absurd ends.1
+due-is call files None status.ReadFault told ends no_read no_write = absurd ends.1
+due-is call files None status.TooLarge told ends no_read no_write = absurd ends.1
+due-is call files None status.Wrong told ends no_read no_write = absurd ends.1
+due-is call files (Some asked) status.Usage told ends no_read no_write = absurd ends.1
+due-is call files (Some asked) status.Done told ends no_read no_write = inl (done-due files asked ends.0 (subst (λ t. IsDoneText t asked ends.0) told ends.1))
+due-is call files (Some asked) status.AirportRefused told ends no_read no_write =
+    inl (refused-due files asked ends.1.0 (subst (λ t. IsRefused t asked ends.1.0) told ends.1.1))
+due-is call files (Some asked) status.ReadFault told ends no_read no_write = absurd (no_read ends.1.0)
+due-is call files (Some asked) status.TooLarge told ends no_read no_write = inl (too_large-due files asked (subst (λ t. IsTooLarge t asked) told ends.1.0))
+due-is call files (Some asked) status.Wrong told ends no_read no_write = inl (wrong-due files asked ends.0 (subst (λ t. IsWrongText t asked ends.0) told ends.1))
+due-is call files asked status.WriteFault told ends no_read no_write = absurd (no_write ends.0)
+due-is call files asked status.Memory told ends no_read no_write = inr refl

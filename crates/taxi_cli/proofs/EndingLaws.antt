@@ -6,9 +6,9 @@ use Rattle.taxi_io.specs.Counts.{Rose}
 use Rattle.taxi_io.specs.declared.trouble.Trouble.{Trouble}
 use Rattle.taxi_io.specs.declared.trouble.Trouble.TheVariants as trouble
 use Rattle.taxi_cli.specs.declared.status.Status.{Status}
-use Rattle.taxi_cli.specs.declared.status.Status.TheVariants.{Done, Usage, AirportRefused, ReadFault, WriteFault, Memory, TooLarge, Wrong}
+use Rattle.taxi_cli.specs.declared.status.Status.TheVariants.{Done, AirportRefused, ReadFault, TooLarge, Wrong}
 use Rattle.taxi_io.proofs.Pieces.{grew-nothing}
-use Rattle.taxi_cli.specs.Lines.{refusal_line, read_fault_line, too_large_line}
+use Rattle.taxi_cli.specs.Lines.{refusal_line, read_fault_line, too_large_line, ok_line, wrong_line}
 use Rattle.taxi_cli.specs.Runs.{transcript}
 use Rattle.taxi_io.specs.Files.{Files}
 use Rattle.taxi_cli.specs.Stops.{IsCauseOfAirport, IsCause, StopsWith}
@@ -16,8 +16,11 @@ use Rattle.taxi_cli.specs.declared.words.Asked.{Asked as LentAsked}
 use Rattle.taxi_cli.specs.LentWords.{asked_for, asked_as}
 use Rattle.taxi_cli.specs.declared.inputs.Stop.{Stop}
 use Rattle.taxi_cli.specs.declared.inputs.Stop.TheVariants as stop
-use Rattle.taxi_cli.specs.Asked.{FileNames, Asked, Route, Migrate, asked_by}
-use Rattle.taxi_cli.specs.Outcomes.{AreAccepted}
+use Rattle.taxi_cli.specs.Asked.{FileNames, Asked, Route, Check, Migrate, asked_by}
+use Rattle.taxi_cli.specs.declared.failure.Failure.{Failure}
+use Rattle.taxi_cli.specs.declared.checking.Verdict.TheVariants as verdict
+use Rattle.taxi_cli.specs.Verdicts.{IsVerdict}
+use Rattle.taxi_cli.specs.Outcomes.{AreAccepted, AreToCheck}
 use Rattle.taxi_cli.specs.Endings.{Call, IsDueText, IsWhole, Ends}
 use Rattle.taxi_cli.specs.LastLine.{status_after, IsWriting, EndsWith}
 use Rattle.taxi_cli.specs.WrittenRuns.{IsWrittenRun}
@@ -45,6 +48,32 @@ run-ends call names at airport text commands written status accepted same_airpor
     rw ends (writing-ends call (Some (Route names)) Done (transcript at run.blocks) written
     (record { airport = at; commands = text; accepted = rw (same_airport, same_text) accepted; blocks = run.blocks; after = run.after; run = run.run; whole = refl })
     (record { whole = run.whole; front = run.front; failed = failed }) (λ whole. whole))
+
+-- the writing of what a check finds ends the call
+pub right-ends : (call : Call) (names : FileNames) (transcript : List ℕ) (airport : Airport) (commands bytes : List ℕ) (count : ℕ) (line : List ℕ) (status : Status)
+    → AreToCheck call.files names transcript airport commands bytes → IsVerdict airport (commands_of commands) bytes (verdict.Right count)
+    → line ≡ ok_line count → EndsWith line Done call.writes call.taken status → Ends call (Some (Check names transcript)) status
+right-ends call names transcript airport commands bytes count line status files right same ends =
+    last-ends call (Some (Check names transcript)) Done (ok_line count) line status
+    (record {
+      airport = airport;
+      commands = commands;
+      bytes = bytes;
+      files = files;
+      blocks = right.0;
+      right = right.1;
+      trusted = right.2;
+      whole = ap ok_line right.3;
+    })
+    same ends (λ whole. whole)
+
+pub wrong-ends : (call : Call) (names : FileNames) (transcript : List ℕ) (airport : Airport) (commands bytes : List ℕ) (number : ℕ) (why : Failure) (line : List ℕ) (status : Status)
+    → AreToCheck call.files names transcript airport commands bytes → IsVerdict airport (commands_of commands) bytes (verdict.Wrong number why)
+    → line ≡ wrong_line number why → EndsWith line Wrong call.writes call.taken status → Ends call (Some (Check names transcript)) status
+wrong-ends call names transcript airport commands bytes number why line status files wrong same ends =
+    last-ends call (Some (Check names transcript)) Wrong (wrong_line number why) line status
+    (record { airport = airport; commands = commands; bytes = bytes; files = files; number = number; why = why; wrong = wrong; whole = refl })
+    same ends (λ whole. whole)
 
 -- what stopped the reading ends the call
 pub stop-ends : (call : Call) (asked : Asked) (why : Stop) (status : Status)

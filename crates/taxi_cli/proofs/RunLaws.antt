@@ -5,20 +5,20 @@ use Rattle.taxi_base.specs.State.{State, no_holder, IsSound}
 use Rattle.taxi_base.proofs.StateLaws.{IsSound-nil}
 use Rattle.certificate.specs.declared.block.Block.{Block}
 use Rattle.certificate.proofs.ReplyLaws.{IsAnswered-sound, reply-is_there}
-use Rattle.taxi_cli.specs.Runs.{IsRun}
+use Rattle.taxi_cli.specs.Runs.{InTurn, IsRun}
 
 -- an airport without holders is sound
 pub none-sound : (airport : Airport) → IsSound airport no_holder
 none-sound airport = IsSound-nil airport
 
--- a run and one that goes on from it make one run
-pub IsRun-append : (airport : Airport) (before between after : State) (lines more : List (List ℕ)) (blocks others : List Block)
-    → IsRun airport before lines blocks between → IsRun airport between more others after → IsRun airport before (lines ++ more) (blocks ++ others) after
-IsRun-append airport before between after [] more [] others run rest = rw run at rest
-IsRun-append airport before between after [] more (block ∷ blocks) others run rest = absurd run
-IsRun-append airport before between after (line ∷ lines) more [] others run rest = absurd run
-IsRun-append airport before between after (line ∷ lines) more (block ∷ blocks) others run rest =
-    (run.0, run.1, IsRun-append airport run.0 between after lines more blocks others run.2 rest)
+-- lines that meet their blocks in turn, and others that go on from them, do so together
+pub in_turn-append : (IsMet : Airport → State → List ℕ → Block → State → Type 0) (airport : Airport) (before between after : State) (lines more : List (List ℕ)) (blocks others : List Block)
+    → InTurn IsMet airport before lines blocks between → InTurn IsMet airport between more others after → InTurn IsMet airport before (lines ++ more) (blocks ++ others) after
+in_turn-append IsMet airport before between after [] more [] others run rest = rw run at rest
+in_turn-append IsMet airport before between after [] more (block ∷ blocks) others run rest = absurd run
+in_turn-append IsMet airport before between after (line ∷ lines) more [] others run rest = absurd run
+in_turn-append IsMet airport before between after (line ∷ lines) more (block ∷ blocks) others run rest =
+    (run.0, run.1, in_turn-append IsMet airport run.0 between after lines more blocks others run.2 rest)
 
 -- a run keeps the flights sound
 pub IsRun-sound : (airport : Airport) (before after : State) (lines : List (List ℕ)) (blocks : List Block)
@@ -39,11 +39,11 @@ run-over airport before (line ∷ lines) sound =
     let rest = run-over airport reply.0.after lines answered.sound in
     (reply.0.block ∷ rest.0, rest.1, (reply.0.after, answered, rest.2))
 
--- a run has a block for each line
-pub IsRun-length : (airport : Airport) (before after : State) (lines : List (List ℕ)) (blocks : List Block)
-    → IsRun airport before lines blocks after → length blocks ≡ length lines
-IsRun-length airport before after [] [] run = refl
-IsRun-length airport before after [] (block ∷ blocks) run = absurd run
-IsRun-length airport before after (line ∷ lines) [] run = absurd run
-IsRun-length airport before after (line ∷ lines) (block ∷ blocks) run =
-    let rest = IsRun-length airport run.0 after lines blocks run.2 in omega (arith, rest)
+-- there is a block for each line
+pub in_turn-length : (IsMet : Airport → State → List ℕ → Block → State → Type 0) (airport : Airport) (before after : State) (lines : List (List ℕ)) (blocks : List Block)
+    → InTurn IsMet airport before lines blocks after → length blocks ≡ length lines
+in_turn-length IsMet airport before after [] [] run = refl
+in_turn-length IsMet airport before after [] (block ∷ blocks) run = absurd run
+in_turn-length IsMet airport before after (line ∷ lines) [] run = absurd run
+in_turn-length IsMet airport before after (line ∷ lines) (block ∷ blocks) run =
+    let rest = in_turn-length IsMet airport run.0 after lines blocks run.2 in omega (arith, rest)

@@ -18,7 +18,7 @@ use Rattle.certificate.specs.Texts.{block_text}
 use Rattle.certificate.specs.Replies.{IsAnswered}
 use Rattle.taxi_cli.specs.Runs.{IsRun, blocks_text, done_line, transcript}
 use Rattle.taxi_cli.specs.WrittenRuns.{IsWrittenRun}
-use Rattle.taxi_cli.proofs.RunLaws.{none-sound, IsRun-append, IsRun-sound, IsRun-length, run-over}
+use Rattle.taxi_cli.proofs.RunLaws.{none-sound, in_turn-append, IsRun-sound, in_turn-length, run-over}
 
 -- the lines that hold commands
 abbrev pub commands_in : List (List ℕ) → List (List ℕ)
@@ -38,14 +38,14 @@ nothing-so-far airport all flights now none =
     record { read = []; blocks = []; split = refl; run = none; written = grew-nothing now; counted = refl }
 
 -- one more line is read
-split-more : (read left rest all : List (List ℕ)) (line : List ℕ) → read ++ left ≡ all → left ≡ line ∷ rest → (read ++ line ∷ []) ++ rest ≡ all
+pub split-more : (read left rest all : List (List ℕ)) (line : List ℕ) → read ++ left ≡ all → left ≡ line ∷ rest → (read ++ line ∷ []) ++ rest ≡ all
 split-more read left rest all line split next = append_assoc read (line ∷ []) rest ∙ ap (λ l. read ++ l) (sym next) ∙ split
 
-commands_in-skipped : (read : List (List ℕ)) (line : List ℕ) → is_skipped line ≡ true → commands_in (read ++ line ∷ []) ≡ commands_in read
+pub commands_in-skipped : (read : List (List ℕ)) (line : List ℕ) → is_skipped line ≡ true → commands_in (read ++ line ∷ []) ≡ commands_in read
 commands_in-skipped read line skipped =
     filter-append _ read (line ∷ []) ∙ ap (λ (l : List (List ℕ)). commands_in read ++ l) (rw skipped refl) ∙ append-nil (commands_in read)
 
-commands_in-kept : (read : List (List ℕ)) (line : List ℕ) → is_skipped line ≡ false → commands_in (read ++ line ∷ []) ≡ commands_in read ++ line ∷ []
+pub commands_in-kept : (read : List (List ℕ)) (line : List ℕ) → is_skipped line ≡ false → commands_in (read ++ line ∷ []) ≡ commands_in read ++ line ∷ []
 commands_in-kept read line kept = filter-append _ read (line ∷ []) ∙ ap (λ (l : List (List ℕ)). commands_in read ++ l) (rw kept refl)
 
 pub so_far-skipped : (airport : Airport) (all left rest : List (List ℕ)) (flights : State) (before now : Option (List ℕ)) (count : ℕ) (line : List ℕ)
@@ -64,9 +64,9 @@ run-more : (airport : Airport) (read : List (List ℕ)) (blocks : List Block) (f
     → IsRun airport no_holder (commands_in read) blocks flights → is_skipped line ≡ false → IsAnswered airport flights line block after
     → IsRun airport no_holder (commands_in (read ++ line ∷ [])) (blocks ++ block ∷ []) after
 run-more airport read blocks flights after line block run kept answered =
-    rw (commands_in-kept read line kept) (IsRun-append airport no_holder flights after (commands_in read) (line ∷ []) blocks (block ∷ []) run (after, answered, refl))
+    rw (commands_in-kept read line kept) (in_turn-append IsAnswered airport no_holder flights after (commands_in read) (line ∷ []) blocks (block ∷ []) run (after, answered, refl))
 
-blocks_text-more : (airport : Airport) (blocks : List Block) (block : Block) → blocks_text airport (blocks ++ block ∷ []) ≡ blocks_text airport blocks ++ block_text airport block
+pub blocks_text-more : (airport : Airport) (blocks : List Block) (block : Block) → blocks_text airport (blocks ++ block ∷ []) ≡ blocks_text airport blocks ++ block_text airport block
 blocks_text-more airport blocks block =
     flat_map-append (block_text airport) blocks (block ∷ []) ∙ ap (λ (l : List ℕ). blocks_text airport blocks ++ l) (append-nil (block_text airport block))
 
@@ -109,7 +109,7 @@ so_far-cut airport all left rest flights after before now then count line block 
     record {
       blocks = blocks ++ going_on.0;
       after = going_on.1;
-      run = rw lines (IsRun-append airport no_holder after going_on.1 _ _ blocks going_on.0 run going_on.2);
+      run = rw lines (in_turn-append IsAnswered airport no_holder after going_on.1 _ _ blocks going_on.0 run going_on.2);
       whole = no_ok _ result is_err;
       front = on_err result (
           rw (flat_map-append (block_text airport) blocks going_on.0, blocks_text-more airport so_far.blocks block, append_assoc (blocks_text airport so_far.blocks ++ block_text airport block) (blocks_text airport going_on.0) (done_line (length (blocks ++ going_on.0))))
@@ -157,16 +157,22 @@ length-lines_of_parts (last ∷ []) = go (length last == 0) refl where
   go false e = rw e (omega arith)
 length-lines_of_parts (part ∷ next ∷ parts) = let rest = length-lines_of_parts (next ∷ parts) in omega (arith, rest)
 
+-- lines of a text that are read so far hold no more commands than the text has bytes, and one
+pub commands_in-count : (bytes : List ℕ) (read left : List (List ℕ)) → read ++ left ≡ lines_of bytes → length (commands_in read) ≤ length bytes + 1
+commands_in-count bytes read left is_split =
+    let commands = length-commands_in read in
+    let split = ap length is_split in
+    let all = length-append read left in
+    let lines = length-lines_of_parts (slice_split (λ b. b == 10) bytes) in
+    let parts = length-slice_split (λ b. b == 10) bytes in
+    let feeds = count_by-le-length (λ b. b == 10) bytes in
+    omega (arith, commands, split, all, lines, parts, feeds)
+
 -- fewer commands are answered than the file has bytes, or as many, and one
 pub so_far-count : (airport : Airport) (bytes : List ℕ) (left : List (List ℕ)) (flights : State) (before now : Option (List ℕ)) (count : ℕ)
     → IsSoFar airport (lines_of bytes) left flights before now count → count ≤ length bytes + 1
 so_far-count airport bytes left flights before now count so_far =
     let counted = so_far.counted in
-    let blocks = IsRun-length airport no_holder flights (commands_in so_far.read) so_far.blocks so_far.run in
-    let commands = length-commands_in so_far.read in
-    let split = ap length so_far.split in
-    let all = length-append so_far.read left in
-    let lines = length-lines_of_parts (slice_split (λ b. b == 10) bytes) in
-    let parts = length-slice_split (λ b. b == 10) bytes in
-    let feeds = count_by-le-length (λ b. b == 10) bytes in
-    omega (arith, counted, blocks, commands, split, all, lines, parts, feeds)
+    let blocks = in_turn-length IsAnswered airport no_holder flights (commands_in so_far.read) so_far.blocks so_far.run in
+    let commands = commands_in-count bytes so_far.read left so_far.split in
+    omega (arith, counted, blocks, commands)

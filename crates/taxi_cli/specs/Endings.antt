@@ -8,7 +8,7 @@ use Rattle.taxi_cli.specs.declared.status.Status.{Status}
 use Rattle.taxi_cli.specs.declared.status.Status.TheVariants.{Done, Usage, AirportRefused, ReadFault, WriteFault, Memory, TooLarge, Wrong}
 use Rattle.taxi_cli.specs.Lines.{usage_line, refusal_line, read_fault_line, too_large_line}
 use Rattle.taxi_cli.specs.Asked.{Asked}
-use Rattle.taxi_cli.specs.Outcomes.{IsDoneText, IsRefused, IsTooLarge}
+use Rattle.taxi_cli.specs.Outcomes.{IsDoneText, IsWrongText, IsRefused, IsTooLarge}
 
 -- what a call finds, and what it leaves: each pair is of before and after
 pub record Call : Type 0 where
@@ -27,6 +27,7 @@ IsDueText call (Some asked) Done text = IsDoneText call.files asked text
 IsDueText call (Some asked) AirportRefused text = (fault : RecordFault) × IsRefused call.files asked fault × (text ≡ refusal_line fault)
 IsDueText call (Some asked) ReadFault text = Rose call.reads.0 call.reads.1 × (text ≡ read_fault_line)
 IsDueText call (Some asked) TooLarge text = IsTooLarge call.files asked × (text ≡ too_large_line)
+IsDueText call (Some asked) Wrong text = IsWrongText call.files asked text
 IsDueText call _ _ text = ⊥
 
 -- the sink took the whole text that goes with the status
@@ -48,4 +49,4 @@ Ends call asked Usage = IsWhole call asked Usage
 Ends call asked AirportRefused = IsWhole call asked AirportRefused
 Ends call asked ReadFault = IsWhole call asked ReadFault
 Ends call asked TooLarge = IsWhole call asked TooLarge
-Ends call asked Wrong = ⊥
+Ends call asked Wrong = IsWhole call asked Wrong

@@ -1,23 +1,27 @@
 -- Which outcome do the files give to what is asked for?
-use Rattle.std.specs.Prelude.{◌≡◌, ◌≤◌, ◌⊎◌, ℕ, nat_lt, if◌then◌else◌, List, [], ◌∷◌, length, Option, Some, None, Result, Ok, Err}
+use Rattle.std.specs.Prelude.{◌≡◌, ◌≤◌, ◌⊎◌, ℕ, List, [], ◌∷◌, length, Option, Some, None, Result, Ok, Err}
 use Rattle.taxi_base.specs.Airport.{Airport}
 use Rattle.taxi_base.specs.State.{State, no_holder}
 use Rattle.taxi_text.specs.Lines.{commands_of}
-use Rattle.taxi_io.specs.Files.{Files, IsFile, IsLonger, BeganMore, file_of}
+use Rattle.taxi_io.specs.Files.{Files, IsFile, IsLonger, BeganMore}
 use Rattle.airport_file.specs.Reading.{RecordFault, airport_of}
 use Rattle.airport_text.specs.Canonical.{canonical_text}
 use Rattle.certificate.specs.declared.block.Block.{Block}
-use Rattle.taxi_cli.specs.declared.status.Status.{Status}
-use Rattle.taxi_cli.specs.declared.status.Status.TheVariants as status
-use Rattle.taxi_cli.specs.Asked.{FileNames, Asked, Route, Migrate, asked_by}
-use Rattle.taxi_cli.specs.Runs.{IsRun, transcript}
+use Rattle.taxi_cli.specs.declared.failure.Failure.{Failure}
+use Rattle.taxi_cli.specs.Asked.{FileNames, Asked, Route, Check, Migrate}
+use Rattle.taxi_cli.specs.Lines.{ok_line, wrong_line}
+use Rattle.taxi_cli.specs.Runs.{InTurn, IsRun, transcript}
+use Rattle.taxi_cli.specs.Checks.{IsRight, IsWrongAt, IsTrusted}
 
--- the most bytes of an airport file, and of a command file
+-- the most bytes of an airport file, of a command file, and of a transcript
 abbrev pub airport_limit : ℕ
 airport_limit = 4194304
 
 abbrev pub commands_limit : ℕ
 commands_limit = 16777216
+
+abbrev pub transcript_limit : ℕ
+transcript_limit = 268435456
 
 -- an airport file within its limit, and what its bytes come to: an airport, or the record that breaks a rule
 pub record IsJudged (told : Option Files) (name : List ℕ) (judgement : Result Airport RecordFault) : Type 0 where
@@ -32,6 +36,14 @@ pub record AreAccepted (told : Option Files) (names : FileNames) (airport : Airp
   pub file : IsFile told names.commands commands
   pub within : length commands ≤ commands_limit
 
+-- the same, and a transcript within its limit
+pub record AreToCheck (told : Option Files) (names : FileNames) (transcript : List ℕ) (airport : Airport) (commands text : List ℕ) : Type 0 where
+  pub accepted : AreAccepted told names airport commands
+  pub file : IsFile told transcript text
+  pub within : length text ≤ transcript_limit
+
+-- ---- whole outputs
+
 -- the transcript of a run over all commands, from an airport without flights
 pub record IsTranscript (told : Option Files) (names : FileNames) (text : List ℕ) : Type 0 where
   pub airport : Airport
@@ -41,6 +53,28 @@ pub record IsTranscript (told : Option Files) (names : FileNames) (text : List �
   pub after : State
   pub run : IsRun airport no_holder (commands_of commands) blocks after
   pub whole : text ≡ transcript airport blocks
+
+-- How many blocks a transcript has that is right to its last byte. What each of them says of walks is so.
+pub record IsConfirmation (told : Option Files) (names : FileNames) (transcript text : List ℕ) : Type 0 where
+  pub airport : Airport
+  pub commands : List ℕ
+  pub bytes : List ℕ
+  pub files : AreToCheck told names transcript airport commands bytes
+  pub blocks : List Block
+  pub right : IsRight airport (commands_of commands) bytes blocks
+  pub trusted : InTurn IsTrusted airport no_holder (commands_of commands) blocks right.after
+  pub whole : text ≡ ok_line (length blocks)
+
+-- the first block of a transcript that fails, and why
+pub record IsRefutation (told : Option Files) (names : FileNames) (transcript text : List ℕ) : Type 0 where
+  pub airport : Airport
+  pub commands : List ℕ
+  pub bytes : List ℕ
+  pub files : AreToCheck told names transcript airport commands bytes
+  pub number : ℕ
+  pub why : Failure
+  pub wrong : IsWrongAt airport (commands_of commands) bytes number why
+  pub whole : text ≡ wrong_line number why
 
 -- the canonical text of an airport that is accepted
 pub record IsMigrated (told : Option Files) (name : List ℕ) (text : List ℕ) : Type 0 where
@@ -53,50 +87,49 @@ pub record IsMigrated (told : Option Files) (name : List ℕ) (text : List ℕ) 
 -- the whole output, where all goes well
 abbrev pub IsDoneText : Option Files → Asked → List ℕ → Type 0
 IsDoneText told (Route names) text = IsTranscript told names text
+IsDoneText told (Check names transcript) text = IsConfirmation told names transcript text
 IsDoneText told (Migrate airport) text = IsMigrated told airport text
+
+-- the whole output, where a transcript is wrong
+abbrev pub IsWrongText : Option Files → Asked → List ℕ → Type 0
+IsWrongText told (Route names) text = ⊥
+IsWrongText told (Check names transcript) text = IsRefutation told names transcript text
+IsWrongText told (Migrate airport) text = ⊥
 
 -- a record of the airport file breaks a rule
 abbrev pub IsRefused : Option Files → Asked → RecordFault → Type 0
 IsRefused told (Route names) fault = IsJudged told names.airport (Err fault)
+IsRefused told (Check names transcript) fault = IsJudged told names.airport (Err fault)
 IsRefused told (Migrate airport) fault = IsJudged told airport (Err fault)
 
--- a file is longer than its limit; of a run the airport file, or the command file where the airport is accepted
-abbrev pub IsTooLarge : Option Files → Asked → Type 0
-IsTooLarge told (Route names) =
+-- the airport file is longer than its limit, or the command file where the airport is accepted
+abbrev pub IsRunTooLarge : Option Files → FileNames → Type 0
+IsRunTooLarge told names =
     IsLonger told names.airport airport_limit
     ⊎ ((airport : Airport) × IsJudged told names.airport (Ok airport) × IsLonger told names.commands commands_limit)
+
+-- a file is longer than its limit; of a check the transcript where the airport and the commands are accepted
+abbrev pub IsTooLarge : Option Files → Asked → Type 0
+IsTooLarge told (Route names) = IsRunTooLarge told names
+IsTooLarge told (Check names transcript) =
+    IsRunTooLarge told names
+    ⊎ ((airport : Airport) × (commands : List ℕ) × AreAccepted told names airport commands × IsLonger told transcript transcript_limit)
 IsTooLarge told (Migrate airport) = IsLonger told airport airport_limit
 
--- Which files were begun, by the names tried before and after: none for words of no form, and else those that the words
--- name, in their order. The command file of a run is begun only once the airport is accepted.
-abbrev pub IsInOrder : Option Files → Option Asked → Option (List (List ℕ)) → Option (List (List ℕ)) → Type 0
-IsInOrder told None before after = BeganMore before after []
-IsInOrder told (Some (Route names)) before after =
+-- Which files of a run were begun, by the names tried before and after. The command file is begun only once the airport is
+-- accepted.
+abbrev pub IsRunInOrder : Option Files → FileNames → Option (List (List ℕ)) → Option (List (List ℕ)) → Type 0
+IsRunInOrder told names before after =
     BeganMore before after (names.airport ∷ [])
     ⊎ (((airport : Airport) × IsJudged told names.airport (Ok airport)) × BeganMore before after (names.airport ∷ names.commands ∷ []))
+
+-- The same for any words: none for words of no form, and else those that the words name, in their order. A transcript is begun
+-- only once the airport and the commands are accepted.
+abbrev pub IsInOrder : Option Files → Option Asked → Option (List (List ℕ)) → Option (List (List ℕ)) → Type 0
+IsInOrder told None before after = BeganMore before after []
+IsInOrder told (Some (Route names)) before after = IsRunInOrder told names before after
+IsInOrder told (Some (Check names transcript)) before after =
+    IsRunInOrder told names before after
+    ⊎ (((airport : Airport) × (commands : List ℕ) × AreAccepted told names airport commands)
+    × BeganMore before after (names.airport ∷ names.commands ∷ transcript ∷ []))
 IsInOrder told (Some (Migrate airport)) before after = BeganMore before after (airport ∷ [])
-
--- ---- the status that is due, where the files are told
-
-abbrev pub due_to_commands : Option (List ℕ) → Option Status
-due_to_commands None = None
-due_to_commands (Some commands) = Some (if nat_lt commands_limit (length commands) then status.TooLarge else status.Done)
-
-abbrev pub due_to_judgement : Result Airport RecordFault → Option Status → Option Status
-due_to_judgement (Err fault) accepted = Some status.AirportRefused
-due_to_judgement (Ok airport) accepted = accepted
-
--- by the airport file, and what is due where its airport is accepted
-abbrev pub due_to_airport : Option (List ℕ) → Option Status → Option Status
-due_to_airport None accepted = None
-due_to_airport (Some airport) accepted =
-    if nat_lt airport_limit (length airport) then Some status.TooLarge else due_to_judgement (airport_of airport) accepted
-
-abbrev pub due_to : Files → Option Asked → Option Status
-due_to files None = Some status.Usage
-due_to files (Some (Route names)) = due_to_airport (file_of files names.airport) (due_to_commands (file_of files names.commands))
-due_to files (Some (Migrate airport)) = due_to_airport (file_of files airport) (Some status.Done)
-
--- the status that the words are due; none where a file that is needed isn't there
-abbrev pub due_status : Files → List (List ℕ) → Option Status
-due_status files words = due_to files (asked_by words)

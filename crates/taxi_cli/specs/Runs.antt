@@ -6,14 +6,18 @@ use Rattle.certificate.specs.declared.block.Block.{Block}
 use Rattle.certificate.specs.Texts.{block_text}
 use Rattle.certificate.specs.Replies.{IsAnswered}
 
--- Each line in turn is answered by a block, among the flights that the lines before it left in force.
--- The run begins with the first flights and leaves the last.
+-- Each line in turn meets a block, in the state that the lines before it left: what is true of a line, its block and the
+-- states before and after, is true of each. The first line finds the state before, and the last leaves the state after.
+abbrev pub InTurn : (Airport → State → List ℕ → Block → State → Type 0) → Airport → State → List (List ℕ) → List Block → State → Type 0
+InTurn IsMet airport before [] [] after = after ≡ before
+InTurn IsMet airport before [] (block ∷ blocks) after = ⊥
+InTurn IsMet airport before (line ∷ lines) [] after = ⊥
+InTurn IsMet airport before (line ∷ lines) (block ∷ blocks) after =
+    (between : State) × IsMet airport before line block between × InTurn IsMet airport between lines blocks after
+
+-- a run: each line in turn is answered by a block
 abbrev pub IsRun : Airport → State → List (List ℕ) → List Block → State → Type 0
-IsRun airport before [] [] after = after ≡ before
-IsRun airport before [] (block ∷ blocks) after = ⊥
-IsRun airport before (line ∷ lines) [] after = ⊥
-IsRun airport before (line ∷ lines) (block ∷ blocks) after =
-    (between : State) × IsAnswered airport before line block between × IsRun airport between lines blocks after
+IsRun = InTurn IsAnswered
 
 -- the texts of blocks, in order
 abbrev pub blocks_text : Airport → List Block → List ℕ

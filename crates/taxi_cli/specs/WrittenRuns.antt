@@ -1,5 +1,5 @@
 -- What has been written of a run's transcript? No public clause cites this file.
-use Rattle.std.specs.Prelude.{ℕ, List, [], Option, Result, OnOk, OnErr}
+use Rattle.std.specs.Prelude.{ℕ, List, Option, Result, OnOk, OnErr}
 use Rattle.taxi_base.specs.Airport.{Airport}
 use Rattle.taxi_base.specs.State.{State, no_holder}
 use Rattle.taxi_io.specs.Written.{Grew, GrewInPart}

@@ -1,8 +1,8 @@
 //! The airport and the commands of a run, read before the first command is answered.
-ghost use Rattle.std.specs.Prelude.{◌≡◌, ◌≤◌, ◌∷◌, [], length, Some, Ok, Err, IfOk, IfErr};
+ghost use Rattle.std.specs.Prelude.{◌≡◌, ◌≤◌, ◌∷◌, [], length, Some, Ok, Err, IfOk, OnOk, IfErr};
 ghost use Rattle.taxi_io.specs.Files.{SameNames, BeganMore};
-ghost use Rattle.taxi_cli.specs.Asked.{Route};
-ghost use Rattle.taxi_cli.specs.Outcomes.{IsJudged, AreAccepted, IsInOrder};
+ghost use Rattle.taxi_cli.specs.Asked.{Route, Check};
+ghost use Rattle.taxi_cli.specs.Outcomes.{IsJudged, AreAccepted, AreToCheck, IsRunInOrder, IsInOrder};
 ghost use Rattle.taxi_cli.specs.Stops.{IsCause, IsCauseOfAirport};
 
 use airport_file::{Airport, AirportFault, AirportRefused, read_airport};
@@ -14,6 +14,9 @@ const AIRPORT_LIMIT: usize = 4_194_304;
 
 /// The most bytes of a command file.
 const COMMANDS_LIMIT: usize = 16_777_216;
+
+/// The most bytes of a transcript.
+const TRANSCRIPT_LIMIT: usize = 268_435_456;
 
 /// Why a call ends before the first command is answered.
 #[derive(Drop)]
@@ -72,10 +75,46 @@ pub(crate) fn read_inputs<S: Shelf>(
     requires commands { S.knows shelf.old commands.now }
     ensures ok { IfOk result (λ read. AreAccepted (S.files shelf.old) (record { airport = airport.now; commands = commands.now }) read.0 read.1.items) }
     ensures stop { IfErr result (IsCause (S.files shelf.old) (Route (record { airport = airport.now; commands = commands.now })) (S.faults shelf.old, S.faults shelf.new)) }
-    ensures order { IsInOrder (S.files shelf.old) (Some (Route (record { airport = airport.now; commands = commands.now }))) (S.tried shelf.old) (S.tried shelf.new) }
+    ensures order { IsRunInOrder (S.files shelf.old) (record { airport = airport.now; commands = commands.now }) (S.tried shelf.old) (S.tried shelf.new) }
+    ensures both { OnOk result (BeganMore (S.tried shelf.old) (S.tried shelf.new) (airport.now ∷ commands.now ∷ [])) }
     ensures later { S.faults shelf.old ≤ S.faults shelf.new }
+    ensures files { S.files shelf.new ≡ S.files shelf.old }
+    ensures names { SameNames (S.knows shelf.old) (S.knows shelf.new) }
 {
     let airport = read_airport_file(alloc, shelf, airport)?;
     let bytes = read_all(alloc, shelf, commands, COMMANDS_LIMIT)?;
     Ok((airport, bytes))
+}
+
+/// What a check reads.
+#[derive(Drop)]
+pub(crate) struct CheckFiles {
+    pub(crate) airport: Airport,
+    pub(crate) commands: Vec<u8>,
+    pub(crate) transcript: Vec<u8>,
+}
+
+/// The files of a check, in the order of the words. Each is begun once those before it are accepted.
+pub(crate) fn read_check<S: Shelf>(
+    alloc: Global,
+    shelf: &mut S,
+    airport: &str,
+    commands: &str,
+    transcript: &str,
+) -> Result<CheckFiles, Stop>
+    requires airport { S.knows shelf.old airport.now }
+    requires commands { S.knows shelf.old commands.now }
+    requires transcript { S.knows shelf.old transcript.now }
+    ensures ok { IfOk result (λ read. AreToCheck (S.files shelf.old) (record { airport = airport.now; commands = commands.now }) transcript.now read.airport read.commands.items read.transcript.items) }
+    ensures stop { IfErr result (IsCause (S.files shelf.old) (Check (record { airport = airport.now; commands = commands.now }) transcript.now) (S.faults shelf.old, S.faults shelf.new)) }
+    ensures order { IsInOrder (S.files shelf.old) (Some (Check (record { airport = airport.now; commands = commands.now }) transcript.now)) (S.tried shelf.old) (S.tried shelf.new) }
+    ensures later { S.faults shelf.old ≤ S.faults shelf.new }
+{
+    let (airport, commands) = read_inputs(alloc, shelf, airport, commands)?;
+    let transcript = read_all(alloc, shelf, transcript, TRANSCRIPT_LIMIT)?;
+    Ok(CheckFiles {
+        airport,
+        commands,
+        transcript,
+    })
 }

@@ -2,8 +2,9 @@
 ghost use Rattle.std.specs.Prelude.{◌≡◌, ◌+◌, ◌≤◌, length, decimal};
 ghost use Rattle.airport_rules.specs.Faults.{fault_word};
 ghost use Rattle.taxi_cli.specs.Runs.{done_line};
-ghost use Rattle.taxi_cli.specs.Lines.{usage_line, refusal_line, read_fault_line, too_large_line};
+ghost use Rattle.taxi_cli.specs.Lines.{usage_line, refusal_line, read_fault_line, too_large_line, ok_line, wrong_line};
 
+use crate::failure::Failure;
 use airport_file::AirportFault;
 use itoa::Buffer;
 use taxi_text::ShortText;
@@ -56,6 +57,32 @@ pub(crate) fn done_line(count: u64) -> ShortText
     let mut text = ShortText::new();
     text.push(b"done ");
     text.push(digits.format(count).as_bytes());
+    text.push(b"\n");
+    text
+}
+
+/// The last line of a check that finds no fault, with the number of blocks.
+pub(crate) fn ok_line(count: u64) -> ShortText
+    ensures { result ≡ ok_line count }
+{
+    let mut digits = Buffer::new();
+    let mut text = ShortText::new();
+    text.push(b"ok ");
+    text.push(digits.format(count).as_bytes());
+    text.push(b"\n");
+    text
+}
+
+/// The first block that fails, counted from 1, and why.
+pub(crate) fn wrong_line(number: u64, why: Failure) -> ShortText
+    ensures { result ≡ wrong_line number why }
+{
+    let mut digits = Buffer::new();
+    let mut text = ShortText::new();
+    text.push(b"wrong ");
+    text.push(digits.format(number).as_bytes());
+    text.push(b" ");
+    text.push(why.word());
     text.push(b"\n");
     text
 }

@@ -1,11 +1,15 @@
 //! The taxi router as a program: its words name files, and it writes to standard output.
 #![tactic(auto)]
 
+mod checking;
 mod exit;
+mod failure;
 mod inputs;
 mod last_line;
+pub mod laws;
 mod run;
 pub mod status;
+pub mod steady;
 #[cfg(test)]
 mod tests;
 pub mod top;

@@ -2,15 +2,19 @@
 ghost use Rattle.std.specs.Prelude.{◌≡◌, ◌⊎◌, ◌≤◌, ℕ, List, map, string_bytes, Some, None};
 ghost use Rattle.taxi_io.specs.Counts.{Rose};
 ghost use Rattle.taxi_io.specs.Files.{Files};
-ghost use Rattle.taxi_cli.specs.declared.status.Status.{Status as StatusOf};
-ghost use Rattle.taxi_cli.specs.Asked.{Route, Migrate, IsNamed, asked_by};
-ghost use Rattle.taxi_cli.specs.Outcomes.{IsInOrder, due_status};
+ghost use Rattle.taxi_cli.specs.Asked.{FileNames, Route, Check, Migrate, IsNamed, asked_by};
+ghost use Rattle.taxi_cli.specs.Outcomes.{IsInOrder};
+ghost use Rattle.taxi_cli.specs.Due.{IsDueOf};
 ghost use Rattle.taxi_cli.specs.Endings.{Ends};
+ghost use Rattle.taxi_cli.specs.Headline.{Headline};
 ghost use Rattle.taxi_cli.specs.LastLine.{EndsWith, status_after};
 ghost use Rattle.taxi_cli.specs.Stops.{StopsWith};
 
-use crate::inputs::{Stop, read_airport_file, read_inputs};
-use crate::last_line::{read_fault_line, refusal_line, too_large_line, usage_line};
+use crate::checking::{Verdict, check_transcript};
+use crate::inputs::{Stop, read_airport_file, read_check, read_inputs};
+use crate::last_line::{
+    ok_line, read_fault_line, refusal_line, too_large_line, usage_line, wrong_line,
+};
 use crate::run::write_run;
 use crate::status::Status;
 use crate::words::{Asked, asked_by};
@@ -42,10 +46,17 @@ pub fn taxi<S: Shelf, K: Sink>(
     ensures unread { asked_by (map string_bytes words.now) ≡ None → shelf.new ≡ shelf.old }
 
     // Where the files are told and nothing fails, the status is the one that is due, but for want of memory.
-    ensures complete { (files : Files) → (due : StatusOf) →
-        S.files shelf.old ≡ Some files → due_status files (map string_bytes words.now) ≡ Some due →
+    ensures complete { (files : Files) → S.files shelf.old ≡ Some files →
         ¬ Rose (S.faults shelf.old) (S.faults shelf.new) → ¬ Rose (K.faults out.old) (K.faults out.new) →
-        (result ≡ due) ⊎ (result ≡ Status.Memory) }
+        IsDueOf files (asked_by (map string_bytes words.now)) result ⊎ (result ≡ Status.Memory) }
+
+    // With `route` it keeps the headline.
+    ensures headline { (names : FileNames) → asked_by (map string_bytes words.now) ≡ Some (Route names) → Headline (record {
+      files = S.files shelf.old;
+      reads = (S.faults shelf.old, S.faults shelf.new);
+      writes = (K.faults out.old, K.faults out.new);
+      taken = (K.written out.old, K.written out.new);
+    }) names result }
 
     ensures order { IsInOrder (S.files shelf.old) (asked_by (map string_bytes words.now)) (S.tried shelf.old) (S.tried shelf.new) }
     ensures reads_later { S.faults shelf.old ≤ S.faults shelf.new }
@@ -53,6 +64,13 @@ pub fn taxi<S: Shelf, K: Sink>(
 {
     match asked_by(words) {
         Some(Asked::Route { airport, commands }) => route(alloc, airport, commands, shelf, out),
+        Some(
+            Asked::Check {
+                airport,
+                commands,
+                transcript,
+            },
+        ) => check(alloc, airport, commands, transcript, shelf, out),
         Some(Asked::Migrate { airport }) => migrate(alloc, airport, shelf, out),
         None => write_last(out, usage_line(), Status::Usage),
     }
@@ -85,6 +103,46 @@ fn route<S: Shelf, K: Sink>(
             };
             let written = write_run(&mut engine, commands.as_slice(), out);
             status_after(written, Status::Done)
+        }
+        Err(stop) => write_stop(out, stop),
+    }
+}
+
+// Checks the transcript of one file against the commands of another, at the airport of a third.
+fn check<S: Shelf, K: Sink>(
+    alloc: Global,
+    airport: &str,
+    commands: &str,
+    transcript: &str,
+    shelf: &mut S,
+    out: &mut K,
+) -> Status
+    requires airport { S.knows shelf.old airport.now }
+    requires commands { S.knows shelf.old commands.now }
+    requires transcript { S.knows shelf.old transcript.now }
+    ensures ends { Ends (record {
+      files = S.files shelf.old;
+      reads = (S.faults shelf.old, S.faults shelf.new);
+      writes = (K.faults out.old, K.faults out.new);
+      taken = (K.written out.old, K.written out.new);
+    }) (Some (Check (record { airport = airport.now; commands = commands.now }) transcript.now)) result }
+    ensures order { IsInOrder (S.files shelf.old) (Some (Check (record { airport = airport.now; commands = commands.now }) transcript.now)) (S.tried shelf.old) (S.tried shelf.new) }
+    ensures reads_later { S.faults shelf.old ≤ S.faults shelf.new }
+    ensures writes_later { K.faults out.old ≤ K.faults out.new }
+{
+    match read_check(alloc, shelf, airport, commands, transcript) {
+        Ok(read) => {
+            let commands = read.commands.as_slice();
+            let transcript = read.transcript.as_slice();
+            let Ok(verdict) = check_transcript(alloc, &read.airport, commands, transcript) else {
+                return Status::Memory;
+            };
+            match verdict {
+                Verdict::Right { count } => write_last(out, ok_line(count).bytes(), Status::Done),
+                Verdict::Wrong { number, why } => {
+                    write_last(out, wrong_line(number, why).bytes(), Status::Wrong)
+                }
+            }
         }
         Err(stop) => write_stop(out, stop),
     }

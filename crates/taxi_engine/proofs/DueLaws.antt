@@ -1,23 +1,22 @@
 -- What a command is due, from what is known of the names in it.
 use Rattle.std.proofs.Common.{◌≡◌, List, ℕ, true, false, Some, None, refl}
 use Rattle.taxi_base.specs.declared.numbers.Segment.{Segment}
+use Rattle.taxi_base.specs.declared.rows.HeldRow.{HeldRow}
 use Rattle.taxi_base.specs.declared.answers.Refusal.{Refusal}
 use Rattle.taxi_base.specs.declared.answers.Refusal.TheVariants as refusal
 use Rattle.taxi_base.specs.Airport.{Airport, segment_named}
 use Rattle.taxi_base.specs.State.{State, without}
+use Rattle.taxi_base.specs.Reports.{AreHeldRows}
 use Rattle.taxi_text.specs.declared.command.Command.{Command}
 use Rattle.taxi_text.specs.declared.command.Command.TheVariants as command
-use Rattle.certificate.specs.declared.block.Block.TheVariants.{Refused, Cancelled, Windows}
-use Rattle.certificate.specs.Refusals.{is_in_force}
+use Rattle.certificate.specs.declared.block.Block.TheVariants.{Refused, Cancelled, Windows, Occupancy}
+use Rattle.certificate.specs.Refusals.{is_in_force, first_refusal}
 use Rattle.certificate.specs.CarriedOut.{windows_among}
-use Rattle.certificate.specs.Replies.{is_built, refusal_due, IsDueTo}
+use Rattle.certificate.specs.Replies.{IsDueTo}
 
 module _ (airport : Airport) (state : State) where
-  pub refusal-due : (c : Command) (why : Refusal) → refusal_due airport state c ≡ Some why → IsDueTo airport state c (Refused why) state
+  pub refusal-due : (c : Command) (why : Refusal) → first_refusal airport state c ≡ Some why → IsDueTo airport state c (Refused why) state
   refusal-due c why e = rw e (refl, refl)
-
-  pub not_built-due : (c : Command) → is_built c ≡ false → IsDueTo airport state c (Refused refusal.NotBuilt) state
-  not_built-due c e = rw e (refl, refl)
 
   pub cancel-due : (name : List ℕ) → is_in_force name state ≡ true → IsDueTo airport state (command.Cancel name) (Cancelled name) (without name state)
   cancel-due name e = rw e (refl, refl)
@@ -31,3 +30,10 @@ module _ (airport : Airport) (state : State) where
 
   pub windows-refused : (name : List ℕ) → segment_named airport name ≡ None → IsDueTo airport state (command.Windows name) (Refused refusal.UnknownSegment) state
   windows-refused name e = rw e (refl, refl)
+
+  pub occupancy-refused : (name : List ℕ) → segment_named airport name ≡ None → IsDueTo airport state (command.Occupancy name) (Refused refusal.UnknownSegment) state
+  occupancy-refused name e = rw e (refl, refl)
+
+  pub occupancy-due : (name : List ℕ) (segment : Segment) (rows : List HeldRow) → segment_named airport name ≡ Some segment → AreHeldRows airport state segment rows
+      → IsDueTo airport state (command.Occupancy name) (Occupancy segment rows) state
+  occupancy-due name segment rows e held = rw e (record { segment = segment; rows = rows; known = e; held = held; reply = (refl, refl) })

@@ -3,7 +3,8 @@ pub mod FiledDue
 pub mod DueLaws
 pub mod AnswerLaws
 pub mod Told
-pub mod AskedLaws
 pub mod SearchedLaws
 pub mod RouteLaws
 pub mod RoutedDue
+pub mod ReroutedDue
+pub mod ReroutedTold

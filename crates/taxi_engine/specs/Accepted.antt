@@ -13,7 +13,8 @@ use Rattle.certificate.specs.declared.block.Block.TheVariants.{Filed}
 use Rattle.certificate.specs.Texts.{block_text}
 use Rattle.certificate.specs.Printable.{IsName}
 use Rattle.certificate.specs.CarriedOut.{Reply}
-use Rattle.certificate.specs.Replies.{refused, refusal_due, IsDueTo}
+use Rattle.certificate.specs.Refusals.{first_refusal}
+use Rattle.certificate.specs.Replies.{refused, IsDueTo}
 use Rattle.commitments.specs.Book.{state_with}
 use Rattle.taxi_engine.specs.Engine.{EngineState, MayWantMemory}
 
@@ -29,7 +30,7 @@ pub record IsAccepted (airport : Airport) (flights : List Flight) (command : Com
 
 -- a refusal that is due, or stands for want of memory
 abbrev pub IsRefused : Airport → State → Command → Refusal → Type 0
-IsRefused airport state command why = (why ≡ refusal.Memory) ⊎ (refusal_due airport state command ≡ Some why)
+IsRefused airport state command why = (why ≡ refusal.Memory) ⊎ (first_refusal airport state command ≡ Some why)
 
 -- the reply is written, and the state is that afterwards
 abbrev pub IsDone : Reply → EngineState → EngineState → Type 0

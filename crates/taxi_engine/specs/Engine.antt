@@ -10,7 +10,8 @@ use Rattle.certificate.specs.declared.block.Block.{Block}
 use Rattle.certificate.specs.declared.block.Block.TheVariants.{Refused}
 use Rattle.certificate.specs.Texts.{block_text}
 use Rattle.certificate.specs.Printable.{IsPrintable}
-use Rattle.certificate.specs.Replies.{refusal_due, IsDue, IsAnswered}
+use Rattle.certificate.specs.Refusals.{first_refusal}
+use Rattle.certificate.specs.Replies.{IsDue, IsAnswered}
 use Rattle.certificate.specs.Passes.{IsPassed}
 
 -- the airport, the flights in force and the work parties, and the text of the last reply
@@ -23,7 +24,7 @@ pub record EngineState : Type 0 where
 abbrev pub MayWantMemory : Airport → State → Command → Type 0
 MayWantMemory airport state (command.File flight class start steps) = ⊤
 MayWantMemory airport state (command.Cancel flight) = ⊥
-MayWantMemory airport state other = refusal_due airport state other ≡ None
+MayWantMemory airport state other = first_refusal airport state other ≡ None
 
 -- memory ran out for a line, which it can only for such a command
 pub record WantsMemory (airport : Airport) (state : State) (line : List ℕ) (block : Block) : Type 0 where

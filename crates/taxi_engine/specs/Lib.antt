@@ -1,3 +1,4 @@
 pub mod Engine
 pub mod Accepted
 pub mod Routed
+pub mod Rerouted

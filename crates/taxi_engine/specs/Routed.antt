@@ -3,12 +3,14 @@ use Rattle.std.specs.Prelude.{ℕ, ◌≡◌, ◌<◌, ◌⊎◌, Bool, false, L
 use Rattle.std.specs.Option.{option_map_or}
 use Rattle.taxi_base.specs.declared.numbers.Node.{Node}
 use Rattle.taxi_base.specs.declared.rows.Kind.{Kind}
+use Rattle.taxi_base.specs.declared.rows.Step.{Step}
 use Rattle.taxi_base.specs.declared.numbers.Class.{Class}
 use Rattle.taxi_base.specs.declared.answers.Found.{Found}
 use Rattle.taxi_base.specs.declared.answers.Request.{Request}
 use Rattle.taxi_base.specs.declared.answers.Refusal.TheVariants as refusal
 use Rattle.taxi_base.specs.declared.collections.Memory.{Memory}
 use Rattle.taxi_base.specs.Airport.{Airport, class_named, node_named}
+use Rattle.taxi_base.specs.Walks.{Conditions, IsFeasibleWalk}
 use Rattle.taxi_base.specs.State.{State, flight_named, with_flight}
 use Rattle.certificate.specs.CarriedOut.{Reply, found_reply, routed_flight}
 use Rattle.certificate.specs.Replies.{refused}
@@ -30,6 +32,12 @@ pub record AreNamed (airport : Airport) (class from to : List ℕ) (asked : Aske
 pub record IsNew (state : State) (name : List ℕ) : Type 0 where
   pub absent : flight_named name state.flights ≡ None
   pub few : length state.flights < 4096
+
+-- steps are a feasible walk on the airport, under some conditions
+pub record IsWalkOn (airport : Airport) (steps : List Step) : Type 0 where
+  pub conditions : Conditions
+  pub here : conditions.airport ≡ airport
+  pub walk : IsFeasibleWalk conditions steps
 
 -- a reply is written, or memory ran out, which changed nothing else
 abbrev pub IsToldOrMemory : Reply → EngineState → EngineState → Type 0

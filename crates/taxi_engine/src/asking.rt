@@ -106,7 +106,7 @@ fn is_runway(airport: &Airport, node: Node) -> bool
     matches!(airport.kind(node), Kind::Runway)
 }
 
-fn is_stand(airport: &Airport, node: Node) -> bool
+pub(crate) fn is_stand(airport: &Airport, node: Node) -> bool
     requires { node.0 < length airport.now.nodes }
     ensures { result ≡ is_of_kind is_stand airport.now node }
 {

@@ -124,10 +124,10 @@ impl Engine {
                 time,
                 queue,
             } => self.route_departure(flight, class, from, to, *time, *queue),
-            Command::Reroute { .. }
-            | Command::Divert { .. }
-            | Command::Occupancy { .. }
-            | Command::Timetable => self.refuse(&Refusal::NotBuilt),
+            Command::Reroute { flight, time } => self.reroute(flight, *time),
+            Command::Divert { flight, time, node } => self.divert(flight, *time, node),
+            Command::Occupancy { segment } => self.tell_occupancy(segment),
+            Command::Timetable => self.tell_timetable(),
         }
     }
 

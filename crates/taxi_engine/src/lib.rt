@@ -6,6 +6,8 @@ mod cancelling;
 mod engine;
 mod filing;
 mod reply;
+mod reporting;
+mod rerouting;
 mod routing;
 #[cfg(test)]
 mod tests;

@@ -1,7 +1,7 @@
 //! A route that is searched for: it is told with its labels, and its flight goes in force.
 ghost use Rattle.std.specs.Prelude.{◌≡◌, ◌<◌, length, All, OnOk, IfOk, None};
 ghost use Rattle.taxi_base.specs.State.{with_flight};
-ghost use Rattle.taxi_base.specs.Walks.{Meets, IsFeasibleWalk};
+ghost use Rattle.taxi_base.specs.Walks.{Meets};
 ghost use Rattle.taxi_base.specs.Faults.{conditions_in};
 ghost use Rattle.taxi_text.specs.declared.command.Command.TheVariants as command;
 ghost use Rattle.certificate.specs.declared.block.Block.TheVariants as block;
@@ -11,7 +11,7 @@ ghost use Rattle.certificate.specs.Asked.{AnswersRequest};
 ghost use Rattle.certificate.specs.CarriedOut.{second_of};
 ghost use Rattle.commitments.specs.Book.{Fits, IsPrepared, state_of};
 ghost use Rattle.taxi_engine.specs.Accepted.{IsDoneOrMemory};
-ghost use Rattle.taxi_engine.specs.Routed.{IsNew, IsToldOrMemory, IsFoundTold};
+ghost use Rattle.taxi_engine.specs.Routed.{IsNew, IsWalkOn, IsToldOrMemory, IsFoundTold};
 
 use crate::Engine;
 use crate::asking::{Asked, asked_arrival, asked_departure};
@@ -149,8 +149,8 @@ impl Engine {
         self.ledger.commit(&self.airport, flight);
     }
 
-    // Tells that there is no walk, with all labels.
-    fn tell_no_route(&mut self, labels: List<LabelRow>)
+    /// Tells that there is no walk, with all labels.
+    pub(crate) fn tell_no_route(&mut self, labels: List<LabelRow>)
         requires { All (λ label. HasArc self.old.airport label.arc) labels }
         ensures { IsToldOrMemory (record { block = block.NoRoute labels; after = self.old.state }) self.old self.new }
     {
@@ -219,8 +219,8 @@ fn find_departure(
     )
 }
 
-// Makes room for a flight in the ledger, and writes its route as the reply.
-fn prepare_route(
+/// Makes room for a flight in the ledger, and writes its route as the reply.
+pub(crate) fn prepare_route(
     airport: &Airport,
     ledger: &mut Ledger,
     reply: &mut ReplyText,
@@ -229,7 +229,7 @@ fn prepare_route(
 ) -> Result<(), Memory>
     requires fits { Fits airport.now ledger.old }
     requires unlifted { ledger.old.lifted ≡ None }
-    requires walk { IsFeasibleWalk (conditions_in airport.now flight.now.class (state_of ledger.old)) flight.now.steps }
+    requires walk { IsWalkOn airport.now flight.now.steps }
     requires labels { All (λ label. HasArc airport.now label.arc) labels.now }
     ensures prepared { OnOk result (IsPrepared airport.now flight.now.steps ledger.new) }
     ensures text { OnOk result (reply.new ≡ block_text airport.now (block.Route flight.now.name (second_of flight.now.request flight.now.steps) flight.now.steps labels.now)) }

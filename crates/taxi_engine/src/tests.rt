@@ -26,7 +26,7 @@ forbid,A+,B+
 ";
 
 // Lines with their replies, in turn.
-const REPLIES: [(&[u8], &[u8]); 32] = [
+const REPLIES: [(&[u8], &[u8]); 41] = [
     (
         b"arrival F9 M R S1 100 0",
         b"no-route 3\nlabel A+ 0 3600 130\nlabel C+ 0 3600 155\nlabel D+ 0 3600 170\n",
@@ -55,10 +55,16 @@ const REPLIES: [(&[u8], &[u8]); 32] = [
     (b"arrival F9 Q R X 1 1", b"refused unknown-class\n"),
     (b"arrival F9 M R X 1 1", b"refused unknown-node\n"),
     (b"departure F9 M R S1 1 1", b"refused wrong-kind\n"),
-    (b"reroute F1 1", b"refused not-built\n"),
-    (b"divert F1 1 S2", b"refused not-built\n"),
-    (b"occupancy A", b"refused not-built\n"),
-    (b"timetable", b"refused not-built\n"),
+    (b"reroute F1 1", b"refused not-routed\n"),
+    (b"divert F1 1 S2", b"refused not-routed\n"),
+    (
+        b"occupancy A",
+        b"occupancy A 3\nheld 100 130 F1 A\nheld 130 155 F1 C\nheld 155 180 X2 C\n",
+    ),
+    (
+        b"timetable",
+        b"timetable 2\nflight F1 filed M 100 170\nflight X2 filed M 155 195\n",
+    ),
     (b"cancel  F1", b"refused bad-line\n"),
     (b"file X9 M 0 \xff+ 30", b"refused bad-line\n"),
     (
@@ -72,6 +78,30 @@ const REPLIES: [(&[u8], &[u8]); 32] = [
         b"windows A",
         b"windows A 2\nwindow 0 155\nwindow 180 3600\n",
     ),
+    (b"cancel X2", b"cancelled X2\n"),
+    (
+        b"arrival F1 M R S2 100 0",
+        b"route F1 170 3 2\nstep A+ 100 130\nstep C+ 130 155\nstep D+ 155 170\n\
+          label A+ 0 3600 130\nlabel C+ 0 3600 155\n",
+    ),
+    (
+        b"divert F1 110 S1",
+        b"no-route 3\nlabel A+ 0 3600 130\nlabel C+ 0 3600 155\nlabel D+ 0 3600 170\n",
+    ),
+    (
+        b"reroute F1 135",
+        b"route F1 170 3 1\nstep A+ 100 130\nstep C+ 130 155\nstep D+ 155 170\n\
+          label C+ 0 3600 155\n",
+    ),
+    (b"reroute F1 170", b"refused already-done 170\n"),
+    (b"cancel F1", b"cancelled F1\n"),
+    (
+        b"departure G1 M S2 R 300 0",
+        b"route G1 230 3 3\nstep D- 230 245\nstep C- 245 270\nstep A- 270 300\n\
+          label A- 0 3600 270\nlabel B- 0 3600 250\nlabel C- 0 3600 245\n",
+    ),
+    (b"reroute G1 230", b"refused already-moving 230\n"),
+    (b"divert G1 1 S1", b"refused not-arrival\n"),
 ];
 
 // The long texts stand in functions of their own, so that no proof of the others has to look at their bytes.

@@ -9,3 +9,4 @@ pub mod Rooms
 pub mod Fresh
 pub mod Finding
 pub mod Wholes
+pub mod Rows

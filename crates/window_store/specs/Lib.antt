@@ -5,3 +5,4 @@ pub mod Stands
 pub mod Kept
 pub mod Conflicting
 pub mod Edits
+pub mod Rows

@@ -4,6 +4,7 @@
 mod edits;
 mod held;
 mod laws;
+mod row;
 mod segment_windows;
 mod still_held;
 mod store;

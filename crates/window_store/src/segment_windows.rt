@@ -6,28 +6,31 @@ ghost use Rattle.interval_list.specs.Intervals.{spans_of, owned, drawn, IsNormal
 ghost use Rattle.window_store.specs.Spans.{Listed, nodes, is_unheld, StandsForSpans};
 
 use crate::held::HeldSeconds;
+use crate::row::{copy_row, follow};
 use interval_list::{Ids, IntervalList};
 use std::alloc::Global;
 use std::marker::Model;
 use taxi_base::{Memory, Span, Time};
 
-/// A segment's free windows, and the number of spans for which it is held.
+/// A segment's free windows, also in a row, and the number of spans for which it is held.
 #[derive(Drop)]
 pub(crate) struct SegmentWindows {
     intervals: IntervalList,
+    row: Vec<Span>,
     held: usize,
 }
 
 impl Model for SegmentWindows {
-    ghost use Rattle.std.specs.Prelude.{◌+◌, ◌^◌, ◌<◌, length};
-    ghost use Rattle.interval_list.specs.Intervals.{IsNormal};
+    ghost use Rattle.std.specs.Prelude.{◌≡◌, ◌+◌, ◌^◌, ◌<◌, ◌≤◌, length, vec_capacity};
+    ghost use Rattle.interval_list.specs.Intervals.{IsNormal, spans_of};
     ghost use Rattle.window_store.specs.Spans.{Listed};
 
     ghost Value = { Listed };
 
     ghost view = { λ l. record { intervals = l.intervals; held = l.held } };
 
-    ghost invariant = { λ l. IsNormal l.intervals × (length l.intervals.windows + length l.intervals.spare < 2 ^ 64) };
+    ghost invariant = { λ l. IsNormal l.intervals × (length l.intervals.windows + length l.intervals.spare < 2 ^ 64)
+        × (l.row.items ≡ spans_of l.intervals.windows) × (length l.intervals.windows + length l.intervals.spare ≤ vec_capacity l.row) };
 }
 
 impl SegmentWindows {
@@ -41,10 +44,16 @@ impl SegmentWindows {
         ensures next { IfOk result (λ l. ids.new.next ≡ ids.old.next + 1) }
         ensures err { OnErr result (ids.old.next ≤ ids.new.next) }
     {
+        let mut row = Vec::with_capacity(alloc, 1)?;
         let mut intervals = IntervalList::new(alloc);
         intervals.reserve(ids, 1)?;
         intervals.add(0, horizon);
-        Ok(SegmentWindows { intervals, held: 0 })
+        copy_row(&mut row, &intervals);
+        Ok(SegmentWindows {
+            intervals,
+            row,
+            held: 0,
+        })
     }
 
     /// The windows and the spare nodes.
@@ -53,6 +62,14 @@ impl SegmentWindows {
         ensures normal { IsNormal self.now.intervals }
     {
         &self.intervals
+    }
+
+    /// The windows in a row.
+    pub(crate) fn row(&self) -> &[Span]
+        ensures spans { result.now ≡ spans_of self.now.intervals.windows }
+        ensures normal { IsNormal self.now.intervals }
+    {
+        &self.row
     }
 
     /// For how many spans the segment is held.
@@ -75,8 +92,9 @@ impl SegmentWindows {
         ensures ok { OnOk result (nodes self.new ≡ max wanted (nodes self.old)) }
         ensures err { OnErr result (nodes self.new ≤ max wanted (nodes self.old)) }
     {
-        let windows = self.intervals.len();
-        self.intervals.reserve(ids, wanted.saturating_sub(windows))
+        let lacking = wanted.saturating_sub(self.intervals.len());
+        self.row.reserve(lacking)?;
+        self.intervals.reserve(ids, lacking)
     }
 
     /// Raises the number by one, and lowers it, while room is made for spans to come.
@@ -105,6 +123,7 @@ impl SegmentWindows {
         ensures nodes { nodes self.new ≡ nodes self.old }
     {
         self.intervals.subtract(span.from, span.until);
+        follow(&mut self.row, span, &self.intervals);
         self.held += 1;
     }
 
@@ -119,6 +138,7 @@ impl SegmentWindows {
         ensures nodes { nodes self.new ≡ nodes self.old }
     {
         give_back_unheld(&mut self.intervals, span, others);
+        copy_row(&mut self.row, &self.intervals);
         self.held -= 1;
     }
 }

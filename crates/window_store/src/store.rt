@@ -1,9 +1,9 @@
 //! A list of windows for each segment.
 ghost use Rattle.std.specs.Prelude.{ℕ, find, nat_lt, ◌≡◌, ◌+◌, ◌^◌, ◌<◌, ◌≤◌, List, [], ◌++◌, length, reverse, All, IfOk, OnOk};
 ghost use Rattle.taxi_base.specs.declared.numbers.Segment.{Segment as SegmentNumber};
-ghost use Rattle.taxi_base.specs.Windows.{Hold, holds_of};
+ghost use Rattle.taxi_base.specs.Windows.{Hold, holds_of, AreApart};
 ghost use Rattle.interval_list.specs.Intervals.{span, IsNormal};
-ghost use Rattle.window_store.specs.Store.{Store, IsStore, list_at, windows_at};
+ghost use Rattle.window_store.specs.Store.{Store, IsStore, list_at, windows_at, spans_at};
 ghost use Rattle.window_store.specs.Stands.{StandsFor, HasRoomFor, route_holds, AreOnSegments, TakeTime, AreInTime};
 ghost use Rattle.window_store.specs.Kept.{IsApartFrom, IsClearOf, KeepsWindows, KeepsNodes, GainsRoom, DrawsWhatIsLacking, IsWindowAt};
 
@@ -13,7 +13,7 @@ use conflict_sets::Conflicts;
 use interval_list::{Ids, Window, Windows, WindowsBack};
 use std::alloc::Global;
 use std::marker::Model;
-use taxi_base::{Memory, Routes, Segment, Step, Time};
+use taxi_base::{Memory, Routes, Segment, Span, Step, Time};
 
 /// The free windows of each segment.
 #[derive(Drop)]
@@ -71,6 +71,15 @@ impl WindowStore {
         ensures in_time { All (λ w. w.until ≤ self.now.horizon) (windows_at self.now segment) }
     {
         self.lists[segment.0 as usize].intervals().windows()
+    }
+
+    /// A segment's windows in a row, with no ids. They lie apart, and each ends by the horizon.
+    pub fn spans(&self, segment: Segment) -> &[Span]
+        requires { segment.0 < length self.now.lists }
+        ensures spans { result.now ≡ spans_at self.now segment }
+        ensures apart { AreApart 0 result.now }
+    {
+        self.lists[segment.0 as usize].row()
     }
 
     /// A segment's windows from last to first.

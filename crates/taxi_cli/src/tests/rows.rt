@@ -8,7 +8,7 @@ use taxi_base::Memory;
 use taxi_text::{push_bytes, push_number};
 
 // The first records of the small airport.
-const SMALL: &[u8] = b"taxi-airport,1\nhorizon,3600\n";
+pub(super) const SMALL: &[u8] = b"taxi-airport,1\nhorizon,3600\n";
 
 // The same with the longest horizon.
 const LONG: &[u8] = b"taxi-airport,1\nhorizon,604800\n";
@@ -115,7 +115,7 @@ fn their_replies() -> &'static [u8] {
       done 18\n"
 }
 
-fn aircraft_that_wait_for_each_other() -> &'static [u8] {
+pub(super) fn aircraft_that_wait_for_each_other() -> &'static [u8] {
     b"arrival F1 M R S1 100 0\n\
       arrival F2 M R S1 100 0\n\
       arrival F2 M R S1 100 60\n\
@@ -174,7 +174,7 @@ fn why_and_one_that_is_not() -> &'static [u8] {
 }
 
 // An airport by its first records, with some records more.
-fn airport_of(alloc: Global, first: &[u8], more: &[u8]) -> Result<Vec<u8>, Memory> {
+pub(super) fn airport_of(alloc: Global, first: &[u8], more: &[u8]) -> Result<Vec<u8>, Memory> {
     let mut airport = Vec::new(alloc);
     push_bytes(&mut airport, first)?;
     push_bytes(&mut airport, stands_and_segments())?;

@@ -8,12 +8,13 @@ use Rattle.label_search.specs.declared.pick.CellStep.{CellStep}
 use Rattle.label_search.specs.Backward.{BackwardProblem, IsBackwardProblem}
 use Rattle.label_search.specs.Values.{AreEntries}
 use Rattle.label_search.specs.Answer.{step_of, best_of, ComesBefore}
+use Rattle.walk_labels.specs.Places.{place_at}
 use Rattle.walk_labels.specs.Requests.{steps_at}
 use Rattle.aircraft_class.specs.Times.{Times}
-use Rattle.place_cells.specs.declared.cells.PlaceCell.{PlaceCell}
 use Rattle.place_cells.specs.Laid.{windows_of}
-use Rattle.place_cells.specs.Ground.{Ground, ground_in}
-use Rattle.place_cells.specs.Found.{place_in, row_in}
+use Rattle.place_cells.specs.Ground.{Ground, ground_in, cells_of}
+use Rattle.place_cells.specs.Grounds.{numbers_of}
+use Rattle.place_cells.specs.Found.{row_in}
 use Rattle.place_cells.proofs.GroundLaws.{airport_sound, head_of_airport}
 use Rattle.backward_search.specs.Departures.{Ending, departure_problem}
 use Rattle.backward_search.proofs.DepartureLaws.{departure_is_problem}
@@ -28,42 +29,42 @@ invariant_of-asked c = record {
 pub latest_entries-requires : goal.latest_entries-requires
 latest_entries-requires c =
     let ending : Ending = record { to = c.args.to; earliest = c.args.earliest_out; latest = c.args.latest_out } in
-    let ground : Ground = record { layout = c.graph.result.now; table = c.classes.result.now.table; class = c.args.class; horizon = c.horizon.result; clearance = c.args.clearance; windows = windows_of c.args.store.now } in
+    let ground : Ground = record { layout = c.graph.result.now; table = c.classes.result.now.table; class = c.args.class; horizon = c.horizon.result; clearance = c.args.clearance; windows = windows_of c.args.store.now; numbers = numbers_of c.args.numbers.now } in
     let table = ap (λ (t : Times). t.table) c.classes.ensures in
-    let same : ground ≡ ground_in c.args.airport.now c.args.class c.args.clearance (windows_of c.args.store.now) =
-    λ i. record { layout = c.graph.ensures i; table = table i; class = c.args.class; horizon = c.horizon.ensures.horizon i; clearance = c.args.clearance; windows = windows_of c.args.store.now } in
+    let same : ground ≡ ground_in c.args.airport.now c.args.class c.args.clearance (windows_of c.args.store.now) (numbers_of c.args.numbers.now) =
+    λ i. record { layout = c.graph.ensures i; table = table i; class = c.args.class; horizon = c.horizon.ensures.horizon i; clearance = c.args.clearance; windows = windows_of c.args.store.now; numbers = numbers_of c.args.numbers.now } in
     record {
       sound = subst (λ (g : Ground). IsBackwardProblem (departure_problem g c.args.from ending)) (sym same)
-          (departure_is_problem (ground_in c.args.airport.now c.args.class c.args.clearance (windows_of c.args.store.now))
-          (airport_sound c.args.airport.now c.requires.rules c.args.class c.args.clearance (windows_of c.args.store.now) c.requires.lists) c.requires.lists.apart c.args.from ending c.requires.times);
+          (departure_is_problem (ground_in c.args.airport.now c.args.class c.args.clearance (windows_of c.args.store.now) (numbers_of c.args.numbers.now))
+          (airport_sound c.args.airport.now c.requires.rules c.args.class c.args.clearance (windows_of c.args.store.now) (numbers_of c.args.numbers.now) c.requires.lists c.args.numbers.now.numbered c.requires.room) c.args.from ending c.requires.times);
     }
 
 pub returns-in-None : goal.returns-in-None
 returns-in-None c =
     let ending : Ending = record { to = c.args.to; earliest = c.args.earliest_out; latest = c.args.latest_out } in
-    let ground : Ground = record { layout = c.graph.result.now; table = c.classes.result.now.table; class = c.args.class; horizon = c.horizon.result; clearance = c.args.clearance; windows = windows_of c.args.store.now } in
-    let told : Ground = ground_in c.args.airport.now c.args.class c.args.clearance (windows_of c.args.store.now) in
+    let ground : Ground = record { layout = c.graph.result.now; table = c.classes.result.now.table; class = c.args.class; horizon = c.horizon.result; clearance = c.args.clearance; windows = windows_of c.args.store.now; numbers = numbers_of c.args.numbers.now } in
+    let told : Ground = ground_in c.args.airport.now c.args.class c.args.clearance (windows_of c.args.store.now) (numbers_of c.args.numbers.now) in
     let table = ap (λ (t : Times). t.table) c.classes.ensures in
-    let same_ground : ground ≡ told = λ i. record { layout = c.graph.ensures i; table = table i; class = c.args.class; horizon = c.horizon.ensures.horizon i; clearance = c.args.clearance; windows = windows_of c.args.store.now } in
+    let same_ground : ground ≡ told = λ i. record { layout = c.graph.ensures i; table = table i; class = c.args.class; horizon = c.horizon.ensures.horizon i; clearance = c.args.clearance; windows = windows_of c.args.store.now; numbers = numbers_of c.args.numbers.now } in
     let same : departure_problem ground c.args.from ending ≡ departure_problem told c.args.from ending = ap (λ (g : Ground). departure_problem g c.args.from ending) same_ground in
     let values : List CellValue = c.in_ok-values.field-0.values.items in
-    let rows = c.in_ok-labels.ensures ∙ ap (λ (cells : List PlaceCell). map (row_in cells) c.deref-2.result.now) c.deref.ensures.value ∙ ap (map (row_in c.args.cells.now.cells.items)) c.deref-2.ensures.value in
-    no_route_answers c.args.airport.now c.args.class c.args.clearance (windows_of c.args.store.now) c.requires.rules c.requires.lists c.args.cells.now.cells.items c.requires.searched.are_laid.cells c.args.from ending c.in_ok-values.field-0.route c.in-None.is values
+    let rows = c.in_ok-labels.ensures ∙ ap (λ (xs : List CellValue). map (row_in ground) xs) c.deref.ensures.value ∙ ap (λ (g : Ground). map (row_in g) values) same_ground in
+    no_route_answers c.args.airport.now c.args.class c.args.clearance (windows_of c.args.store.now) c.requires.rules c.requires.lists (numbers_of c.args.numbers.now) c.args.numbers.now.numbered c.requires.room c.args.from ending c.in_ok-values.field-0.route c.in-None.is values
     (subst (λ (p : BackwardProblem). AreEntries p.network p.finishes p.count (best_of c.in_ok-values.field-0.route) values) same c.in_ok-values.ensures.table)
     (subst (λ (p : BackwardProblem). IfNone (best_of c.in_ok-values.field-0.route) (HasNoWalkFrom p.network p.finishes p.source)) same c.in_ok-values.ensures.none) c.in_ok-labels.labels rows
 
 pub returns : goal.returns
 returns c =
     let ending : Ending = record { to = c.args.to; earliest = c.args.earliest_out; latest = c.args.latest_out } in
-    let ground : Ground = record { layout = c.graph.result.now; table = c.classes.result.now.table; class = c.args.class; horizon = c.horizon.result; clearance = c.args.clearance; windows = windows_of c.args.store.now } in
-    let told : Ground = ground_in c.args.airport.now c.args.class c.args.clearance (windows_of c.args.store.now) in
+    let ground : Ground = record { layout = c.graph.result.now; table = c.classes.result.now.table; class = c.args.class; horizon = c.horizon.result; clearance = c.args.clearance; windows = windows_of c.args.store.now; numbers = numbers_of c.args.numbers.now } in
+    let told : Ground = ground_in c.args.airport.now c.args.class c.args.clearance (windows_of c.args.store.now) (numbers_of c.args.numbers.now) in
     let table = ap (λ (t : Times). t.table) c.classes.ensures in
-    let same_ground : ground ≡ told = λ i. record { layout = c.graph.ensures i; table = table i; class = c.args.class; horizon = c.horizon.ensures.horizon i; clearance = c.args.clearance; windows = windows_of c.args.store.now } in
+    let same_ground : ground ≡ told = λ i. record { layout = c.graph.ensures i; table = table i; class = c.args.class; horizon = c.horizon.ensures.horizon i; clearance = c.args.clearance; windows = windows_of c.args.store.now; numbers = numbers_of c.args.numbers.now } in
     let same : departure_problem ground c.args.from ending ≡ departure_problem told c.args.from ending = ap (λ (g : Ground). departure_problem g c.args.from ending) same_ground in
     let values : List CellValue = c.in_ok-values.field-0.values.items in
-    let rows = c.in_ok-labels.ensures ∙ ap (λ (cells : List PlaceCell). map (row_in cells) c.deref-2.result.now) c.deref.ensures.value ∙ ap (map (row_in c.args.cells.now.cells.items)) c.deref-2.ensures.value in
-    let steps = c.in_ok-steps-in-Some.ensures ∙ ap (λ (cells : List PlaceCell). steps_at (place_in cells) (map step_of c.deref-in-Some-2.result.now)) c.deref-in-Some.ensures.value ∙ ap (λ (walk : List CellStep). steps_at (place_in c.args.cells.now.cells.items) (map step_of walk)) c.deref-in-Some-2.ensures.value in
-    route_answers c.args.airport.now c.args.class c.args.clearance (windows_of c.args.store.now) c.requires.rules c.requires.lists c.args.cells.now.cells.items c.requires.searched.are_laid.cells c.args.from ending c.in_ok-values.field-0.route c.in-Some.route c.in-Some.is values
+    let rows = c.in_ok-labels.ensures ∙ ap (λ (xs : List CellValue). map (row_in ground) xs) c.deref.ensures.value ∙ ap (λ (g : Ground). map (row_in g) values) same_ground in
+    let steps = c.in_ok-steps-in-Some.ensures ∙ ap (λ (walk : List CellStep). steps_at (place_at (cells_of ground)) (map step_of walk)) c.deref-in-Some.ensures.value ∙ ap (λ (g : Ground). steps_at (place_at (cells_of g)) (map step_of c.in-Some.route.steps.items)) same_ground in
+    route_answers c.args.airport.now c.args.class c.args.clearance (windows_of c.args.store.now) c.requires.rules c.requires.lists (numbers_of c.args.numbers.now) c.args.numbers.now.numbered c.requires.room c.args.from ending c.in_ok-values.field-0.route c.in-Some.route c.in-Some.is values
     (subst (λ (p : BackwardProblem). AreEntries p.network p.finishes p.count (best_of c.in_ok-values.field-0.route) values) same c.in_ok-values.ensures.table)
     (subst (λ (p : BackwardProblem). IfSome (best_of c.in_ok-values.field-0.route) (IsBestBegin p.network p.finishes p.source)) same c.in_ok-values.ensures.best)
     (subst (λ (p : BackwardProblem). IfSome c.in_ok-values.field-0.route (λ f. IsPickedRouteOn p.network p.finishes ComesBefore p.source f.best (map step_of f.steps.items))) same c.in_ok-values.ensures.picked)

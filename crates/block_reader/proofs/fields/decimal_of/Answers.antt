@@ -1,4 +1,4 @@
-use Rattle.std.proofs.Common.{◌≤◌, arith}
+use Rattle.std.proofs.Common.{arith}
 use Rattle.block_reader.proofs.Decimals.{digits-small}
 use Rattle.block_reader.proofs.fields.decimal_of.Goals as goal
 

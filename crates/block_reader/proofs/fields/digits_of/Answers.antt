@@ -1,4 +1,4 @@
-use Rattle.std.proofs.Common.{◌≡◌, ◌∙◌, ◌+◌, ◌*◌, sym, subst, arith}
+use Rattle.std.proofs.Common.{◌∙◌, ◌+◌, ◌*◌, sym, subst, arith}
 use Rattle.block_reader.proofs.Decimals.{IsReadSoFar, next_digit}
 use Rattle.block_reader.proofs.fields.digits_of.Goals as goal
 

@@ -31,6 +31,22 @@ pub returns-in-Windows-clause-err : goal.returns-in-Windows-clause-err
 unfolding block_text
 returns-in-Windows-clause-err c = search rules
 
+pub returns-in-Occupancy-clause-ok : goal.returns-in-Occupancy-clause-ok
+unfolding block_text
+returns-in-Occupancy-clause-ok c = search rules
+
+pub returns-in-Occupancy-clause-err : goal.returns-in-Occupancy-clause-err
+unfolding block_text
+returns-in-Occupancy-clause-err c = search rules
+
+pub returns-in-Timetable-clause-ok : goal.returns-in-Timetable-clause-ok
+unfolding block_text
+returns-in-Timetable-clause-ok c = search rules
+
+pub returns-in-Timetable-clause-err : goal.returns-in-Timetable-clause-err
+unfolding block_text
+returns-in-Timetable-clause-err c = search rules
+
 pub returns-in_default-clause-ok : goal.returns-in_default-clause-ok
 returns-in_default-clause-ok c =
     let e : c.unwrap.result ≡ block_text c.args.airport.now c.args.block.now =

@@ -1,7 +1,6 @@
-use Rattle.std.proofs.Common.{sym, subst, ◌++◌, List}
-use Rattle.std.specs.Prelude.{remove, slice_get}
+use Rattle.std.proofs.Common.{◌++◌}
+use Rattle.std.specs.Prelude.{remove}
 use Rattle.taxi_base.specs.State.{flights_hold, flight_holds}
-use Rattle.window_store.specs.Stands.{StandsFor}
 use Rattle.commitments.proofs.Fitting.{routes-hold, at-on_segments, at-takes_time, at-in_time}
 use Rattle.commitments.proofs.SameHolds.{StandsFor-permutation, flights_hold-remove}
 use Rattle.commitments.proofs.holds.free_flight.Goals as goal

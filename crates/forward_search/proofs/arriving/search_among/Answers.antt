@@ -1,4 +1,4 @@
-use Rattle.std.proofs.Common.{◌≡◌, ℕ, ◌<◌, List, [], ◌∷◌, map, Option, Some, IfSome, IfNone, sym, ◌∙◌, ap, subst}
+use Rattle.std.proofs.Common.{◌≡◌, ◌<◌, List, [], ◌∷◌, map, Some, IfSome, IfNone, sym, ◌∙◌, ap, subst}
 use Rattle.taxi_base.specs.declared.numbers.Arc.{Arc}
 use Rattle.taxi_base.specs.declared.numbers.Node.{Node}
 use Rattle.taxi_base.specs.Airport.{Layout, tail}
@@ -8,12 +8,13 @@ use Rattle.label_search.specs.declared.pick.CellStep.{CellStep}
 use Rattle.label_search.specs.Problem.{Problem, IsProblem}
 use Rattle.label_search.specs.Values.{AreExits}
 use Rattle.label_search.specs.Answer.{step_of, best_of, ComesBefore}
+use Rattle.walk_labels.specs.Places.{place_at}
 use Rattle.walk_labels.specs.Requests.{steps_at}
 use Rattle.aircraft_class.specs.Times.{Times}
-use Rattle.place_cells.specs.declared.cells.PlaceCell.{PlaceCell}
 use Rattle.place_cells.specs.Laid.{windows_of}
-use Rattle.place_cells.specs.Ground.{Ground, ground_in}
-use Rattle.place_cells.specs.Found.{place_in, row_in}
+use Rattle.place_cells.specs.Ground.{Ground, ground_in, cells_of}
+use Rattle.place_cells.specs.Grounds.{numbers_of}
+use Rattle.place_cells.specs.Found.{row_in}
 use Rattle.place_cells.proofs.GroundLaws.{airport_sound, tail_of_airport}
 use Rattle.forward_search.specs.Arrivals.{beginning_of, arrival_problem}
 use Rattle.forward_search.proofs.ArrivalLaws.{arrival_is_problem, same_problem}
@@ -27,42 +28,42 @@ invariant_of-asked c = record {
 
 pub earliest_exits-requires : goal.earliest_exits-requires
 earliest_exits-requires c =
-    let ground : Ground = record { layout = c.graph.result.now; table = c.classes.result.now.table; class = c.args.class; horizon = c.horizon.result; clearance = c.args.clearance; windows = windows_of c.args.store.now } in
+    let ground : Ground = record { layout = c.graph.result.now; table = c.classes.result.now.table; class = c.args.class; horizon = c.horizon.result; clearance = c.args.clearance; windows = windows_of c.args.store.now; numbers = numbers_of c.args.numbers.now } in
     let table = ap (λ (t : Times). t.table) c.classes.ensures in
-    let same : ground ≡ ground_in c.args.airport.now c.args.class c.args.clearance (windows_of c.args.store.now) =
-    λ i. record { layout = c.graph.ensures i; table = table i; class = c.args.class; horizon = c.horizon.ensures.horizon i; clearance = c.args.clearance; windows = windows_of c.args.store.now } in
+    let same : ground ≡ ground_in c.args.airport.now c.args.class c.args.clearance (windows_of c.args.store.now) (numbers_of c.args.numbers.now) =
+    λ i. record { layout = c.graph.ensures i; table = table i; class = c.args.class; horizon = c.horizon.ensures.horizon i; clearance = c.args.clearance; windows = windows_of c.args.store.now; numbers = numbers_of c.args.numbers.now } in
     record {
       sound = subst (λ (g : Ground). IsProblem (arrival_problem g (beginning_of c.args.start 0) (c.args.to ∷ []))) (sym same)
-          (arrival_is_problem (ground_in c.args.airport.now c.args.class c.args.clearance (windows_of c.args.store.now))
-          (airport_sound c.args.airport.now c.requires.rules c.args.class c.args.clearance (windows_of c.args.store.now) c.requires.lists) (beginning_of c.args.start 0) (c.args.to ∷ []));
+          (arrival_is_problem (ground_in c.args.airport.now c.args.class c.args.clearance (windows_of c.args.store.now) (numbers_of c.args.numbers.now))
+          (airport_sound c.args.airport.now c.requires.rules c.args.class c.args.clearance (windows_of c.args.store.now) (numbers_of c.args.numbers.now) c.requires.lists c.args.numbers.now.numbered c.requires.room) (beginning_of c.args.start 0) (c.args.to ∷ []));
     }
 
 pub returns-in-None : goal.returns-in-None
 returns-in-None c leave =
-    let ground : Ground = record { layout = c.graph.result.now; table = c.classes.result.now.table; class = c.args.class; horizon = c.horizon.result; clearance = c.args.clearance; windows = windows_of c.args.store.now } in
-    let told : Ground = ground_in c.args.airport.now c.args.class c.args.clearance (windows_of c.args.store.now) in
+    let ground : Ground = record { layout = c.graph.result.now; table = c.classes.result.now.table; class = c.args.class; horizon = c.horizon.result; clearance = c.args.clearance; windows = windows_of c.args.store.now; numbers = numbers_of c.args.numbers.now } in
+    let told : Ground = ground_in c.args.airport.now c.args.class c.args.clearance (windows_of c.args.store.now) (numbers_of c.args.numbers.now) in
     let table = ap (λ (t : Times). t.table) c.classes.ensures in
-    let same_ground : ground ≡ told = λ i. record { layout = c.graph.ensures i; table = table i; class = c.args.class; horizon = c.horizon.ensures.horizon i; clearance = c.args.clearance; windows = windows_of c.args.store.now } in
+    let same_ground : ground ≡ told = λ i. record { layout = c.graph.ensures i; table = table i; class = c.args.class; horizon = c.horizon.ensures.horizon i; clearance = c.args.clearance; windows = windows_of c.args.store.now; numbers = numbers_of c.args.numbers.now } in
     let same : arrival_problem ground (beginning_of c.args.start 0) (c.args.to ∷ []) ≡ arrival_problem told (beginning_of c.args.start leave) (c.args.to ∷ []) =
     ap (λ (g : Ground). arrival_problem g (beginning_of c.args.start 0) (c.args.to ∷ [])) same_ground ∙ same_problem told c.args.start leave (c.args.to ∷ []) in
     let values : List CellValue = c.in_ok-values.field-0.values.items in
-    let rows = c.in_ok-labels.ensures ∙ ap (λ (cells : List PlaceCell). map (row_in cells) c.deref-2.result.now) c.deref.ensures.value ∙ ap (map (row_in c.args.cells.now.cells.items)) c.deref-2.ensures.value in
-    no_route_answers c.args.airport.now c.args.class c.args.clearance (windows_of c.args.store.now) c.requires.rules c.requires.lists c.args.cells.now.cells.items c.requires.searched.are_laid.cells (beginning_of c.args.start leave) c.args.to c.in_ok-values.field-0.route c.in-None.is values
+    let rows = c.in_ok-labels.ensures ∙ ap (λ (xs : List CellValue). map (row_in ground) xs) c.deref.ensures.value ∙ ap (λ (g : Ground). map (row_in g) values) same_ground in
+    no_route_answers c.args.airport.now c.args.class c.args.clearance (windows_of c.args.store.now) c.requires.rules c.requires.lists (numbers_of c.args.numbers.now) c.args.numbers.now.numbered c.requires.room (beginning_of c.args.start leave) c.args.to c.in_ok-values.field-0.route c.in-None.is values
     (subst (λ (p : Problem). AreExits p.network p.starts p.count (best_of c.in_ok-values.field-0.route) values) same c.in_ok-values.ensures.table)
     (subst (λ (p : Problem). IfNone (best_of c.in_ok-values.field-0.route) (HasNoWalk p.network p.starts p.target)) same c.in_ok-values.ensures.none) c.in_ok-labels.labels rows
 
 pub returns : goal.returns
 returns c leave =
-    let ground : Ground = record { layout = c.graph.result.now; table = c.classes.result.now.table; class = c.args.class; horizon = c.horizon.result; clearance = c.args.clearance; windows = windows_of c.args.store.now } in
-    let told : Ground = ground_in c.args.airport.now c.args.class c.args.clearance (windows_of c.args.store.now) in
+    let ground : Ground = record { layout = c.graph.result.now; table = c.classes.result.now.table; class = c.args.class; horizon = c.horizon.result; clearance = c.args.clearance; windows = windows_of c.args.store.now; numbers = numbers_of c.args.numbers.now } in
+    let told : Ground = ground_in c.args.airport.now c.args.class c.args.clearance (windows_of c.args.store.now) (numbers_of c.args.numbers.now) in
     let table = ap (λ (t : Times). t.table) c.classes.ensures in
-    let same_ground : ground ≡ told = λ i. record { layout = c.graph.ensures i; table = table i; class = c.args.class; horizon = c.horizon.ensures.horizon i; clearance = c.args.clearance; windows = windows_of c.args.store.now } in
+    let same_ground : ground ≡ told = λ i. record { layout = c.graph.ensures i; table = table i; class = c.args.class; horizon = c.horizon.ensures.horizon i; clearance = c.args.clearance; windows = windows_of c.args.store.now; numbers = numbers_of c.args.numbers.now } in
     let same : arrival_problem ground (beginning_of c.args.start 0) (c.args.to ∷ []) ≡ arrival_problem told (beginning_of c.args.start leave) (c.args.to ∷ []) =
     ap (λ (g : Ground). arrival_problem g (beginning_of c.args.start 0) (c.args.to ∷ [])) same_ground ∙ same_problem told c.args.start leave (c.args.to ∷ []) in
     let values : List CellValue = c.in_ok-values.field-0.values.items in
-    let rows = c.in_ok-labels.ensures ∙ ap (λ (cells : List PlaceCell). map (row_in cells) c.deref-2.result.now) c.deref.ensures.value ∙ ap (map (row_in c.args.cells.now.cells.items)) c.deref-2.ensures.value in
-    let steps = c.in_ok-steps-in-Some.ensures ∙ ap (λ (cells : List PlaceCell). steps_at (place_in cells) (map step_of c.deref-in-Some-2.result.now)) c.deref-in-Some.ensures.value ∙ ap (λ (walk : List CellStep). steps_at (place_in c.args.cells.now.cells.items) (map step_of walk)) c.deref-in-Some-2.ensures.value in
-    route_answers c.args.airport.now c.args.class c.args.clearance (windows_of c.args.store.now) c.requires.rules c.requires.lists c.args.cells.now.cells.items c.requires.searched.are_laid.cells (beginning_of c.args.start leave) c.args.to c.in_ok-values.field-0.route c.in-Some.route c.in-Some.is values
+    let rows = c.in_ok-labels.ensures ∙ ap (λ (xs : List CellValue). map (row_in ground) xs) c.deref.ensures.value ∙ ap (λ (g : Ground). map (row_in g) values) same_ground in
+    let steps = c.in_ok-steps-in-Some.ensures ∙ ap (λ (walk : List CellStep). steps_at (place_at (cells_of ground)) (map step_of walk)) c.deref-in-Some.ensures.value ∙ ap (λ (g : Ground). steps_at (place_at (cells_of g)) (map step_of c.in-Some.route.steps.items)) same_ground in
+    route_answers c.args.airport.now c.args.class c.args.clearance (windows_of c.args.store.now) c.requires.rules c.requires.lists (numbers_of c.args.numbers.now) c.args.numbers.now.numbered c.requires.room (beginning_of c.args.start leave) c.args.to c.in_ok-values.field-0.route c.in-Some.route c.in-Some.is values
     (subst (λ (p : Problem). AreExits p.network p.starts p.count (best_of c.in_ok-values.field-0.route) values) same c.in_ok-values.ensures.table)
     (subst (λ (p : Problem). IfSome (best_of c.in_ok-values.field-0.route) (IsBestEnd p.network p.starts p.target)) same c.in_ok-values.ensures.best)
     (subst (λ (p : Problem). IfSome c.in_ok-values.field-0.route (λ f. IsPickedRoute p.network p.starts ComesBefore p.target f.best (map step_of f.steps.items))) same c.in_ok-values.ensures.picked)

@@ -1,10 +1,11 @@
-use Rattle.std.proofs.Common.{◌≡◌, ◌+◌, ◌<◌, ◌≤◌, ◌++◌, take, drop, length, sym, ap, ◌∙◌, subst, arith}
+use Rattle.std.proofs.Common.{◌≡◌, ◌+◌, ◌-◌, ◌<◌, ◌≤◌, ◌++◌, take, drop, length, refl, sym, ap, ◌∙◌, subst, arith}
 use Rattle.std.specs.Prelude.{ℕ, List}
 use Rattle.interval_list.specs.declared.window.Window.{Window}
 use Rattle.interval_list.specs.Cells.{Cell, windows_of, no_cell, no_window}
 use Rattle.interval_list.specs.Edits.{item}
 use Rattle.interval_list.specs.Intervals.{span, ids_of}
 use Rattle.interval_list.specs.Steps.{cut_window, cut_spare}
+use Rattle.interval_list.proofs.Beginnings.{cut-begins}
 use Rattle.interval_list.proofs.Edited.{item-map, length-windows_of}
 use Rattle.interval_list.proofs.Owning.{length-ids_of}
 use Rattle.interval_list.proofs.Progress.{cut-spare, cut-on, cut-stops, cut-lengths}
@@ -13,6 +14,19 @@ use Rattle.interval_list.proofs.edits.take_out.Goals as goal
 -- the window at a place, among the windows
 read : (cells : List Cell) (i : ℕ) → item no_window (windows_of cells) i ≡ (item no_cell cells i).1.window
 read cells i = item-map (λ (x : Cell). x.1.window) no_cell cells i
+
+pub loop-i-init : goal.loop-i-init
+loop-i-init c =
+    let cells = c.args.windows.now in let start = c.first_beyond-start in (
+      start.ensures.inside,
+      start.ensures.place,
+      refl,
+      cut-begins (span c.args.from c.args.until) c.requires.some 0 (windows_of cells) (ids_of (windows_of c.args.spares.now)) start.result.index c.requires.apart c.requires.room
+          (omega (arith, start.ensures.inside, length-windows_of cells)) (λ n e. (
+          let at : start.result.index - 1 ≡ n = omega (arith, e) in
+          subst (λ (k : ℕ). (item no_window (windows_of cells) k).until ≤ c.args.from) at
+          (subst (λ (w : Window). w.until ≤ c.args.from) (sym (read cells (start.result.index - 1))) (start.ensures.over (omega (arith, e)))))),
+    )
 
 pub returns-then-until-window-clause-windows : goal.returns-then-until-window-clause-windows
 returns-then-until-window-clause-windows c =

@@ -1,4 +1,4 @@
-use Rattle.std.proofs.Common.{◌≡◌, ◌+◌, ◌<◌, ◌∙◌, inl, inr, arith}
+use Rattle.std.proofs.Common.{◌≡◌, ◌+◌, ◌<◌, inl, inr, arith}
 use Rattle.std.specs.Prelude.{⊤}
 use Rattle.std.proofs.Common.{ℕ, subst}
 use Rattle.std.proofs.lemmas.Bool.{cases_lt}

@@ -1,6 +1,5 @@
-use Rattle.std.proofs.Common.{length}
-use Rattle.label_search.proofs.MarkLaws.{AreClearedTo}
+use Rattle.label_search.proofs.MarkLaws.{GroupsClearedTo}
 use Rattle.label_search.proofs.marks.clear_marked.Given as goal
 
-abbrev pub invariant-loop-block : goal.invariant-loop-block
-invariant-loop-block l = AreClearedTo l.initial.known l.known (length l.initial.marks) l.marks l.block
+abbrev pub invariant-loop-group : goal.invariant-loop-group
+invariant-loop-group l = GroupsClearedTo l.initial.known l.known l.initial.marks l.marks l.initial.groups l.groups l.group

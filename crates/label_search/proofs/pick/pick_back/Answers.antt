@@ -39,3 +39,12 @@ back-preserved g c =
       labelled = c.label_at-label-in-back.ensures;
       by_end = omega (arith, first.expands.value, c.back.invariant.by_end);
     }
+
+pub back-smaller : goal.back-smaller
+back-smaller g c =
+    let p = g.C.ForwardCells.problem c.args.cells.now in
+    let label = c.back.label in
+    let before = first_before p c.requires.sound (standing c.args.labels.now) c.args.goal c.requires.ended c.back.cell label c.back.invariant.labelled c.back.invariant.by_end c.in_default.ensures.none in
+    let both : Some before.0 ≡ Some c.label_at-label-in-back.result = sym before.1 ∙ c.label_at-label-in-back.ensures in
+    let same : before.0 ≡ c.label_at-label-in-back.result = cc in
+    omega (arith, before.2.expands.value, ap (λ (l : Label). l.value) same, c.requires.sound.takes c.back.cell)

@@ -1,7 +1,4 @@
-use Rattle.std.proofs.Common.{ap, refl, Some}
-use Rattle.airport_file.specs.Reading.{RecordFault}
-use Rattle.taxi_cli.specs.declared.status.Status.TheVariants.{AirportRefused, ReadFault, TooLarge}
-use Rattle.taxi_cli.specs.Lines.{refusal_line, read_fault_line, too_large_line}
+use Rattle.std.proofs.Common.{ap}
 use Rattle.taxi_cli.specs.Asked.{FileNames, Route}
 use Rattle.taxi_cli.specs.Endings.{Call}
 use Rattle.taxi_cli.proofs.EndingLaws.{stop-ends, run-ends}

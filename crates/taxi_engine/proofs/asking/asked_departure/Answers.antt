@@ -1,4 +1,4 @@
-use Rattle.taxi_engine.proofs.AskedLaws.{node_named-exists}
+use Rattle.taxi_base.proofs.AirportLaws.{node_named-exists}
 use Rattle.taxi_engine.proofs.asking.asked_departure.Goals as goal
 
 pub is_stand-requires : goal.is_stand-requires

@@ -1,8 +1,6 @@
-use Rattle.std.proofs.Common.{◌≡◌, ◌<◌, List, length, get_or, IsTrue, sym, ◌∙◌, ap, subst, arith}
+use Rattle.std.proofs.Common.{◌≡◌, List, length, get_or, IsTrue, sym, ◌∙◌, ap, subst, arith}
 use Rattle.taxi_base.specs.declared.numbers.Arc.{Arc}
-use Rattle.taxi_base.specs.Airport.{arc_exists, permits}
-use Rattle.label_search.specs.declared.cells.Cell.{Cell}
-use Rattle.place_cells.specs.Laid.{windows_of}
+use Rattle.taxi_base.specs.Airport.{arc_exists}
 use Rattle.place_cells.specs.Turns.{previous_arcs, no_arc}
 use Rattle.place_cells.specs.Ground.{Ground, arc_in, usable_in, IsArcPart}
 use Rattle.place_cells.specs.Grounds.{ground_of}
@@ -29,8 +27,8 @@ returns c =
     let read : get_or c.previous.result.now c.args.run no_arc ≡ previous = ap (λ (list : List Arc). get_or list c.args.run no_arc) (c.previous.ensures ∙ ap (previous_arcs g.layout) c.arc.ensures) in
     let permitted = previous_permitted g (arc_in g c.args.cell) c.args.run parts.1 in
     let exists = (permits-exist g.layout previous (arc_in g c.args.cell) permitted).0 in
-    let part : IsArcPart g previous c.cell-from.result.from c.args.ready c.part.result = subst (λ (a : Arc). IsArcPart g a c.cell-from.result.from c.args.ready c.part.result) read c.part.ensures in
+    let part : IsArcPart g previous c.args.from c.args.ready c.part.result = subst (λ (a : Arc). IsArcPart g a c.args.from c.args.ready c.part.result) read c.part.ensures in
     record {
-      permitted = part_leads g lists c.args.cell parts.0 previous c.cell-from.result.from c.args.ready c.part.result part exists permitted;
-      expansions_in = expansions_back_in_part g lists c.args.cell parts.0 previous c.cell-from.result.from c.args.ready c.part.result part exists c.args.ready (omega (arith, ap (λ (x : Cell). x.from) c.cell-from.ensures)) (omega arith);
+      permitted = part_leads g lists s.numbers.now.numbered s.room c.args.cell parts.0 previous c.args.from c.args.ready c.part.result part exists permitted;
+      expansions_in = expansions_back_in_part g lists s.numbers.now.numbered s.room c.args.cell parts.0 previous c.args.from c.args.ready c.part.result part exists c.args.ready (omega (arith, c.requires.from)) (omega arith);
     }

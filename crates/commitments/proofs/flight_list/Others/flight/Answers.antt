@@ -1,4 +1,4 @@
-use Rattle.std.proofs.Common.{Fits, w64, ◌<◌, ◌^◌, ◌+◌, ◌∙◌, arith}
+use Rattle.std.proofs.Common.{◌∙◌, arith}
 use Rattle.commitments.proofs.Edits.{left_out-before, left_out-behind}
 use Rattle.commitments.proofs.flight_list.Others.flight.Goals as goal
 

@@ -1,6 +1,6 @@
 use Rattle.std.proofs.Common.{sym, subst, ap, ◌∙◌}
 use Rattle.commitments.specs.Book.{Book, Fits}
-use Rattle.commitments.proofs.Fitting.{stands-unlifted, fits-cancel}
+use Rattle.commitments.proofs.Fitting.{fits-cancel}
 use Rattle.commitments.proofs.ledger.Ledger.cancel.Goals as goal
 
 pub returns-clause-fits : goal.returns-clause-fits

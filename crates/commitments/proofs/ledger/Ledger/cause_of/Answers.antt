@@ -1,6 +1,6 @@
 use Rattle.std.proofs.Common.{◌≤◌, ◌∙◌, sym, arith}
 use Rattle.commitments.specs.Book.{state_of}
-use Rattle.commitments.proofs.RouteFaults.{cause-taken}
+use Rattle.taxi_base.proofs.RouteFaults.{cause-taken}
 use Rattle.commitments.proofs.ledger.Ledger.cause_of.Goals as goal
 
 pub returns-else-horizon-step : goal.returns-else-horizon-step

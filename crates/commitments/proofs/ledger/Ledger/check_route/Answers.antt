@@ -4,7 +4,7 @@ use Rattle.taxi_base.specs.Walks.{IsFeasibleWalk}
 use Rattle.taxi_base.specs.Faults.{conditions_in}
 use Rattle.taxi_base.proofs.FaultLaws.{route_fault-None}
 use Rattle.commitments.specs.Book.{state_of}
-use Rattle.commitments.proofs.RouteFaults.{fault-start, fault-here, fault-end}
+use Rattle.taxi_base.proofs.RouteFaults.{fault-start, fault-here, fault-end}
 use Rattle.commitments.proofs.ledger.Ledger.check_route.Goals as goal
 
 pub returns-in-Some-clause-fault : goal.returns-in-Some-clause-fault

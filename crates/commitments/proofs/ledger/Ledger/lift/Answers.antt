@@ -1,8 +1,6 @@
 use Rattle.std.proofs.Common.{sym, subst, ap, ◌∙◌}
-use Rattle.std.specs.Prelude.{remove, slice_get, IfSome}
-use Rattle.taxi_base.specs.declared.answers.Flight.{Flight}
+use Rattle.std.specs.Prelude.{remove}
 use Rattle.taxi_base.specs.State.{flights_hold, flight_holds}
-use Rattle.window_store.specs.Stands.{HasRoomFor}
 use Rattle.commitments.specs.Book.{Book, Fits, IsPrepared}
 use Rattle.commitments.proofs.Fitting.{stands-unlifted, some-flight, place-some, fits-lift}
 use Rattle.commitments.proofs.SameHolds.{HasRoomFor-fewer, flights_hold-remove}

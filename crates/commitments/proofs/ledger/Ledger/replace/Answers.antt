@@ -1,9 +1,9 @@
-use Rattle.std.proofs.Common.{◌≡◌, Some, sym, subst, ap, ◌∙◌}
+use Rattle.std.proofs.Common.{sym, subst, ap, ◌∙◌}
 use Rattle.std.specs.Option.{ForSome}
 use Rattle.taxi_base.specs.Walks.{IsFeasibleWalk}
-use Rattle.taxi_base.specs.State.{flight_named, flights_hold, flights_without, conditions_of}
+use Rattle.taxi_base.specs.State.{flights_hold, flights_without, conditions_of}
 use Rattle.commitments.specs.Book.{Book, Fits, state_of, lifted_flight}
-use Rattle.commitments.proofs.Names.{absent-left, find-named}
+use Rattle.taxi_base.proofs.FlightNames.{absent-left, find-named}
 use Rattle.commitments.proofs.Fitting.{lifted-in_force, lifted-flight, lifted-stands, lifted-walk, place-some, replaced, fits-replace}
 use Rattle.commitments.proofs.ledger.Ledger.replace.Goals as goal
 

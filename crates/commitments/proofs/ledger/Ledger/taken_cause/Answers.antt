@@ -1,7 +1,4 @@
-use Rattle.std.proofs.Common.{◌≡◌, ◌<◌, ◌≤◌, min, ◌+◌, sym, ap, arith}
-use Rattle.taxi_base.specs.declared.rows.Span.{Span}
-use Rattle.taxi_base.specs.Airport.{clearance_of}
-use Rattle.taxi_base.specs.Windows.{hold_of}
+use Rattle.std.proofs.Common.{arith}
 use Rattle.taxi_base.proofs.AirportLaws.{arc_exists-segment}
 use Rattle.commitments.proofs.ledger.Ledger.taken_cause.Goals as goal
 

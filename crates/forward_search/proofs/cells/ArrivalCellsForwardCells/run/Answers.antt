@@ -1,8 +1,6 @@
-use Rattle.std.proofs.Common.{◌≡◌, ◌<◌, List, length, get_or, IsTrue, refl, sym, ◌∙◌, ap, subst, arith}
+use Rattle.std.proofs.Common.{◌≡◌, List, length, get_or, IsTrue, refl, sym, ◌∙◌, ap, subst, arith}
 use Rattle.taxi_base.specs.declared.numbers.Arc.{Arc}
-use Rattle.taxi_base.specs.Airport.{arc_exists, permits}
-use Rattle.label_search.specs.declared.cells.Cell.{Cell}
-use Rattle.place_cells.specs.Laid.{windows_of}
+use Rattle.taxi_base.specs.Airport.{arc_exists}
 use Rattle.place_cells.specs.Turns.{next_arcs, no_arc}
 use Rattle.place_cells.specs.Ground.{Ground, arc_in, usable_in, IsArcPart}
 use Rattle.place_cells.specs.Grounds.{ground_of}
@@ -29,8 +27,8 @@ returns c =
     let read : get_or c.next.result.now c.args.run no_arc ≡ next = ap (λ (list : List Arc). get_or list c.args.run no_arc) (c.next.ensures ∙ ap (next_arcs g.layout) c.arc.ensures) in
     let permitted = next_permitted g (arc_in g c.args.cell) c.args.run parts.1 in
     let exists = (permits-exist g.layout (arc_in g c.args.cell) next permitted).1 in
-    let part : IsArcPart g next c.args.ready c.cell-last.result.last c.part.result = subst (λ (a : Arc). IsArcPart g a c.args.ready c.cell-last.result.last c.part.result) read c.part.ensures in
+    let part : IsArcPart g next c.args.ready c.args.last c.part.result = subst (λ (a : Arc). IsArcPart g a c.args.ready c.args.last c.part.result) read c.part.ensures in
     record {
-      permitted = part_follows g lists c.args.cell parts.0 next c.args.ready c.cell-last.result.last c.part.result part exists permitted;
-      expansions_in = expansions_in_part g lists c.args.cell parts.0 next c.args.ready c.cell-last.result.last c.part.result part exists c.args.ready refl (omega (arith, ap (λ (x : Cell). x.last) c.cell-last.ensures));
+      permitted = part_follows g lists s.numbers.now.numbered s.room c.args.cell parts.0 next c.args.ready c.args.last c.part.result part exists permitted;
+      expansions_in = expansions_in_part g lists s.numbers.now.numbered s.room c.args.cell parts.0 next c.args.ready c.args.last c.part.result part exists c.args.ready refl (omega (arith, c.requires.last));
     }

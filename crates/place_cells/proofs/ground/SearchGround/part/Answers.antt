@@ -1,33 +1,72 @@
-use Rattle.std.proofs.Common.{◌≡◌, ◌*◌, ◌<◌, IsTrue, List, length, sym, subst, ◌∙◌, ap, Some, is_some, arith}
+use Rattle.std.proofs.Common.{◌≡◌, ℕ, suc, ◌+◌, ◌*◌, ◌/◌, ◌<◌, ◌≤◌, List, [], get_or, length, IsTrue, is_some, sym, ◌∙◌, ap, subst, arith}
 use Rattle.std.proofs.lemmas.Bool.{and_from}
+use Rattle.std.proofs.lemmas.List.{get_or_default}
+use Rattle.taxi_base.specs.declared.numbers.Arc.{Arc}
 use Rattle.taxi_base.specs.declared.numbers.Segment.{Segment}
-use Rattle.taxi_base.specs.Airport.{segment_of, seconds_in}
-use Rattle.label_search.specs.declared.cells.Run.{Run}
-use Rattle.place_cells.specs.declared.cells.PlaceCell.{PlaceCell}
-use Rattle.place_cells.specs.Laid.{windows_of, run_of_arc}
-use Rattle.place_cells.specs.Cut.{IsRising, IsCut}
-use Rattle.place_cells.specs.Ground.{can_use_in}
+use Rattle.taxi_base.specs.declared.rows.Span.{Span}
+use Rattle.taxi_base.specs.Airport.{arc_exists, segment_of, seconds_in}
+use Rattle.taxi_base.specs.Windows.{AreApart}
+use Rattle.window_store.specs.Store.{spans_at}
+use Rattle.place_cells.specs.declared.ground.SearchGround.{SearchGround}
+use Rattle.place_cells.specs.Laid.{windows_of, first_in}
+use Rattle.place_cells.specs.Cut.{IsCut}
+use Rattle.place_cells.specs.Ground.{can_use_in, IsArcPart}
 use Rattle.place_cells.specs.Grounds.{ground_of}
-use Rattle.place_cells.proofs.LaidLaws.{windows_of-length}
+use Rattle.place_cells.proofs.LaidLaws.{windows_of-at, windows_of-length}
 use Rattle.place_cells.proofs.TurnLaws.{exists-below}
 use Rattle.place_cells.proofs.GroundLaws.{arc_part}
 use Rattle.place_cells.proofs.ground.SearchGround.part.Goals as goal
 
-pub run_between-requires : goal.run_between-requires
-run_between-requires c =
+pub index-first-requires : goal.index-first-requires
+index-first-requires c =
     let s = c.args.self.now in
-    let below : c.args.arc.0 < 2 * length (windows_of s.store.now) = omega (arith, exists-below s.graph.now c.args.arc c.requires, s.lists, windows_of-length s.store.now) in
-    subst (λ (list : List PlaceCell). IsRising list c.run.result) (sym c.deref.ensures.value)
-    (subst (λ (r : Run). IsRising s.cells.now.cells.items r) (sym c.run.ensures) (s.laid.rising c.args.arc below))
+    omega (arith, exists-below s.graph.now c.args.arc c.requires, s.lists, windows_of-length s.store.now, s.room.arcs, s.numbers.now.first.ok.0)
 
-pub returns-in-Some : goal.returns-in-Some
-returns-in-Some c =
+pub spans-requires : goal.spans-requires
+spans-requires c =
+    let s = c.args.self.now in
+    omega (arith, exists-below s.graph.now c.args.arc c.requires, s.lists, ap (λ (t : Segment). t.0) c.segment_of-2.ensures)
+
+first_is : (s : SearchGround) (arc : Arc) → IsTrue (arc_exists s.graph.now arc) → (first : ℕ) → first ≡ get_or s.numbers.now.first.items arc.0 first → first ≡ first_in s.numbers.now.first.items arc.0
+first_is s arc exists first read =
+    read ∙ get_or_default s.numbers.now.first.items arc.0 first 0 (omega (arith, exists-below s.graph.now arc exists, s.lists, windows_of-length s.store.now, s.room.arcs))
+
+row_is : (s : SearchGround) (arc : Arc) (t : Segment) (row : List Span) → t ≡ segment_of arc → row ≡ spans_at s.store.now t → row ≡ get_or (windows_of s.store.now) (arc.0 / 2) []
+row_is s arc t row same read = read ∙ ap (λ (u : Segment). spans_at s.store.now u) same ∙ sym (windows_of-at s.store.now (arc.0 / 2))
+
+fits : (s : SearchGround) (arc : Arc) → IsTrue (arc_exists s.graph.now arc) → (first : ℕ) → first ≡ get_or s.numbers.now.first.items arc.0 first → (t : Segment) (row : List Span)
+    → t ≡ segment_of arc → row ≡ spans_at s.store.now t → first + length row ≤ length s.numbers.now.spots.items
+fits s arc exists first read t row same read_row =
+    let below : arc.0 < 2 * length (windows_of s.store.now) = omega (arith, exists-below s.graph.now arc exists, s.lists, windows_of-length s.store.now) in
+    omega (
+      arith,
+      first_is s arc exists first read,
+      ap length (row_is s arc t row same read_row),
+      s.room.room arc.0 below,
+      s.numbers.now.numbered.inside (suc arc.0) (omega (arith, below, s.room.arcs)),
+    )
+
+pub overflow_add-result : goal.overflow_add-result
+overflow_add-result c =
+    let s = c.args.self.now in
+    record {
+      fits = omega (
+        arith,
+        fits s c.args.arc c.requires c.index-first.result.now c.index-first.ensures c.segment_of-2.result c.spans.result.now c.segment_of-2.ensures c.spans.ensures.spans,
+        c.part_between-part.ensures.ordered,
+        c.part_between-part.ensures.within,
+        s.numbers.now.spots.small,
+      );
+    }
+
+pub returns : goal.returns
+returns c =
     let s = c.args.self.now in
     let below : c.args.arc.0 < 2 * length (windows_of s.store.now) = omega (arith, exists-below s.graph.now c.args.arc c.requires, s.lists, windows_of-length s.store.now) in
-    let cut : IsCut s.cells.now.cells.items (run_of_arc (windows_of s.store.now) c.args.arc) c.args.low c.args.high c.run_between.result =
-    subst (λ (r : Run). IsCut s.cells.now.cells.items r c.args.low c.args.high c.run_between.result) c.run.ensures
-    (subst (λ (list : List PlaceCell). IsCut list c.run.result c.args.low c.args.high c.run_between.result) c.deref.ensures.value c.run_between.ensures) in
-    let seconds : seconds_in s.classes.now.table s.class (segment_of c.args.arc) ≡ Some c.in-Some.field-0 =
-    ap (λ (t : Segment). seconds_in s.classes.now.table s.class t) (sym c.segment_of.ensures) ∙ sym c.seconds.ensures.set ∙ c.in-Some.is in
-    let can : IsTrue (can_use_in (ground_of s) c.args.arc) = and_from _ _ c.requires (ap is_some seconds) in
-    arc_part (ground_of s) s.cells.now s.laid c.args.arc below can c.args.low c.args.high c.run_between.result cut
+    let row = row_is s c.args.arc c.segment_of-2.result c.spans.result.now c.segment_of-2.ensures c.spans.ensures.spans in
+    let can : IsTrue (can_use_in (ground_of s) c.args.arc) = and_from _ _ c.requires
+    (sym (ap is_some (c.seconds.ensures.set ∙ ap (λ (t : Segment). seconds_in s.classes.now.table s.class t) c.segment_of.ensures)) ∙ c.if-is_none.ensures) in
+    subst (λ (n : ℕ). IsArcPart (ground_of s) c.args.arc c.args.low c.args.high (record { first = n + c.part_between-part.result.first; until = n + c.part_between-part.result.until }))
+    (sym (first_is s c.args.arc c.requires c.index-first.result.now c.index-first.ensures))
+    (arc_part (ground_of s) s.numbers.now.numbered s.room c.args.arc below (subst (AreApart 0) row c.spans.ensures.apart) can c.args.low c.args.high c.part_between-part.result
+    (subst (λ (xs : List Span). IsCut xs c.args.low c.args.high c.part_between-part.result) row c.part_between-part.ensures))

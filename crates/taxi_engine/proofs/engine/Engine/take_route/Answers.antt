@@ -12,9 +12,11 @@ use Rattle.taxi_engine.specs.Routed.{IsNew}
 use Rattle.taxi_engine.proofs.engine.Engine.take_route.Goals as goal
 
 pub prepare_route-requires-clause-walk : goal.prepare_route-requires-clause-walk
-prepare_route-requires-clause-walk c =
-    subst (λ (s : EngineState). IsFeasibleWalk (conditions_in s.airport c.args.flight.class s.state) c.args.flight.steps) (sym c.self.view_is)
-    (Meets-IsFeasibleWalk _ c.args.flight.request c.args.flight.steps c.requires.met)
+prepare_route-requires-clause-walk c = record {
+  conditions = conditions_in c.args.self.now.airport c.args.flight.class c.args.self.now.state;
+  here = sym (ap (λ (s : EngineState). s.airport) c.self.view_is);
+  walk = Meets-IsFeasibleWalk _ c.args.flight.request c.args.flight.steps c.requires.met;
+}
 
 pub commit-requires-clause-feasible : goal.commit-requires-clause-feasible
 commit-requires-clause-feasible c =

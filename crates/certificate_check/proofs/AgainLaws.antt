@@ -1,0 +1,115 @@
+-- Flights that are routed anew among the others.
+use Rattle.std.proofs.Common.{◌≡◌, ◌∙◌, ℕ, ◌≤◌, List, [], Option, Some, None, IsTrue, refl, sym, ap, subst, arith}
+use Rattle.std.specs.Prelude.{Result, Ok, Err, IfOk, IfSome, IsSome, All}
+use Rattle.taxi_base.specs.declared.collections.Memory.{Memory}
+use Rattle.taxi_base.specs.declared.rows.Step.{Step as Leg}
+use Rattle.taxi_base.specs.declared.rows.LabelRow.{LabelRow}
+use Rattle.taxi_base.specs.declared.answers.Flight.{Flight}
+use Rattle.taxi_base.specs.declared.answers.Request.{Request}
+use Rattle.taxi_base.specs.Airport.{Airport, IsWellFormed, layout_of, arc_exists}
+use Rattle.taxi_base.specs.Walks.{Conditions, conditions_among, Meets}
+use Rattle.taxi_base.specs.State.{State, flight_named, flights_without, without, with_route, holds_in, conditions_of, IsSound}
+use Rattle.taxi_base.proofs.StateLaws.{IsSound-with_route}
+use Rattle.taxi_base.proofs.FlightNames.{find-named}
+use Rattle.taxi_base.proofs.WalkLaws.{IsFeasibleWalk-steps}
+use Rattle.certificate.specs.declared.block.Block.{Block}
+use Rattle.certificate.specs.declared.block.Block.TheVariants.{Refused, Filed, Cancelled, Route, NoRoute, Windows, Occupancy, Timetable}
+use Rattle.certificate.specs.declared.rule.Rule.{Rule}
+use Rattle.certificate.specs.Sought.{UnderWay, Sought}
+use Rattle.certificate.specs.Passes.{IsFormOf, KeepsSought}
+use Rattle.certificate.proofs.FlightLaws.{flight_named-there}
+use Rattle.certificate.proofs.FoundLaws.{step-enter}
+use Rattle.checked_state.specs.declared.spans.HeldSpans.{HeldSpans}
+use Rattle.checked_state.specs.Spans.{AreSpansOf, holds_in_lists}
+use Rattle.checked_state.proofs.HeldLaws.{same-conditions, differ-with}
+use Rattle.checked_state.proofs.FlightLaws.{if-some}
+use Rattle.check_rows.specs.Known.{DifferOn}
+use Rattle.certificate_check.specs.Told.{IsFirstOf}
+use Rattle.certificate_check.specs.Again.{HasToldSteps}
+use Rattle.certificate_check.specs.Judged.{KeepsTold, IsToldOf}
+use Rattle.certificate_check.proofs.DeskLaws.{flight-walk, flight-arcs}
+use Rattle.certificate_check.proofs.JudgedLaws.{told-of}
+use Rattle.certificate_check.proofs.StepLaws.{ok-weaker}
+
+-- the steps of a flight in force are entered early
+pub flight-early : (airport : Airport) (state : State) → IsWellFormed airport → (sound : IsSound airport state) (name : List ℕ) (flight : Flight) → flight_named name state.flights ≡ Some flight
+    → All (λ step. step.enter ≤ 9999999) flight.steps
+flight-early airport state well sound name flight found k d low =
+    let c : Conditions = conditions_of airport state flight in
+    let made = IsFeasibleWalk-steps c flight.steps (flight-walk airport state sound name flight found) k d low in
+    omega (arith, step-enter c _ made, well.horizon.1)
+
+one-flight : (name : List ℕ) (flights : List Flight) (f g : Flight) → flight_named name flights ≡ Some f → flight_named name flights ≡ Some g → f ≡ g
+one-flight name flights f g a b = cc (sym a ∙ b)
+
+-- the rule that is found among the others' spans
+pub lifted-first : (airport : Airport) (state : State) (name : List ℕ) (f : Flight) → flight_named name state.flights ≡ Some f → (spans : HeldSpans) → AreSpansOf (holds_in airport (without name state)) spans
+    → (steps : List Leg) → steps ≡ f.steps → (time : ℕ) (request : Request) (block : Block) {E : Type 0} (r : Result (Option Rule) E)
+    → IfOk r (λ broken. (s : Sought) → s.conditions ≡ conditions_among airport f.class (holds_in_lists spans) → s.request ≡ request → s.under_way ≡ Some (record { steps = steps; time = time }) → IsFirstOf (λ rule. KeepsSought rule s block) broken)
+    → IfOk r (λ broken. (g : Flight) → flight_named name state.flights ≡ Some g → (s : Sought) → s.conditions ≡ conditions_of airport state g → s.request ≡ request → s.under_way ≡ Some (record { steps = g.steps; time = time }) → IsFirstOf (λ rule. KeepsSought rule s block) broken)
+lifted-first airport state name f found spans has steps are time request block r told = ok-weaker r _ _ (λ broken told g there s conditions asked way. by broken told g there s conditions asked way) told where
+  by : (broken : Option Rule)
+      → ((s : Sought) → s.conditions ≡ conditions_among airport f.class (holds_in_lists spans) → s.request ≡ request → s.under_way ≡ Some (record { steps = steps; time = time }) → IsFirstOf (λ rule. KeepsSought rule s block) broken)
+      → (g : Flight) → flight_named name state.flights ≡ Some g → (s : Sought) → s.conditions ≡ conditions_of airport state g → s.request ≡ request → s.under_way ≡ Some (record { steps = g.steps; time = time })
+      → IsFirstOf (λ rule. KeepsSought rule s block) broken
+  by broken told g there s conditions asked way =
+      let is : g ≡ f = one-flight name state.flights g f there found in
+      let named : f.name ≡ name = find-named name state.flights f found in
+      let those : conditions_of airport state g ≡ conditions_among airport f.class (holds_in_lists spans) =
+      ap (conditions_of airport state) is ∙ ap (λ n. conditions_among airport f.class (holds_in airport (without n state))) named ∙ sym (same-conditions airport f.class spans (holds_in airport (without name state)) has) in
+      let same_steps : g.steps ≡ steps = ap (λ (h : Flight). h.steps) is ∙ sym are in
+      told s (conditions ∙ those) asked (way ∙ (λ i. Some (record { steps = same_steps i; time = time })))
+
+-- what did not pass is told, and the state stays
+pub told-unpassed : (s : Sought) (block : Block) (state : State) (r : Result (Option Rule) Memory) → IsFormOf s block → (r ≡ Ok None → ⊥) → IfOk r (λ broken. IsFirstOf (λ rule. KeepsSought rule s block) broken) → IsToldOf s block state r state
+told-unpassed s block state (Ok None) form other first = absurd (other refl)
+told-unpassed s block state (Ok (Some rule)) form other first = (told-of s block form (Some rule) first, refl)
+told-unpassed s block state (Err memory) form other first = refl
+
+-- ---- the steps that are told
+
+pub told-there : (block : Block) (o : Option (List Leg)) (steps : List Leg) → HasToldSteps block o → o ≡ Some steps
+    → (name : List ℕ) × (second : ℕ) × (labels : List LabelRow) × (block ≡ Route name second steps labels)
+told-there (Route name second steps labels) o others has is = (name, second, labels, (λ i. Route name second (same (sym has ∙ is) i) labels)) where
+  same : {xs ys : List Leg} → Some xs ≡ Some ys → xs ≡ ys
+  same e = cc
+told-there (NoRoute labels) o others has is = absurd (cc (sym has ∙ is))
+told-there (Refused why) o others has is = absurd (cc (sym has ∙ is))
+told-there (Filed name start end) o others has is = absurd (cc (sym has ∙ is))
+told-there (Cancelled name) o others has is = absurd (cc (sym has ∙ is))
+told-there (Windows segment windows) o others has is = absurd (cc (sym has ∙ is))
+told-there (Occupancy segment rows) o others has is = absurd (cc (sym has ∙ is))
+told-there (Timetable rows) o others has is = absurd (cc (sym has ∙ is))
+
+pub none-there : (block : Block) (o : Option (List Leg)) → HasToldSteps block o → o ≡ None → (name : List ℕ) (second : ℕ) (steps : List Leg) (labels : List LabelRow) → block ≡ Route name second steps labels → ⊥
+none-there block o has none name second steps labels is = cc (sym (subst (λ b. HasToldSteps b o) is has) ∙ none)
+
+-- ---- the flight that is routed anew
+
+pub some-there : {A : Type 0} (o : Option A) → IsSome o → (x : A) × (o ≡ Some x)
+some-there None some = absurd (cc some)
+some-there (Some x) some = (x, refl)
+
+module _ (airport : Airport) (state lifted : State) (is : lifted ≡ state) (sound : IsSound airport state) (name : List ℕ) where
+  pub lifted-arcs : IfSome (flight_named name lifted.flights) (λ flight. All (λ step. IsTrue (arc_exists (layout_of airport) step.arc)) flight.steps)
+  lifted-arcs =
+      subst (λ (s : State). IfSome (flight_named name s.flights) (λ flight. All (λ step. IsTrue (arc_exists (layout_of airport) step.arc)) flight.steps)) (sym is)
+      (if-some (flight_named name state.flights) _ (λ flight found. flight-arcs airport state sound name flight found))
+
+  module _ (flight : Flight) (found : flight_named name state.flights ≡ Some flight) (request : Request) (steps : List Leg) (met : Meets (conditions_of airport state flight) request steps) where
+    pub again-sound : IsSound airport (with_route flight request steps state)
+    again-sound = IsSound-with_route airport flight state request steps sound (flight_named-there name state.flights flight found) met
+
+    -- what the call did, by the state before
+    pub again-after : (new : State) → IfSome (flight_named name lifted.flights) (λ flight. new ≡ with_route flight request steps lifted) → new ≡ with_route flight request steps state
+    again-after new did =
+        let there : flight_named name lifted.flights ≡ Some flight = ap (λ (s : State). flight_named name s.flights) is ∙ found in
+        (rw there at did) ∙ ap (with_route flight request steps) is
+
+-- what is held changes on the segments of the new steps, where no party is at work
+pub again-differ : (airport : Airport) (flights : List Flight) (name : List ℕ) (flight : Flight) → flight_named name flights ≡ Some flight → (request : Request) (steps : List Leg)
+    → DifferOn steps (holds_in airport (without name (record { flights = flights; parties = [] }))) (holds_in airport (with_route flight request steps (record { flights = flights; parties = [] })))
+again-differ airport flights name flight found request steps =
+    subst (λ n. DifferOn steps (holds_in airport (without n (record { flights = flights; parties = [] }))) (holds_in airport (with_route flight request steps (record { flights = flights; parties = [] }))))
+    (find-named name flights flight found)
+    (differ-with airport (record flight { request = request; steps = steps }) (flights_without flight.name flights))

@@ -1,0 +1,94 @@
+-- What the parts of a checker say of the flights in force.
+use Rattle.std.proofs.Common.{◌≡◌, ◌↔◌, ◌∙◌, ℕ, ◌<◌, ◌≤◌, Bool, true, false, ◌&&◌, eqb, List, length, get_or, Option, Some, None, IsTrue, refl, sym, ap, subst, arith}
+use Rattle.std.specs.Prelude.{Ok, All, Contains, option_copied}
+use Rattle.std.specs.Bool.{Decides}
+use Rattle.std.specs.Borrow.{Bor}
+use Rattle.std.proofs.lemmas.Bool.{lt-ltb, false≢true, and_parts, and_from, eqb-true, eq-eqb}
+use Rattle.std.proofs.lemmas.List.Elements.{All-contains}
+use Rattle.taxi_base.specs.declared.numbers.Segment.{Segment}
+use Rattle.taxi_base.specs.declared.rows.Span.{Span}
+use Rattle.taxi_base.specs.declared.rows.Step.{Step}
+use Rattle.taxi_base.specs.declared.answers.Flight.{Flight}
+use Rattle.taxi_base.specs.Airport.{Airport, IsWellFormed, layout_of, arc_exists, segment_named}
+use Rattle.taxi_base.specs.Windows.{is_free, AreWindows}
+use Rattle.taxi_base.specs.Walks.{Conditions, IsFeasibleWalk, IsFeasibleStep, free_among}
+use Rattle.taxi_base.specs.State.{State, flight_named, holds_in, conditions_of, IsSound}
+use Rattle.taxi_base.proofs.WalkLaws.{IsFeasibleWalk-steps}
+use Rattle.taxi_base.proofs.WindowLaws.{AreWindows-same}
+use Rattle.taxi_text.specs.declared.command.Command.TheVariants as command
+use Rattle.certificate.specs.declared.block.Block.{Block}
+use Rattle.certificate.specs.declared.block.Block.TheVariants.{Windows}
+use Rattle.certificate.specs.CarriedOut.{windows_among}
+use Rattle.certificate.proofs.FlightLaws.{flight_named-there}
+use Rattle.certificate.proofs.WindowsTold.{windows_among-are}
+use Rattle.check_rows.specs.declared.known.KnownWindows.{KnownWindows}
+use Rattle.check_rows.specs.Known.{AreKnown}
+use Rattle.checked_state.specs.declared.spans.HeldSpans.{HeldSpans}
+use Rattle.checked_state.specs.Spans.{AreSpansOf, holds_in_lists}
+use Rattle.checked_state.proofs.HeldLaws.{same-free}
+use Rattle.certificate_check.specs.Desk.{AreKnownIn}
+use Rattle.certificate_check.specs.Judged.{broken_unless, IsAfterFor, IsJudged}
+use Rattle.certificate_check.proofs.JudgedLaws.{done-judged, undone-judged}
+
+-- the flight that a look-up finds
+pub copied-flight : {A : Type 0} (o : Option (Bor A)) (x : Bor A) → o ≡ Some x → option_copied o ≡ Some x.now
+copied-flight o x is = ap option_copied is
+
+module _ (airport : Airport) (state : State) (sound : IsSound airport state) (name : List ℕ) (flight : Flight) (found : flight_named name state.flights ≡ Some flight) where
+  pub flight-walk : IsFeasibleWalk (conditions_of airport state flight) flight.steps
+  flight-walk = All-contains (λ f. IsFeasibleWalk (conditions_of airport state f) f.steps) state.flights flight sound.feasible.walks (flight_named-there name state.flights flight found)
+
+  pub flight-arcs : All (λ step. IsTrue (arc_exists (layout_of airport) step.arc)) flight.steps
+  flight-arcs k d low = (IsFeasibleWalk-steps (conditions_of airport state flight) flight.steps flight-walk k d low).on_arc
+
+-- ---- the windows by the lists' own holds, and by those of the state
+
+module _ (airport : Airport) (state : State) (spans : HeldSpans) (has : AreSpansOf (holds_in airport state) spans) (known : KnownWindows) where
+  pub known-own : AreKnownIn airport state known → AreKnown (length airport.segments) (free_among airport (holds_in_lists spans)) known
+  known-own are = subst (λ (free : Segment → ℕ → Bool). AreKnown (length airport.segments) free known) (sym (same-free airport spans (holds_in airport state) has)) are
+
+  pub own-known : AreKnown (length airport.segments) (free_among airport (holds_in_lists spans)) known → AreKnownIn airport state known
+  own-known are = subst (λ (free : Segment → ℕ → Bool). AreKnown (length airport.segments) free known) (same-free airport spans (holds_in airport state) has) are
+
+-- the windows that are known are those that are told
+pub windows-known : (airport : Airport) (state : State) (segment : Segment) (windows : List Span) → segment.0 < length airport.segments
+    → AreWindows (free_among airport (holds_in airport state) segment) windows → windows ≡ windows_among airport state segment
+windows-known airport state segment windows on are =
+    AreWindows-same (is_free airport.conflicts airport.horizon (holds_in airport state) segment) windows (windows_among airport state segment)
+    (record { apart = are.apart; same = λ t. are.same t ∙ here t }) (windows_among-are airport state segment)
+  where
+    here : (t : ℕ) → free_among airport (holds_in airport state) segment t ≡ is_free airport.conflicts airport.horizon (holds_in airport state) segment t
+    here t = rw (lt-ltb segment.0 (length airport.segments) on) refl
+
+pub windows-judged : (airport : Airport) (state : State) (name : List ℕ) (segment : Segment) (block : Block) (windows : List Span) → segment_named airport name ≡ Some segment
+    → windows ≡ windows_among airport state segment → (kept : Bool) → IsTrue kept ↔ (block ≡ Windows segment windows) → IsJudged airport (command.Windows name) block state (Ok (broken_unless kept)) state
+windows-judged airport state name segment block windows known are true same =
+    let is : block ≡ Windows segment (windows_among airport state segment) = same.0 refl ∙ (λ i. Windows segment (are i)) in
+    done-judged airport state (command.Windows name) block (rw known refl) refl state (record { segment = segment; known = known; reply = (is, refl) })
+    (subst (λ b. IsAfterFor airport state (command.Windows name) b state) (sym is) refl)
+windows-judged airport state name segment block windows known are false same =
+    undone-judged airport state (command.Windows name) block (rw known refl) refl (λ after done.
+    let one : done.segment ≡ segment = cc (sym done.known ∙ known) in
+    let is : block ≡ Windows segment (windows_among airport state segment) = subst (λ (s : Segment). block ≡ Windows s (windows_among airport state s)) one done.reply.0 in
+    absurd (false≢true (same.1 (is ∙ (λ i. Windows segment (sym are i))))))
+
+-- ---- rows that are compared
+
+pub span-decides : (a b : Span) → Decides (eqb a.from b.from && eqb a.until b.until) (a ≡ b)
+span-decides a b = (
+  λ e. (let parts = and_parts _ _ e in
+      let from = eqb-true _ _ parts.0 in
+      let until = eqb-true _ _ parts.1 in
+      λ i. record { from = from i; until = until i }),
+  λ e. and_from _ _ (eq-eqb _ _ (ap (λ (s : Span). s.from) e)) (eq-eqb _ _ (ap (λ (s : Span). s.until) e)),
+)
+
+pub windows-is : (block : Block) (told segment : Segment) (list windows : List Span) (r : Bool) → block ≡ Windows told list → told.0 ≡ segment.0 → Decides r (list ≡ windows)
+    → IsTrue r ↔ (block ≡ Windows segment windows)
+windows-is block told segment list windows r is number decides = (
+  λ e. is ∙ (λ i. Windows (record { 0 = number i }) (decides.0 e i)),
+  λ e. decides.1 (same-list (sym is ∙ e)),
+)
+  where
+    same-list : {s t : Segment} {xs ys : List Span} → Windows s xs ≡ Windows t ys → xs ≡ ys
+    same-list e = cc

@@ -1,0 +1,81 @@
+-- A route that is given by hand and not refused: its flight can be put in force, and how the block that answers it is judged.
+use Rattle.std.proofs.Common.{◌≡◌, ◌∙◌, ℕ, ◌<◌, List, [], ◌++◌, length, Option, Some, None, IsTrue, option_map, refl, sym, ap, subst, arith}
+use Rattle.std.specs.Prelude.{Ok, All, MatchOption, nat_lt, nat_le}
+use Rattle.std.proofs.lemmas.Bool.{and_parts, ltb-true, leb-true}
+use Rattle.taxi_base.specs.declared.rows.Step.{Step}
+use Rattle.taxi_base.specs.declared.answers.Flight.{Flight}
+use Rattle.taxi_base.specs.Airport.{Airport, layout_of, arc_exists}
+use Rattle.taxi_base.specs.Walks.{IsFeasibleWalk, Meets, begin_of, end_of}
+use Rattle.taxi_base.specs.State.{State, with_flight, IsSound}
+use Rattle.taxi_base.specs.Faults.{conditions_in}
+use Rattle.taxi_base.proofs.FaultLaws.{route_fault-None}
+use Rattle.taxi_base.proofs.StateLaws.{IsSound-with_flight}
+use Rattle.taxi_text.specs.declared.command.FiledStep.{FiledStep}
+use Rattle.taxi_text.specs.declared.command.Command.TheVariants as command
+use Rattle.taxi_text.specs.Commands.{is_step_count}
+use Rattle.certificate.specs.declared.block.Block.{Block}
+use Rattle.certificate.specs.declared.block.Block.TheVariants.{Refused, Filed}
+use Rattle.certificate.specs.Asked.{filed_steps}
+use Rattle.certificate.specs.CarriedOut.{filed_flight, IsFiled, IsCarriedOut}
+use Rattle.certificate.specs.Replies.{refused, IsDueTo}
+use Rattle.certificate.proofs.FiledLaws.{filed_steps-length, filed_steps-arcs, filed_steps-joined}
+use Rattle.certificate.proofs.RefusalLaws.{HasRoom, none-fails, file-has_room, file-does_not_fail}
+use Rattle.certificate.specs.CarriedOut.{IsOf}
+use Rattle.certificate_check.specs.Filing.{IsAccepted}
+use Rattle.certificate_check.specs.Judged.{IsAfterFor, IsJudged}
+use Rattle.certificate_check.proofs.JudgedLaws.{done-judged}
+
+-- what is still to come after some steps
+abbrev pub steps_and : Airport → List Step → ℕ → List FiledStep → Option (List Step)
+steps_and airport steps enter filed = option_map (λ rest. steps ++ rest) (filed_steps airport enter filed)
+
+pub few-made : (airport : Airport) (start : ℕ) (filed : List FiledStep) (steps : List Step) → filed_steps airport start filed ≡ Some steps → IsTrue (is_step_count (length filed))
+    → (0 < length steps) × (length steps < 257)
+few-made airport start filed steps made count =
+    let parts = and_parts (nat_lt 0 (length filed)) (nat_le (length filed) 256) count in
+    let same = filed_steps-length airport start filed steps made in
+    (omega (arith, same, ltb-true _ _ parts.0), omega (arith, same, leb-true _ _ parts.1))
+
+module _ (airport : Airport) (state : State) (name class : List ℕ) (start : ℕ) (filed : List FiledStep) (count : IsTrue (is_step_count (length filed)))
+    (flight : Flight) (accepted : IsAccepted airport state name class start filed flight) where
+  pub accepted-some : 0 < length flight.steps
+  accepted-some = (few-made airport start filed flight.steps accepted.steps_known count).0
+
+  pub accepted-arcs : All (λ step. IsTrue (arc_exists (layout_of airport) step.arc)) flight.steps
+  accepted-arcs = filed_steps-arcs airport start filed flight.steps accepted.steps_known
+
+  accepted-walk : IsFeasibleWalk (conditions_in airport flight.class state) flight.steps
+  accepted-walk =
+      (route_fault-None airport flight.class state flight.steps accepted-some accepted-arcs (filed_steps-joined airport start filed flight.steps accepted.steps_known)).0
+      (none-fails airport state class start filed flight.class flight.steps accepted.class_known accepted.steps_known (file-does_not_fail airport state name class start filed accepted.unrefused))
+
+  room : HasRoom state flight.name
+  room = subst (HasRoom state) (sym accepted.same_name) (file-has_room airport state name class start filed accepted.unrefused)
+
+  pub accepted-sound : IsSound airport state → IsSound airport (with_flight flight state)
+  accepted-sound sound =
+      IsSound-with_flight airport flight state sound room.room room.absent
+      (subst (λ r. Meets (conditions_in airport flight.class state) r flight.steps) (sym accepted.by_hand) accepted-walk)
+
+  flight-is : flight ≡ filed_flight name flight.class flight.steps
+  flight-is = λ i. record { name = accepted.same_name i; class = flight.class; request = accepted.by_hand i; steps = flight.steps }
+
+  done : (block : Block) (after : State) → block ≡ Filed name (begin_of flight.steps) (end_of flight.steps) → after ≡ with_flight flight state → IsFiled airport state name class start filed block after
+  done block after is left = record {
+    class = flight.class;
+    steps = flight.steps;
+    class_known = accepted.class_known;
+    steps_known = accepted.steps_known;
+    reply = (is, left ∙ ap (λ (f : Flight). with_flight f state) flight-is);
+  }
+
+  -- a block that tells it keeps every rule
+  pub accepted-judged : (block : Block) (after : State) → block ≡ Filed flight.name (begin_of flight.steps) (end_of flight.steps) → after ≡ with_flight flight state
+      → IsJudged airport (command.File name class start filed) block state (Ok None) after
+  accepted-judged block after told left =
+      let is = told ∙ ap (λ (n : List ℕ). Filed n (begin_of flight.steps) (end_of flight.steps)) accepted.same_name in
+      let due : IsDueTo airport state (command.File name class start filed) (Filed name (begin_of flight.steps) (end_of flight.steps)) after =
+      subst (λ o. MatchOption o (IsFiled airport state name class start filed (Filed name (begin_of flight.steps) (end_of flight.steps)) after) (λ why. IsOf (refused state why) (Filed name (begin_of flight.steps) (end_of flight.steps)) after))
+      (sym accepted.unrefused) (done _ after refl left) in
+      done-judged airport state (command.File name class start filed) block accepted.unrefused refl after (done block after is left)
+      (subst (λ b. IsAfterFor airport state (command.File name class start filed) b after) (sym is) due)

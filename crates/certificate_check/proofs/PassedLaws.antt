@@ -1,0 +1,103 @@
+-- What a line is answered, from how the block is judged as the answer to its command.
+use Rattle.std.proofs.Common.{◌≡◌, ℕ, ◌<◌, List, Option, Some, None, inl, inr, refl, sym, subst, arith}
+use Rattle.std.specs.Prelude.{Result, Ok, Err, MatchOption}
+use Rattle.taxi_base.specs.declared.collections.Memory.{Memory}
+use Rattle.taxi_base.specs.declared.answers.Refusal.TheVariants as refusal
+use Rattle.taxi_base.specs.Airport.{Airport, IsWellFormed}
+use Rattle.taxi_base.specs.State.{State, IsSound}
+use Rattle.taxi_text.specs.declared.command.Command.{Command}
+use Rattle.taxi_text.specs.Commands.{command_of}
+use Rattle.certificate.specs.declared.block.Block.{Block}
+use Rattle.certificate.specs.declared.block.Block.TheVariants.{Refused, Filed, Cancelled, Route, NoRoute, Windows, Occupancy, Timetable}
+use Rattle.certificate.specs.declared.rule.Rule.{Rule}
+use Rattle.certificate.specs.declared.rule.Rule.TheVariants as rule
+use Rattle.certificate.specs.Replies.{IsDue, IsReply, as_due, no_memory, NeedsNoMemory}
+use Rattle.certificate.specs.Passes.{KeepsReply, Keeps, IsAfter, IsPassed, IsFirstBroken, turn_of}
+use Rattle.certificate.proofs.PassLaws.{reply-passes}
+use Rattle.certificate.proofs.BestLaws.{passed-best, passed-sound}
+use Rattle.certificate_check.specs.declared.checker.CheckRefused.{CheckRefused}
+use Rattle.certificate_check.specs.declared.checker.CheckRefused.TheVariants as check
+use Rattle.certificate_check.specs.Told.{IsFirstOf}
+use Rattle.certificate_check.specs.Judged.{KeepsFor, IsAfterFor, IsJudged}
+use Rattle.certificate_check.specs.Checker.{ChecksIn, IsBadLineChecked, answer_of}
+
+module _ (airport : Airport) (state : State) (line : List ℕ) (block : Block) (command : Command) (read : command_of line ≡ Some command) where
+  kept : (r : Rule) → KeepsFor airport state command block r → Keeps airport state line block r
+  kept rule.Reply h = inr (rw read h)
+  kept rule.Walk h = rw read h
+  kept rule.Rows h = rw read h
+  kept rule.Start h = rw read h
+  kept rule.Step h = rw read h
+  kept rule.Target h = rw read h
+
+  -- `refused memory` does not stand for the reply
+  abbrev IsNoMemory : Type 0
+  IsNoMemory = (NeedsNoMemory (Some command) → ⊥) × (block ≡ Refused refusal.Memory) → ⊥
+
+  broken : IsNoMemory → (r : Rule) → (KeepsFor airport state command block r → ⊥) → Keeps airport state line block r → ⊥
+  broken memory rule.Reply fails (inl stands) = memory ((λ h. stands.0 (rw read h)), stands.1)
+  broken memory rule.Reply fails (inr form) = fails (rw read at form)
+  broken memory rule.Walk fails h = fails (rw read at h)
+  broken memory rule.Rows fails h = fails (rw read at h)
+  broken memory rule.Start fails h = fails (rw read at h)
+  broken memory rule.Step fails h = fails (rw read at h)
+  broken memory rule.Target fails h = fails (rw read at h)
+
+  left : (after : State) (b : Block) → IsAfterFor airport state command b after → IsAfter airport state line b after
+  unfolding IsDue
+  left after (Route name second steps labels) is = rw read is
+  left after (Filed name start end) is = rw read is
+  left after (Cancelled name) is = rw read is
+  left after (NoRoute labels) is = is
+  left after (Refused why) is = is
+  left after (Windows segment windows) is = is
+  left after (Occupancy segment rows) is = is
+  left after (Timetable rows) is = is
+
+  pub passed : IsFirstOf (KeepsFor airport state command block) None → (after : State) → IsAfterFor airport state command block after → IsPassed airport state line block after
+  passed all after is = record { keeps = λ r. kept r (all r); after_it = left after block is }
+
+  pub first-broken : IsNoMemory → (r : Rule) → IsFirstOf (KeepsFor airport state command block) (Some r) → IsFirstBroken airport state line block r
+  first-broken memory r first = record { broken = broken memory r first.0; before = λ other low. kept other (first.1 other low) }
+
+-- ---- what passes
+
+module _ (airport : Airport) (state : State) (well : IsWellFormed airport) (sound : IsSound airport state) (line : List ℕ) (block : Block) where
+  pub passes : (after : State) → IsPassed airport state line block after → ChecksIn airport line block state (Ok tt) after
+  passes after is = (is, passed-best airport state well sound line block after is, passed-sound airport state well sound line block after is)
+
+  pub memory-passes : (NeedsNoMemory (command_of line) → ⊥) → block ≡ Refused refusal.Memory → ChecksIn airport line block state (Ok tt) state
+  memory-passes other is =
+      subst (λ b. ChecksIn airport line b state (Ok tt) state) (sym is)
+      (let answered = reply-passes airport state line (Refused refusal.Memory) state well sound (no_memory other) in
+      (answered, passed-best airport state well sound line (Refused refusal.Memory) state answered, sound))
+
+  pub bad-passes : command_of line ≡ None → block ≡ Refused refusal.BadLine → ChecksIn airport line block state (Ok tt) state
+  unfolding IsDue
+  bad-passes none is =
+      passes state (reply-passes airport state line block state well sound (as_due block state (rw none (is, refl))))
+
+  pub bad-broken : command_of line ≡ None → (block ≡ Refused refusal.BadLine → ⊥) → (block ≡ Refused refusal.Memory → ⊥) → ChecksIn airport line block state (Err (check.Wrong rule.Reply)) state
+  bad-broken none bad memory = (record { broken = go; before = λ other low. absurd (omega (arith, low)) }, refl) where
+    go : KeepsReply airport state line block → ⊥
+    go (inl stands) = memory stands.1
+    go (inr form) = bad (rw none at form)
+
+  -- a block that is judged
+  module _ (command : Command) (read : command_of line ≡ Some command) (memory : (NeedsNoMemory (Some command) → ⊥) × (block ≡ Refused refusal.Memory) → ⊥) where
+    pub judged-passes : (after : State) → IsJudged airport command block state (Ok None) after → ChecksIn airport line block state (Ok tt) after
+    judged-passes after judged = passes after (passed airport state line block command read judged.0 after judged.1)
+
+    pub judged-broken : (r : Rule) (after : State) → IsJudged airport command block state (Ok (Some r)) after → ChecksIn airport line block state (Err (check.Wrong r)) after
+    judged-broken r after judged = (first-broken airport state line block command read memory r judged.0, judged.1)
+
+    pub judged-checks : (r : Result (Option Rule) Memory) (after : State) → IsJudged airport command block state r after → ChecksIn airport line block state (answer_of r) after
+    judged-checks (Ok None) after judged = judged-passes after judged
+    judged-checks (Ok (Some rule)) after judged = judged-broken rule after judged
+    judged-checks (Err memory) after judged = judged
+
+  pub bad-checks : command_of line ≡ None → (r : Result Unit CheckRefused) → IsBadLineChecked block r → ChecksIn airport line block state r state
+  bad-checks none (Ok done) (inl bad) = bad-passes none bad
+  bad-checks none (Ok done) (inr memory) = memory-passes (λ h. rw none at h) memory
+  bad-checks none (Err (check.Wrong r)) checked = subst (λ r. ChecksIn airport line block state (Err (check.Wrong r)) state) (sym checked.0) (bad-broken none checked.1 checked.2)
+  bad-checks none (Err check.Memory) checked = absurd checked

@@ -1,0 +1,68 @@
+//! Commands that ask for a report: what is held of a segment, and the flights in force.
+ghost use Rattle.std.specs.Prelude.{◌≡◌, ◌↔◌, ◌<◌, IsTrue, Ok, length};
+ghost use Rattle.taxi_base.specs.Airport.{Airport};
+ghost use Rattle.taxi_base.specs.State.{IsSound};
+ghost use Rattle.taxi_text.specs.declared.command.Command.TheVariants as command;
+ghost use Rattle.checked_state.specs.Flights.{state_of, AreInOrder};
+ghost use Rattle.certificate_check.specs.Judged.{IsJudged};
+ghost use Rattle.certificate_check.specs.Reports.{IsOccupancyOf, IsTimetableOf};
+
+use crate::occupied::are_held_rows;
+use crate::plain::broken_unless;
+use crate::reply::is_refusal;
+use crate::timetable::are_flight_rows;
+use airport_file::Airport;
+use certificate::{Block, Rule};
+use checked_state::HeldFlights;
+use taxi_base::{Flight, Name, Refusal, Segment};
+
+/// The first rule that the block of what is held of a segment breaks.
+pub fn check_occupancy(
+    airport: &Airport,
+    held: &HeldFlights,
+    name: &Name,
+    block: &Block,
+) -> Option<Rule>
+    requires { IsSound airport.now (state_of held.now) }
+    ensures { IsJudged airport.now (command.Occupancy name.now) block.now (state_of held.now) (Ok result) (state_of held.now) }
+{
+    let Some(segment) = airport.segment_named(name) else {
+        let kept = is_refusal(block, &Refusal::UnknownSegment);
+        return broken_unless(kept);
+    };
+    let kept = is_occupancy(airport, held, segment, block);
+    broken_unless(kept)
+}
+
+/// The first rule that the block of the flights in force breaks.
+pub fn check_timetable(held: &HeldFlights, block: &Block) -> Option<Rule>
+    ensures { (airport : Airport) → IsJudged airport command.Timetable block.now (state_of held.now) (Ok result) (state_of held.now) }
+{
+    let kept = is_timetable(held.flights(), block);
+    broken_unless(kept)
+}
+
+// Whether a block tells all that is held of a segment and of those in conflict with it.
+fn is_occupancy(airport: &Airport, held: &HeldFlights, segment: Segment, block: &Block) -> bool
+    requires on { segment.0 < length airport.now.segments }
+    requires ordered { AreInOrder (state_of held.now).flights }
+    ensures { IsTrue result ↔ IsOccupancyOf airport.now (state_of held.now) segment block.now }
+{
+    match block {
+        Block::Occupancy {
+            segment: told,
+            held: rows,
+        } => *told == segment && are_held_rows(airport, held, segment, rows.as_slice()),
+        _ => false,
+    }
+}
+
+// Whether a block tells that these are the flights in force.
+fn is_timetable(flights: &[Flight], block: &Block) -> bool
+    ensures { IsTrue result ↔ IsTimetableOf flights.now block.now }
+{
+    match block {
+        Block::Timetable { flights: rows } => are_flight_rows(rows.as_slice(), flights),
+        _ => false,
+    }
+}

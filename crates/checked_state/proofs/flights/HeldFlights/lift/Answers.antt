@@ -1,0 +1,45 @@
+use Rattle.std.proofs.Common.{List, ◌≡◌, ◌≤◌, ◌+◌, ◌∙◌, sym, ap, subst, arith}
+use Rattle.taxi_base.specs.declared.rows.Step.{Step}
+use Rattle.taxi_base.specs.declared.answers.Flight.{Flight}
+use Rattle.taxi_base.specs.State.{flights_without, flights_hold}
+use Rattle.checked_state.specs.Spans.{steps_on, room_at}
+use Rattle.checked_state.proofs.FlightLaws.{found-at, place-there, take-apart}
+use Rattle.checked_state.proofs.flights.HeldFlights.lift.Goals as goal
+
+pub unwrap-place-requires : goal.unwrap-place-requires
+unwrap-place-requires c = place-there c.args.self.now.flights.items c.args.name.now c.requires.ordered c.place_of.result (rw c.deref.ensures.value at c.place_of.ensures) c.requires.in_force
+
+pub release-requires : goal.release-requires
+release-requires c =
+    let flights = c.args.self.now.flights.items in
+    let name = c.args.name.now in
+    let flight = c.index-flight.result.now in
+    let found = found-at flights name c.requires.ordered c.place_of.result c.unwrap-place.result (rw c.deref.ensures.value at c.place_of.ensures) c.unwrap-place.ensures flight c.index-flight.ensures in (
+      flights_hold c.args.airport.now (flights_without name flights),
+      take-apart c.args.airport.now c.args.self.now.spans name flights flight c.requires.ordered found c.horizon.result c.clearance-clearance.result c.as_slice-steps.result.now
+          c.horizon.ensures.horizon c.clearance-clearance.ensures.clearance c.as_slice-steps.ensures c.requires.spans.spans,
+    )
+
+pub returns-clause-spans : goal.returns-clause-spans
+returns-clause-spans c =
+    let flights = c.args.self.now.flights.items in
+    let name = c.args.name.now in
+    let flight = c.index-flight.result.now in
+    let found = found-at flights name c.requires.ordered c.place_of.result c.unwrap-place.result (rw c.deref.ensures.value at c.place_of.ensures) c.unwrap-place.ensures flight c.index-flight.ensures in
+    record {
+      lists = c.release.ensures.count ∙ c.requires.spans.lists;
+      spans = c.release.ensures.gone (flights_hold c.args.airport.now (flights_without name flights))
+          (take-apart c.args.airport.now c.args.self.now.spans name flights flight c.requires.ordered found c.horizon.result c.clearance-clearance.result c.as_slice-steps.result.now
+          c.horizon.ensures.horizon c.clearance-clearance.ensures.clearance c.as_slice-steps.ensures c.requires.spans.spans);
+    }
+
+pub returns-clause-room : goal.returns-clause-room
+returns-clause-room c other known s =
+    let flights = c.args.self.now.flights.items in
+    let name = c.args.name.now in
+    let flight = c.index-flight.result.now in
+    let found = found-at flights name c.requires.ordered c.place_of.result c.unwrap-place.result (rw c.deref.ensures.value at c.place_of.ensures) c.unwrap-place.ensures flight c.index-flight.ensures in
+    let is : flight ≡ other = cc (sym found ∙ known) in
+    let steps : c.as_slice-steps.result.now ≡ other.steps = c.as_slice-steps.ensures ∙ ap (λ (f : Flight). f.steps) is in
+    let gains = subst (λ (steps : List Step). room_at c.args.self.now.spans s + steps_on s steps ≤ room_at c.release.new.self s) steps (c.release.ensures.room s) in
+    omega (arith, gains)

@@ -1,0 +1,10 @@
+use Rattle.std.proofs.Common.{rules}
+use Rattle.std.proofs.lemmas.List.Sorted.{answers_always}
+use Rattle.checked_state.proofs.FlightLaws.{searched}
+use Rattle.checked_state.proofs.flights.place_of.Goals as goal
+
+pub returns : goal.returns
+returns c =
+    let facts = c.binary_search_by_key.ensures in
+    let by_key = facts.position (λ f. f.name) (answers_always _ _ _ (λ f a r g called. search rules)) in
+    searched c.args.flights.now c.args.name.now c.requires _ facts.bound by_key

@@ -1,0 +1,172 @@
+//! The flights in force by rising names, and the spans that they hold.
+ghost use Rattle.std.specs.Prelude.{◌≡◌, ◌<◌, [], None, All, AllPairs, IsTrue, IsSome, IfOk, IfSome, OnOk, OnErr, length, option_copied};
+ghost use Rattle.taxi_base.specs.Airport.{arc_exists, layout_of};
+ghost use Rattle.taxi_base.specs.State.{no_holder, flight_named, with_flight, without, with_route, holder_count, holds_in};
+ghost use Rattle.checked_state.specs.Spans.{AreSpansOf};
+ghost use Rattle.checked_state.specs.Flights.{state_of, HasSpansOf, HasRoomAgain, AreInOrder, IsPlace};
+
+use crate::HeldSpans;
+use airport_file::Airport;
+use std::alloc::Global;
+use taxi_base::{Flight, List, Memory, Name, Request, Step};
+
+/// The flights in force, by rising names, and beside them the spans for which segments are held. The spans of one flight may be
+/// taken out for a while.
+#[derive(Drop)]
+pub struct HeldFlights {
+    flights: Vec<Flight>,
+    spans: HeldSpans,
+}
+
+impl HeldFlights {
+    /// No flight over an airport.
+    pub fn new(alloc: Global, airport: &Airport) -> Result<HeldFlights, Memory>
+        ensures none { IfOk result (λ held. state_of held ≡ no_holder) }
+        ensures spans { IfOk result (HasSpansOf airport.now no_holder) }
+    {
+        let flights = Vec::new(alloc);
+        let spans = HeldSpans::new(alloc, airport.graph().segments())?;
+        Ok(HeldFlights { flights, spans })
+    }
+
+    /// How many flights are in force.
+    pub fn count(&self) -> usize
+        ensures { result ≡ holder_count (state_of self.now) }
+    {
+        self.flights.len()
+    }
+
+    /// The flights, by rising names.
+    pub fn flights(&self) -> &[Flight]
+        ensures { result.now ≡ (state_of self.now).flights }
+    {
+        &self.flights
+    }
+
+    /// The spans for which segments are held.
+    pub fn spans(&self) -> &HeldSpans
+        ensures { result.now ≡ self.now.spans }
+    {
+        &self.spans
+    }
+
+    /// The flight of a name.
+    pub fn flight(&self, name: &Name) -> Option<&Flight>
+        requires { AreInOrder (state_of self.now).flights }
+        ensures { option_copied result ≡ flight_named name.now (state_of self.now).flights }
+    {
+        let place = place_of(&self.flights, name).ok()?;
+        Some(&self.flights[place])
+    }
+
+    /// Puts a flight in force. Where memory runs out nothing changes.
+    pub fn put_in(&mut self, airport: &Airport, flight: Flight) -> Result<(), Memory>
+        requires ordered { AreInOrder (state_of self.old).flights }
+        requires absent { flight_named flight.name (state_of self.old).flights ≡ None }
+        requires arcs { All (λ step. IsTrue (arc_exists (layout_of airport.now) step.arc)) flight.steps }
+        requires spans { HasSpansOf airport.now (state_of self.old) self.old }
+        ensures ok { OnOk result (state_of self.new ≡ with_flight flight (state_of self.old)) }
+        ensures err { OnErr result (state_of self.new ≡ state_of self.old) }
+        ensures spans { HasSpansOf airport.now (state_of self.new) self.new }
+    {
+        self.flights.reserve(1)?;
+        let clearance = airport.clearance(flight.class);
+        let steps = flight.steps.as_slice();
+        self.spans.hold(airport.horizon(), clearance, steps)?;
+        let place = place_of(&self.flights, &flight.name).unwrap_err();
+        self.flights.insert(place, flight).unwrap();
+        Ok(())
+    }
+
+    /// Takes the flight of a name out of force. It needs no memory.
+    pub fn take_out(&mut self, airport: &Airport, name: &Name)
+        requires ordered { AreInOrder (state_of self.old).flights }
+        requires in_force { IsSome (flight_named name.now (state_of self.old).flights) }
+        requires spans { HasSpansOf airport.now (state_of self.old) self.old }
+        ensures state { state_of self.new ≡ without name.now (state_of self.old) }
+        ensures spans { HasSpansOf airport.now (state_of self.new) self.new }
+    {
+        let place = place_of(&self.flights, name).unwrap();
+        let flight = self.flights.remove(place);
+        let clearance = airport.clearance(flight.class);
+        let steps = flight.steps.as_slice();
+        self.spans.release(airport.horizon(), clearance, steps);
+    }
+
+    /// Takes out the spans of the flight of a name, which stays in force. It needs no memory, and there is room for them then.
+    pub fn lift(&mut self, airport: &Airport, name: &Name)
+        requires ordered { AreInOrder (state_of self.old).flights }
+        requires in_force { IsSome (flight_named name.now (state_of self.old).flights) }
+        requires spans { HasSpansOf airport.now (state_of self.old) self.old }
+        ensures state { state_of self.new ≡ state_of self.old }
+        ensures spans { HasSpansOf airport.now (without name.now (state_of self.old)) self.new }
+        ensures room { HasRoomAgain name.now self.new }
+    {
+        let place = place_of(&self.flights, name).unwrap();
+        let flight = &self.flights[place];
+        let clearance = airport.clearance(flight.class);
+        let steps = flight.steps.as_slice();
+        self.spans.release(airport.horizon(), clearance, steps);
+    }
+
+    /// Puts the spans of the flight of a name back, for which there is room. It needs no memory.
+    pub fn lower(&mut self, airport: &Airport, name: &Name)
+        requires ordered { AreInOrder (state_of self.old).flights }
+        requires in_force { IsSome (flight_named name.now (state_of self.old).flights) }
+        requires arcs { IfSome (flight_named name.now (state_of self.old).flights) (λ flight. All (λ step. IsTrue (arc_exists (layout_of airport.now) step.arc)) flight.steps) }
+        requires spans { HasSpansOf airport.now (without name.now (state_of self.old)) self.old }
+        requires room { HasRoomAgain name.now self.old }
+        ensures state { state_of self.new ≡ state_of self.old }
+        ensures spans { HasSpansOf airport.now (state_of self.old) self.new }
+    {
+        let place = place_of(&self.flights, name).unwrap();
+        let flight = &self.flights[place];
+        let clearance = airport.clearance(flight.class);
+        let steps = flight.steps.as_slice();
+        self.spans
+            .hold(airport.horizon(), clearance, steps)
+            .unwrap();
+    }
+
+    /// Gives the flight of a name, whose spans are taken out, another request and other steps, and puts their spans in. Where
+    /// memory runs out the old spans are put back.
+    pub fn replace(
+        &mut self,
+        airport: &Airport,
+        name: &Name,
+        request: Request,
+        steps: List<Step>,
+    ) -> Result<(), Memory>
+        requires ordered { AreInOrder (state_of self.old).flights }
+        requires in_force { IsSome (flight_named name.now (state_of self.old).flights) }
+        requires old_arcs { IfSome (flight_named name.now (state_of self.old).flights) (λ flight. All (λ step. IsTrue (arc_exists (layout_of airport.now) step.arc)) flight.steps) }
+        requires arcs { All (λ step. IsTrue (arc_exists (layout_of airport.now) step.arc)) steps }
+        requires spans { HasSpansOf airport.now (without name.now (state_of self.old)) self.old }
+        requires room { HasRoomAgain name.now self.old }
+        ensures ok { OnOk result (IfSome (flight_named name.now (state_of self.old).flights) (λ flight. state_of self.new ≡ with_route flight request steps (state_of self.old))) }
+        ensures err { OnErr result (state_of self.new ≡ state_of self.old) }
+        ensures spans { HasSpansOf airport.now (state_of self.new) self.new }
+    {
+        let place = place_of(&self.flights, name).unwrap();
+        let clearance = airport.clearance(self.flights[place].class);
+        let held = self
+            .spans
+            .hold(airport.horizon(), clearance, steps.as_slice());
+        if held.is_err() {
+            self.lower(airport, name);
+            return Err(Memory);
+        }
+        let flight = &mut self.flights[place];
+        flight.request = request;
+        flight.steps = steps;
+        Ok(())
+    }
+}
+
+// Where a name is among flights, or where it would go.
+fn place_of(flights: &[Flight], name: &Name) -> Result<usize, usize>
+    requires { AreInOrder flights.now }
+    ensures { IsPlace flights.now name.now result }
+{
+    flights.binary_search_by_key(name, |flight| flight.name)
+}

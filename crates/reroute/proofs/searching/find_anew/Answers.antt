@@ -1,0 +1,32 @@
+use Rattle.std.proofs.Common.{sym, subst, arith}
+use Rattle.std.specs.Prelude.{IfOk}
+use Rattle.taxi_base.specs.declared.answers.Request.{Request}
+use Rattle.taxi_base.specs.Airport.{clearance_of}
+use Rattle.taxi_base.specs.Walks.{Conditions, conditions_in_windows}
+use Rattle.place_cells.specs.Laid.{windows_of}
+use Rattle.reroute.proofs.FoundAnew.{IsAnswerAnew, departure-early, begins-anew, goes-on}
+use Rattle.reroute.proofs.searching.find_anew.Goals as goal
+
+pub depart_in-requires-clause-times : goal.depart_in-requires-clause-times
+depart_in-requires-clause-times c =
+    let early = departure-early _ c.in-Departure.from c.in-Departure.own c.in-Departure.asked c.in-Departure.queue c.args.flight.now.steps (rw c.in-Departure.is at c.requires.met) in
+    omega (arith, early, c.horizon-horizon.ensures.rules.horizon.1, c.saturating_sub-earliest.ensures)
+
+pub returns-in-None : goal.returns-in-None
+returns-in-None c =
+    let airport = c.args.airport.now in
+    let in_windows : Conditions = conditions_in_windows airport c.args.flight.now.class (clearance_of airport c.args.flight.now.class) (windows_of c.args.store.now) in
+    subst (λ (asks : Request). IfOk c.arrive_in.result (IsAnswerAnew in_windows c.args.flight.now.steps c.args.time c.args.to asks)) (sym c.in-Arrival.is)
+    (begins-anew in_windows c.args.flight.now.steps c.args.time c.args.to c.in-Arrival.from c.in-Arrival.own c.in-Arrival.asked c.in-Arrival.hold 4294967295
+    (omega (arith, c.horizon-horizon.ensures.rules.horizon.1)) (rw c.as_slice.ensures at c.in-None.ensures) c.arrive_in.result
+    (rw (c.clearance-clearance.ensures.clearance, c.max.ensures, c.saturating_add.ensures, c.unwrap_or-target.ensures) at (c.arrive_in.ensures 0)))
+
+pub returns-in_ok-rest-in-Some : goal.returns-in_ok-rest-in-Some
+returns-in_ok-rest-in-Some c =
+    let airport = c.args.airport.now in
+    let in_windows : Conditions = conditions_in_windows airport c.args.flight.now.class (clearance_of airport c.args.flight.now.class) (windows_of c.args.store.now) in
+    let way = rw c.as_slice.ensures at c.in-Some.ensures in
+    subst (λ (asks : Request). IfOk c.after_steps.result (IsAnswerAnew in_windows c.args.flight.now.steps c.args.time c.args.to asks)) (sym c.in-Arrival.is)
+    (goes-on in_windows c.args.flight.now.steps c.args.time c.args.to c.in-Arrival.from c.in-Arrival.own c.in-Arrival.asked c.in-Arrival.hold c.in-Some.begun.now c.in-Some.done.now
+    way.0 way.1 c.in_ok-rest-in-Some.rest
+    (rw (c.clearance-clearance.ensures.clearance, c.unwrap_or-target.ensures) at (c.in_ok-rest-in-Some.ensures c.in-Some.begun.now.leave)) c.after_steps.result c.after_steps.ensures)

@@ -1,0 +1,6 @@
+pub mod Marks
+pub mod Times
+pub mod Rows
+pub mod Answers
+pub mod Schedule
+pub mod Accepted

@@ -1,0 +1,259 @@
+-- From runs to the headline.
+use Rattle.std.proofs.Common.{◌≡◌, ◌≤◌, ◌↔◌, ◌⊎◌, inl, inr, ◌∷◌, ◌∙◌, [], ℕ, List, length, All, Option, Some, None, option_and_then, Result, Ok, Err, refl, sym, ap, subst, arith}
+use Rattle.std.proofs.lemmas.List.Elements.{All-cons, All-nil}
+use Rattle.std.proofs.lemmas.List.{length-append}
+use Rattle.taxi_base.specs.declared.answers.Request.{Request}
+use Rattle.taxi_base.specs.declared.answers.Request.TheVariants as request
+use Rattle.taxi_base.specs.declared.answers.Refusal.TheVariants as refusal
+use Rattle.taxi_base.specs.declared.rows.Step.{Step}
+use Rattle.taxi_base.specs.declared.rows.LabelRow.{LabelRow}
+use Rattle.taxi_base.specs.Airport.{Airport, IsWellFormed}
+use Rattle.taxi_base.specs.Again.{IsBestFor}
+use Rattle.taxi_base.specs.State.{State, no_holder, IsSound}
+use Rattle.taxi_base.proofs.StateLaws.{IsClashFree-feasible}
+use Rattle.taxi_text.specs.declared.command.Command.{Command}
+use Rattle.taxi_text.specs.Commands.{command_of}
+use Rattle.taxi_text.specs.Lines.{commands_of}
+use Rattle.taxi_io.specs.Counts.{Rose}
+use Rattle.taxi_io.specs.Files.{Files, IsFile, IsLonger}
+use Rattle.taxi_io.specs.Written.{Grew, GrewInPart}
+use Rattle.airport_file.specs.Reading.{RecordFault, airport_of}
+use Rattle.airport_file.proofs.AcceptedLaws.{accepted-well}
+use Rattle.certificate.specs.declared.block.Block.{Block}
+use Rattle.certificate.specs.declared.block.Block.TheVariants as block
+use Rattle.certificate.specs.Printable.{IsPrintable}
+use Rattle.certificate.specs.CarriedOut.{second_of}
+use Rattle.certificate.specs.Refusals.{first_refusal}
+use Rattle.certificate.specs.Replies.{IsAnswered, HaveNames}
+use Rattle.certificate.specs.Passes.{KeepsReply, IsOfDueForm, IsFormOf, TellsBest}
+use Rattle.certificate.specs.declared.rule.Rule.TheVariants as rule
+use Rattle.certificate.specs.Sought.{Sought, sought_of, sought_by, IsWalkFor}
+use Rattle.certificate.proofs.PassLaws.{reply-passes}
+use Rattle.certificate.proofs.BestLaws.{passed-best}
+use Rattle.taxi_cli.specs.declared.status.Status.{Status}
+use Rattle.taxi_cli.specs.declared.status.Status.TheVariants as status
+use Rattle.taxi_cli.specs.Asked.{FileNames, Asked, Route}
+use Rattle.taxi_cli.specs.Runs.{InTurn, IsRun, blocks_text, done_line, transcript}
+use Rattle.taxi_cli.specs.Checks.{IsPassedRun}
+use Rattle.taxi_cli.specs.Outcomes.{airport_limit, commands_limit, IsJudged, AreAccepted, IsTranscript, IsRunTooLarge}
+use Rattle.taxi_cli.specs.Endings.{Call, IsDueText, IsCutShort, Ends}
+use Rattle.taxi_cli.specs.Headline.{TellsNoRoute, IsBestWalk, AnswersCommand, AnswersAll, IsWholeAnswer, Headline}
+use Rattle.taxi_cli.proofs.RunLaws.{none-sound, run-over}
+
+-- ---- one command
+
+best-one : (r : Request) (IsOne : List Step → Type 0) (steps : List Step) → IsBestFor r IsOne steps → IsOne steps
+best-one request.Filed IsOne steps best = absurd best
+best-one (request.Arrival from to asked hold) IsOne steps best = best.one
+best-one (request.Departure from to asked queue) IsOne steps best = best.one
+
+best-walk : (r : Request) (IsOne : List Step → Type 0) (second : ℕ) (steps : List Step) → IsBestFor r IsOne steps → second_of r steps ≡ second → IsBestWalk r IsOne second steps
+best-walk request.Filed IsOne second steps best told = absurd best
+best-walk (request.Arrival from to asked hold) IsOne second steps best told = (best, told)
+best-walk (request.Departure from to asked queue) IsOne second steps best told = (best, told)
+
+sought-command : (airport : Airport) (state : State) (o : Option Command) (s : Sought) → option_and_then (sought_of airport state) o ≡ Some s
+    → (command : Command) × (o ≡ Some command) × (sought_of airport state command ≡ Some s)
+sought-command airport state (Some command) s e = (command, refl, e)
+sought-command airport state None s e = absurd (cc)
+
+route-best : (airport : Airport) (state : State) (line : List ℕ) (b : Block) → TellsBest airport state line b
+    → (name : List ℕ) (second : ℕ) (steps : List Step) (labels : List LabelRow) → b ≡ block.Route name second steps labels
+    → (command : Command) × (sought : Sought) × (command_of line ≡ Some command) × (sought_of airport state command ≡ Some sought) × IsBestWalk sought.request (IsWalkFor sought) second steps
+route-best airport state line b best name second steps labels is =
+    let told : TellsBest airport state line (block.Route name second steps labels) = subst (TellsBest airport state line) is best in
+    let found = sought-command airport state (command_of line) told.0 told.1 in
+    (found.0, told.0, found.1, found.2, best-walk told.0.request (IsWalkFor told.0) second steps told.2 told.3)
+
+-- the walks that the line seeks are those that its command seeks
+same-sought : (airport : Airport) (state : State) (line : List ℕ) (command : Command) (s t : Sought) → command_of line ≡ Some command
+    → sought_of airport state command ≡ Some s → sought_by airport state line ≡ Some t → t ≡ s
+same-sought airport state line command s t read is by =
+    let one : sought_by airport state line ≡ sought_of airport state command = ap (option_and_then (sought_of airport state)) read in
+    cc
+
+due-form : (airport : Airport) (state : State) (line : List ℕ) (command : Command) (s : Sought) (b : Block) → command_of line ≡ Some command
+    → first_refusal airport state command ≡ None → sought_of airport state command ≡ Some s → IsOfDueForm airport state line b → IsFormOf s b
+due-form airport state line command s b read none is form = rw is at (rw none at (rw read at form))
+
+no_route-is : (airport : Airport) (state : State) (line : List ℕ) (command : Command) (s : Sought) (b : Block) → command_of line ≡ Some command
+    → sought_of airport state command ≡ Some s → IsFormOf s b → TellsBest airport state line b → TellsNoRoute b ↔ ((steps : List Step) → IsWalkFor s steps → ⊥)
+no_route-is airport state line command s (block.Route name second steps labels) read is form best = (
+  λ none. absurd none,
+  λ none. let same = same-sought airport state line command s best.0 read is best.1 in
+      absurd (none steps (subst (λ (t : Sought). IsWalkFor t steps) same (best-one best.0.request (IsWalkFor best.0) steps best.2))),
+)
+no_route-is airport state line command s (block.NoRoute labels) read is form best = (
+  λ told. let same = same-sought airport state line command s best.0 read is best.1 in
+      λ steps walk. best.2 steps (subst (λ (t : Sought). IsWalkFor t steps) (sym same) walk),
+  λ none. tt,
+)
+no_route-is airport state line command s b read is form best = absurd form
+
+answers-command : (airport : Airport) (state : State) (line : List ℕ) (b : Block) (after : State) → IsWellFormed airport → IsSound airport state
+    → IsAnswered airport state line b after → AnswersCommand airport state line b after
+answers-command airport state line b after well sound answered =
+    let passed = reply-passes airport state line b after well sound answered.reply in
+    let best = passed-best airport state well sound line b after passed in
+    record {
+      answers = answered.reply;
+      best = route-best airport state line b best;
+      no_route = λ command read none s is memory. keeps command read none s is memory (passed.keeps rule.Reply) best;
+      clash_free = answered.clash_free;
+      passes = passed;
+    }
+  where
+    keeps : (command : Command) → command_of line ≡ Some command → first_refusal airport state command ≡ None → (s : Sought) → sought_of airport state command ≡ Some s
+        → (b ≡ block.Refused refusal.Memory → ⊥) → KeepsReply airport state line b → TellsBest airport state line b → TellsNoRoute b ↔ ((steps : List Step) → IsWalkFor s steps → ⊥)
+    keeps command read none s is memory (inl want) best = absurd (memory want.1)
+    keeps command read none s is memory (inr form) best = no_route-is airport state line command s b read is (due-form airport state line command s b read none is form) best
+
+-- ---- a run
+
+run-answers : (airport : Airport) (before after : State) (lines : List (List ℕ)) (blocks : List Block) → IsWellFormed airport → IsSound airport before
+    → IsRun airport before lines blocks after → InTurn AnswersCommand airport before lines blocks after
+run-answers airport before after [] [] well sound run = run
+run-answers airport before after [] (b ∷ blocks) well sound run = absurd run
+run-answers airport before after (line ∷ lines) [] well sound run = absurd run
+run-answers airport before after (line ∷ lines) (b ∷ blocks) well sound run =
+    (run.0, answers-command airport before line b run.0 well sound run.1, run-answers airport run.0 after lines blocks well run.1.sound run.2)
+
+run-passed : (airport : Airport) (before after : State) (lines : List (List ℕ)) (blocks : List Block) → IsWellFormed airport → IsSound airport before
+    → IsRun airport before lines blocks after → IsPassedRun airport before lines blocks after
+run-passed airport before after [] [] well sound run = run
+run-passed airport before after [] (b ∷ blocks) well sound run = absurd run
+run-passed airport before after (line ∷ lines) [] well sound run = absurd run
+run-passed airport before after (line ∷ lines) (b ∷ blocks) well sound run =
+    (run.0, reply-passes airport before line b run.0 well sound run.1.reply, run-passed airport run.0 after lines blocks well run.1.sound run.2)
+
+run-printable : (airport : Airport) (before after : State) (lines : List (List ℕ)) (blocks : List Block) → IsWellFormed airport → HaveNames before
+    → IsRun airport before lines blocks after → All (IsPrintable airport) blocks
+run-printable airport before after [] [] well names run = All-nil (IsPrintable airport)
+run-printable airport before after [] (b ∷ blocks) well names run = absurd run
+run-printable airport before after (line ∷ lines) [] well names run = absurd run
+run-printable airport before after (line ∷ lines) (b ∷ blocks) well names run =
+    All-cons (IsPrintable airport) b blocks (run.1.printable well names) (run-printable airport run.0 after lines blocks well (run.1.named well names) run.2)
+
+no_holder-names : HaveNames no_holder
+no_holder-names = (All-nil _, All-nil _)
+
+answers-all : (airport : Airport) (after : State) (commands : List (List ℕ)) (blocks : List Block) (text : List ℕ) → IsWellFormed airport
+    → IsRun airport no_holder commands blocks after → text ≡ transcript airport blocks → AnswersAll airport commands text
+answers-all airport after commands blocks text well run whole =
+    let sound = none-sound airport in
+    record {
+      blocks = blocks;
+      after = after;
+      in_turn = run-answers airport no_holder after commands blocks well sound run;
+      clash_free_at_first = IsClashFree-feasible airport no_holder sound.feasible;
+      whole = whole;
+      accepted = record {
+        after = after;
+        passed = run-passed airport no_holder after commands blocks well sound run;
+        printable = run-printable airport no_holder after commands blocks well no_holder-names run;
+        whole = whole;
+      };
+    }
+
+whole-answer : (told : Option Files) (names : FileNames) (text : List ℕ) → IsTranscript told names text → IsWholeAnswer told names text
+whole-answer told names text t = record {
+  airport = t.airport;
+  commands = t.commands;
+  accepted = t.accepted;
+  answers = answers-all t.airport t.after (commands_of t.commands) t.blocks text (accepted-well t.accepted.accepted.bytes t.airport t.accepted.accepted.judged) t.run t.whole;
+}
+
+-- ---- the call
+
+-- of a told airport file there is one judgement
+one-judgement : (files : Files) (name : List ℕ) (a b : Result Airport RecordFault) → IsJudged (Some files) name a → IsJudged (Some files) name b → a ≡ b
+one-judgement files name a b one two =
+    let x = one.file in
+    let y = two.file in
+    let same : one.bytes ≡ two.bytes = cc in
+    sym one.judged ∙ ap airport_of same ∙ two.judged
+
+-- a told file within a limit has no more bytes than that
+not-longer : (files : Files) (name bytes : List ℕ) (limit : ℕ) → IsFile (Some files) name bytes → length bytes ≤ limit → IsLonger (Some files) name limit → ⊥
+not-longer files name bytes limit file within longer =
+    let x = longer.1 in
+    let same : bytes ≡ longer.0 = cc in
+    let size = ap length same in
+    let more = longer.2 in
+    omega (arith, size, within, more)
+
+not-large : (files : Files) (names : FileNames) (airport : Airport) (commands : List ℕ) → AreAccepted (Some files) names airport commands → IsRunTooLarge (Some files) names → ⊥
+not-large files names airport commands accepted (inl longer) = not-longer files names.airport accepted.accepted.bytes airport_limit accepted.accepted.file accepted.accepted.within longer
+not-large files names airport commands accepted (inr (other, judged, longer)) = not-longer files names.commands commands commands_limit accepted.file accepted.within longer
+
+-- the text that is due where the files are told and accepted is a transcript
+due-transcript : (call : Call) (names : FileNames) (files : Files) (airport : Airport) (commands : List ℕ) → call.files ≡ Some files
+    → AreAccepted (Some files) names airport commands → (Rose call.reads.0 call.reads.1 → ⊥)
+    → (s : Status) (text : List ℕ) → IsDueText call (Some (Route names)) s text → (s ≡ status.Done) × IsTranscript call.files names text
+due-transcript call names files airport commands told accepted no_rise status.Done text due = (refl, due)
+due-transcript call names files airport commands told accepted no_rise status.Usage text due = absurd due
+due-transcript call names files airport commands told accepted no_rise status.AirportRefused text due =
+    let judged : IsJudged (Some files) names.airport (Err due.0) = subst (λ t. IsJudged t names.airport (Err due.0)) told due.1 in
+    let same = one-judgement files names.airport (Ok airport) (Err due.0) accepted.accepted judged in
+    absurd (cc)
+due-transcript call names files airport commands told accepted no_rise status.ReadFault text due = absurd (no_rise due.0)
+due-transcript call names files airport commands told accepted no_rise status.WriteFault text due = absurd due
+due-transcript call names files airport commands told accepted no_rise status.Memory text due = absurd due
+due-transcript call names files airport commands told accepted no_rise status.TooLarge text due =
+    absurd (not-large files names airport commands accepted (subst (λ t. IsRunTooLarge t names) told due.0))
+due-transcript call names files airport commands told accepted no_rise status.Wrong text due = absurd due
+
+cut-answer : (call : Call) (names : FileNames) (files : Files) (airport : Airport) (commands : List ℕ) → call.files ≡ Some files
+    → AreAccepted (Some files) names airport commands → (Rose call.reads.0 call.reads.1 → ⊥) → IsCutShort call (Some (Route names))
+    → (text : List ℕ) × IsWholeAnswer call.files names text × GrewInPart call.taken.0 call.taken.1 text
+cut-answer call names files airport commands told accepted no_rise cut =
+    (cut.1, whole-answer call.files names cut.1 (due-transcript call names files airport commands told accepted no_rise cut.0 cut.1 cut.2).1, cut.3)
+
+-- nothing is a front of a transcript
+nothing-answer : (call : Call) (names : FileNames) (airport : Airport) (commands : List ℕ) → AreAccepted call.files names airport commands → Grew call.taken.0 call.taken.1 []
+    → (text : List ℕ) × IsWholeAnswer call.files names text × GrewInPart call.taken.0 call.taken.1 text
+nothing-answer call names airport commands accepted grew =
+    let well = accepted-well accepted.accepted.bytes airport accepted.accepted.judged in
+    let over = run-over airport no_holder (commands_of commands) (none-sound airport) in
+    let text : List ℕ = transcript airport over.0 in
+    let long = length-append (blocks_text airport over.0) (done_line (length over.0)) in (
+      text,
+      record { airport = airport; commands = commands; accepted = accepted; answers = answers-all airport over.1 (commands_of commands) over.0 text well over.2 refl },
+      ([], text, refl, omega (arith, long), grew),
+    )
+
+done-answer : (call : Call) (names : FileNames) (ended : Status) → Ends call (Some (Route names)) ended → ended ≡ status.Done
+    → (text : List ℕ) × IsWholeAnswer call.files names text × Grew call.taken.0 call.taken.1 text
+done-answer call names ended ends is =
+    let whole = subst (Ends call (Some (Route names))) is ends in
+    (whole.0, whole-answer call.files names whole.0 whole.1, whole.2)
+
+told-ends : (call : Call) (names : FileNames) (files : Files) (airport : Airport) (commands : List ℕ) → call.files ≡ Some files
+    → AreAccepted (Some files) names airport commands → AreAccepted call.files names airport commands → (Rose call.reads.0 call.reads.1 → ⊥) → (ended : Status) → Ends call (Some (Route names)) ended
+    → (ended ≡ status.Done) ⊎ (((ended ≡ status.WriteFault) ⊎ (ended ≡ status.Memory)) × ((text : List ℕ) × IsWholeAnswer call.files names text × GrewInPart call.taken.0 call.taken.1 text))
+told-ends call names files airport commands told accepted as_told no_rise status.Done ends = inl refl
+told-ends call names files airport commands told accepted as_told no_rise status.WriteFault ends =
+    inr (inl refl, cut-answer call names files airport commands told accepted no_rise ends.1)
+told-ends call names files airport commands told accepted as_told no_rise status.Memory (inl nothing) =
+    inr (inr refl, nothing-answer call names airport commands as_told nothing)
+told-ends call names files airport commands told accepted as_told no_rise status.Memory (inr cut) =
+    inr (inr refl, cut-answer call names files airport commands told accepted no_rise cut)
+told-ends call names files airport commands told accepted as_told no_rise status.Usage ends = absurd ends.1
+told-ends call names files airport commands told accepted as_told no_rise status.AirportRefused ends =
+    inl (due-transcript call names files airport commands told accepted no_rise status.AirportRefused ends.0 ends.1).0
+told-ends call names files airport commands told accepted as_told no_rise status.ReadFault ends =
+    inl (due-transcript call names files airport commands told accepted no_rise status.ReadFault ends.0 ends.1).0
+told-ends call names files airport commands told accepted as_told no_rise status.TooLarge ends =
+    inl (due-transcript call names files airport commands told accepted no_rise status.TooLarge ends.0 ends.1).0
+told-ends call names files airport commands told accepted as_told no_rise status.Wrong ends = absurd ends.1
+
+pub headline-is : (call : Call) (names : FileNames) (ended : Status) → Ends call (Some (Route names)) ended → Headline call names ended
+headline-is call names ended ends = record {
+  done = done-answer call names ended ends;
+  ends = λ files told airport commands accepted no_rise.
+      told-ends call names files airport commands told (subst (λ t. AreAccepted t names airport commands) told accepted) accepted no_rise ended ends;
+}
+
+-- the same for words that ask for a run
+pub headline-asked : (call : Call) (asked : Option Asked) (names : FileNames) (ended : Status) → Ends call asked ended → asked ≡ Some (Route names) → Headline call names ended
+headline-asked call asked names ended ends is = headline-is call names ended (subst (λ (a : Option Asked). Ends call a ended) is ends)

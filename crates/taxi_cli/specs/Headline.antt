@@ -1,0 +1,86 @@
+-- What does a run's transcript say? For every airport file and list of commands, the transcript answers each command in turn:
+-- an arrival's route is feasible among the commitments then standing and no feasible walk ends earlier; a departure's is
+-- feasible and none pushes back later; no-route comes exactly when no feasible walk exists; no two aircraft ever hold
+-- conflicting segments at one moment; and the checker accepts the transcript.
+use Rattle.std.specs.Prelude.{◌≡◌, ◌↔◌, ◌⊎◌, ℕ, List, Option, Some, None, ⊤}
+use Rattle.taxi_base.specs.declared.answers.Request.{Request}
+use Rattle.taxi_base.specs.declared.answers.Request.TheVariants as request
+use Rattle.taxi_base.specs.declared.answers.Refusal.TheVariants as refusal
+use Rattle.taxi_base.specs.declared.rows.Step.{Step}
+use Rattle.taxi_base.specs.declared.rows.LabelRow.{LabelRow}
+use Rattle.taxi_base.specs.Airport.{Airport}
+use Rattle.taxi_base.specs.Walks.{EndsEarliest, BeginsLatest, begin_of, end_of}
+use Rattle.taxi_base.specs.State.{State, no_holder, IsClashFree}
+use Rattle.taxi_text.specs.declared.command.Command.{Command}
+use Rattle.taxi_text.specs.Commands.{command_of}
+use Rattle.taxi_text.specs.Lines.{commands_of}
+use Rattle.taxi_io.specs.Counts.{Rose}
+use Rattle.taxi_io.specs.Files.{Files}
+use Rattle.taxi_io.specs.Written.{Grew, GrewInPart}
+use Rattle.certificate.specs.declared.block.Block.{Block}
+use Rattle.certificate.specs.declared.block.Block.TheVariants.{Refused, Route, NoRoute}
+use Rattle.certificate.specs.Refusals.{first_refusal}
+use Rattle.certificate.specs.Replies.{IsReply}
+use Rattle.certificate.specs.Passes.{IsPassed}
+use Rattle.certificate.specs.Sought.{Sought, sought_of, IsWalkFor}
+use Rattle.taxi_cli.specs.declared.status.Status.{Status}
+use Rattle.taxi_cli.specs.declared.status.Status.TheVariants.{Done, WriteFault, Memory}
+use Rattle.taxi_cli.specs.Asked.{FileNames}
+use Rattle.taxi_cli.specs.Runs.{InTurn, transcript}
+use Rattle.taxi_cli.specs.Checks.{IsRight}
+use Rattle.taxi_cli.specs.Outcomes.{AreAccepted}
+use Rattle.taxi_cli.specs.Endings.{Call}
+
+-- a block that tells that there is no route
+abbrev pub TellsNoRoute : Block → Type 0
+TellsNoRoute (NoRoute labels) = ⊤
+TellsNoRoute _ = ⊥
+
+-- The best of the walks that a command seeks, each of which is feasible among the commitments then standing, but for the
+-- flight's own, and begins and ends as is asked (`IsWalkFor`). An arrival's route is one of them, and no feasible walk ends
+-- earlier. A departure's is one, and none pushes back later. The second that is told is that end, or that pushback.
+abbrev pub IsBestWalk : Request → (List Step → Type 0) → ℕ → List Step → Type 0
+IsBestWalk request.Filed IsOne second steps = ⊥
+IsBestWalk (request.Arrival from to asked hold) IsOne second steps = EndsEarliest IsOne steps × (end_of steps ≡ second)
+IsBestWalk (request.Departure from to asked queue) IsOne second steps = BeginsLatest IsOne steps × (begin_of steps ≡ second)
+
+-- one command in its turn
+pub record AnswersCommand (airport : Airport) (state : State) (line : List ℕ) (block : Block) (after : State) : Type 0 where
+  -- the block is the reply that is due, or that memory ran out, which leaves the state
+  pub answers : IsReply airport state line block after
+  -- a route is best
+  pub best : (name : List ℕ) → (second : ℕ) → (steps : List Step) → (labels : List LabelRow) → block ≡ Route name second steps labels
+      → (command : Command) × (sought : Sought) × (command_of line ≡ Some command) × (sought_of airport state command ≡ Some sought) × IsBestWalk sought.request (IsWalkFor sought) second steps
+  -- no-route comes exactly when no feasible walk exists, of the commands that seek one, are refused nothing and find memory
+  pub no_route : (command : Command) → command_of line ≡ Some command → first_refusal airport state command ≡ None
+      → (sought : Sought) → sought_of airport state command ≡ Some sought → (block ≡ Refused refusal.Memory → ⊥)
+      → (TellsNoRoute block ↔ ((steps : List Step) → IsWalkFor sought steps → ⊥))
+  -- no two aircraft hold conflicting segments at one moment
+  pub clash_free : IsClashFree airport after
+  -- the checker accepts the block
+  pub passes : IsPassed airport state line block after
+
+-- the transcript answers each command in turn, from no flight in force, and the checker accepts it
+pub record AnswersAll (airport : Airport) (commands : List (List ℕ)) (text : List ℕ) : Type 0 where
+  pub blocks : List Block
+  pub after : State
+  pub in_turn : InTurn AnswersCommand airport no_holder commands blocks after
+  pub clash_free_at_first : IsClashFree airport no_holder
+  pub whole : text ≡ transcript airport blocks
+  pub accepted : IsRight airport commands text blocks
+
+-- the transcript of the commands of the files
+pub record IsWholeAnswer (told : Option Files) (names : FileNames) (text : List ℕ) : Type 0 where
+  pub airport : Airport
+  pub commands : List ℕ
+  pub accepted : AreAccepted told names airport commands
+  pub answers : AnswersAll airport (commands_of commands) text
+
+-- With `Done` the sink has grown by exactly such a transcript, whatever calls failed. Where the shelf tells its files, the airport
+-- is accepted and the commands are within their limit, and no call of the shelf failed, the call ends so, or for a failed write or
+-- for want of memory with a front of such a transcript.
+pub record Headline (call : Call) (names : FileNames) (ended : Status) : Type 0 where
+  pub done : ended ≡ Done → (text : List ℕ) × IsWholeAnswer call.files names text × Grew call.taken.0 call.taken.1 text
+  pub ends : (files : Files) → call.files ≡ Some files → (airport : Airport) → (commands : List ℕ) → AreAccepted call.files names airport commands
+      → (Rose call.reads.0 call.reads.1 → ⊥)
+      → (ended ≡ Done) ⊎ (((ended ≡ WriteFault) ⊎ (ended ≡ Memory)) × ((text : List ℕ) × IsWholeAnswer call.files names text × GrewInPart call.taken.0 call.taken.1 text))

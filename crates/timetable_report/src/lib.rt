@@ -1,0 +1,62 @@
+//! The timetable: the flights in force, in short.
+#![tactic(auto)]
+
+ghost use Rattle.std.specs.Prelude.{◌≡◌, ◌<◌, length, IfOk};
+ghost use Rattle.taxi_base.specs.Walks.{begin_of, end_of};
+ghost use Rattle.taxi_base.specs.Reports.{kind_of_request, flight_row, timetable_rows};
+ghost use Rattle.commitments.specs.Book.{state_of};
+
+use commitments::Ledger;
+use std::alloc::Global;
+use taxi_base::{Flight, FlightKind, FlightRow, List, Memory, Request, Step, Time};
+
+/// One row for each flight in force, by rising names. The seconds are the first enter and the last leave of its route.
+pub fn timetable(alloc: Global, ledger: &Ledger) -> Result<List<FlightRow>, Memory>
+    ensures { IfOk result (λ rows. rows ≡ timetable_rows (state_of ledger.now)) }
+{
+    let mut rows = List::new(alloc);
+    for place in 0..ledger.count() {
+        rows.push(row_of(ledger.at(place)))?;
+    }
+    Ok(rows)
+}
+
+fn row_of(flight: &Flight) -> FlightRow
+    requires { 0 < length flight.now.steps }
+    ensures { result ≡ flight_row flight.now }
+{
+    let steps = flight.steps.as_slice();
+    FlightRow {
+        flight: flight.name,
+        kind: kind_of(&flight.request),
+        class: flight.class,
+        start: begin_of(steps),
+        end: end_of(steps),
+    }
+}
+
+fn kind_of(request: &Request) -> FlightKind
+    ensures { result ≡ kind_of_request request.now }
+{
+    match request {
+        Request::Filed => FlightKind::Filed,
+        Request::Arrival { .. } => FlightKind::Arrival,
+        Request::Departure { .. } => FlightKind::Departure,
+    }
+}
+
+// When a route begins.
+fn begin_of(steps: &[Step]) -> Time
+    requires { 0 < length steps.now }
+    ensures { result ≡ begin_of steps.now }
+{
+    steps[0].enter
+}
+
+// When a route ends.
+fn end_of(steps: &[Step]) -> Time
+    requires { 0 < length steps.now }
+    ensures { result ≡ end_of steps.now }
+{
+    steps[steps.len() - 1].leave
+}

@@ -1,0 +1,12 @@
+pub mod TextLaws
+pub mod DrawLaws
+pub mod Below
+pub mod PlaceNames
+pub mod PlainFields
+pub mod GridLaws
+pub mod GridAirport
+pub mod GridRecords
+pub mod GridText
+pub mod Lengths
+pub mod CommandLines
+pub mod CommandsRead

@@ -1,0 +1,5 @@
+pub mod Draws
+pub mod Places
+pub mod Grid
+pub mod Flights
+pub mod Texts

@@ -1,0 +1,14 @@
+//! Airports and commands of any size, made from a first number: a square grid of taxiways, and flights over it.
+#![tactic(auto)]
+
+mod airport;
+mod commands;
+mod draws;
+mod flights;
+mod lines;
+mod places;
+#[cfg(test)]
+mod tests;
+
+pub use airport::generate_airport;
+pub use commands::generate_commands;

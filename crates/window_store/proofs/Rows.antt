@@ -1,0 +1,100 @@
+-- What taking a span out of a row makes of it.
+use Rattle.std.proofs.Common.{◌≡◌, ℕ, zero, suc, ◌+◌, ◌<◌, ◌≤◌, max, min, List, [], ◌∷◌, ◌++◌, length, take, drop, refl, ap, sym, ◌∙◌, arith}
+use Rattle.std.specs.Prelude.{insert, remove, slice_set}
+use Rattle.taxi_base.specs.declared.rows.Span.{Span}
+use Rattle.taxi_base.specs.Windows.{AreApart}
+use Rattle.interval_list.specs.Intervals.{span, before, behind, without_span}
+use Rattle.interval_list.proofs.Seconds.{before-yes, before-no, behind-yes, behind-no, without_span-after}
+use Rattle.window_store.specs.Rows.{span_in, cut_in}
+
+-- spans that lie apart begin no sooner than their bound, and none is empty
+pub apart_at : (low : ℕ) (ws : List Span) → AreApart low ws → (k : ℕ) → k < length ws → (low ≤ (span_in ws k).from) × ((span_in ws k).from < (span_in ws k).until)
+apart_at low [] apart k on = absurd (omega arith)
+apart_at low (w ∷ ws) apart zero on = (apart.0, apart.1)
+apart_at low (w ∷ ws) apart (suc k) on = let h = apart_at (w.until + 1) ws apart.2 k (omega arith) in (omega (arith, apart.0, apart.1, h.0), h.1)
+
+-- and later ones begin after earlier ones end
+pub apart_in_order : (low : ℕ) (ws : List Span) → AreApart low ws → (j k : ℕ) → j < k → k < length ws
+    → ((span_in ws j).from < (span_in ws j).until) × ((span_in ws j).until < (span_in ws k).from) × ((span_in ws k).from < (span_in ws k).until)
+apart_in_order low [] apart j k earlier on = absurd (omega arith)
+apart_in_order low (w ∷ ws) apart j zero earlier on = absurd (omega arith)
+apart_in_order low (w ∷ ws) apart zero (suc k) earlier on = let h = apart_at (w.until + 1) ws apart.2 k (omega arith) in (apart.1, omega (arith, h.0), h.1)
+apart_in_order low (w ∷ ws) apart (suc j) (suc k) earlier on = apart_in_order (w.until + 1) ws apart.2 j k (omega arith) (omega arith)
+
+-- no later one ends sooner
+pub apart_rising : (low : ℕ) (ws : List Span) → AreApart low ws → (j k : ℕ) → j ≤ k → k < length ws → (span_in ws j).until ≤ (span_in ws k).until
+apart_rising low [] apart j k le on = absurd (omega arith)
+apart_rising low (w ∷ ws) apart zero zero le on = omega arith
+apart_rising low (w ∷ ws) apart (suc j) zero le on = absurd (omega arith)
+apart_rising low (w ∷ ws) apart zero (suc k) le on = let h = apart_at (w.until + 1) ws apart.2 k (omega arith) in omega (arith, h.0, h.1)
+apart_rising low (w ∷ ws) apart (suc j) (suc k) le on = apart_rising (w.until + 1) ws apart.2 j k (omega arith) (omega arith)
+
+module _ (s : Span) (some : s.from < s.until) where
+  -- one that ends before s stays
+  without_over : (w : Span) (ws : List Span) → w.from < w.until → w.until ≤ s.from → without_span s (w ∷ ws) ≡ w ∷ without_span s ws
+  without_over w ws whole over =
+      let same : min w.until s.from ≡ w.until = omega (arith, over) in
+      rw (before-yes s w (omega (arith, whole, over))) (rw (behind-no s w (omega (arith, over, some))) (λ k. span w.from (same k) ∷ without_span s ws))
+
+  -- where all end before s, all stay
+  pub without-over : (low : ℕ) (ws : List Span) → AreApart low ws → ((k : ℕ) → k < length ws → (span_in ws k).until ≤ s.from) → without_span s ws ≡ ws
+  without-over low [] apart over = refl
+  without-over low (w ∷ ws) apart over =
+      without_over w ws apart.1 (over 0 (omega arith)) ∙ ap (λ zs. w ∷ zs) (without-over (w.until + 1) ws apart.2 (λ k on. over (suc k) (omega (arith, on))))
+
+  without_rest : (w : Span) (ws : List Span) → AreApart (w.until + 1) ws → (0 < length ws → s.until ≤ (span_in ws 0).from) → without_span s ws ≡ ws
+  without_rest w [] apart next = refl
+  without_rest w (v ∷ vs) apart next = without_span-after s.until s (v ∷ vs) some (omega arith) (next (omega arith), apart.1, apart.2)
+
+  -- where s meets one span at most, what is left of that one stands in its place
+  pub without-one : (low : ℕ) (ws : List Span) (at : ℕ) → AreApart low ws → at < length ws → ((k : ℕ) → k < at → (span_in ws k).until ≤ s.from)
+      → (suc at < length ws → s.until ≤ (span_in ws (suc at)).from) → without_span s ws ≡ cut_in ws at s
+  without-one low [] at apart on over next = absurd (omega arith)
+  without-one low (w ∷ ws) zero apart on over next = ap (λ zs. before s w ++ (behind s w ++ zs)) (without_rest w ws apart.2 (λ more. next (omega (arith, more))))
+  without-one low (w ∷ ws) (suc at) apart on over next =
+      without_over w ws apart.1 (over 0 (omega arith))
+      ∙ ap (λ zs. w ∷ zs) (without-one (w.until + 1) ws at apart.2 (omega (arith, on)) (λ k below. over (suc k) (omega (arith, below))) (λ more. next (omega (arith, more))))
+
+-- ---- the row with what is left of one span
+
+set-split : {X : Type 0} (xs : List X) (at : ℕ) (x : X) → at < length xs → slice_set xs at x ≡ take at xs ++ x ∷ drop (suc at) xs
+set-split [] at x on = absurd (omega arith)
+set-split (y ∷ xs) zero x on = refl
+set-split (y ∷ xs) (suc at) x on = ap (λ zs. y ∷ zs) (set-split xs at x (omega (arith, on)))
+
+insert-split : {X : Type 0} (xs : List X) (at : ℕ) (x y : X) → at < length xs → insert (slice_set xs at x) (suc at) y ≡ take at xs ++ x ∷ y ∷ drop (suc at) xs
+insert-split [] at x y on = absurd (omega arith)
+insert-split (z ∷ xs) zero x y on = refl
+insert-split (z ∷ xs) (suc at) x y on = ap (λ zs. z ∷ zs) (insert-split xs at x y (omega (arith, on)))
+
+module _ (row : List Span) (at : ℕ) (s w : Span) (on : at < length row) (is : w ≡ span_in row at) where
+  abbrev rest : List Span
+  rest = drop (suc at) row
+
+  pub cut-left : (x : Span) → w.from < s.from → w.until ≤ s.until → x ≡ span w.from (min w.until s.from) → slice_set row at x ≡ cut_in row at s
+  cut-left x begins ends are =
+      set-split row at x on
+      ∙ ap (λ y. take at row ++ y ∷ rest) are
+      ∙ sym (ap (λ zs. take at row ++ (zs ++ (behind s w ++ rest))) (before-yes s w begins) ∙ ap (λ zs. take at row ++ span w.from (min w.until s.from) ∷ (zs ++ rest)) (behind-no s w ends))
+      ∙ ap (λ v. take at row ++ (before s v ++ (behind s v ++ rest))) is
+
+  pub cut-right : (x : Span) → s.from ≤ w.from → s.until < w.until → x ≡ span (max w.from s.until) w.until → slice_set row at x ≡ cut_in row at s
+  cut-right x begins ends are =
+      set-split row at x on
+      ∙ ap (λ y. take at row ++ y ∷ rest) are
+      ∙ sym (ap (λ zs. take at row ++ (zs ++ (behind s w ++ rest))) (before-no s w begins) ∙ ap (λ zs. take at row ++ (zs ++ rest)) (behind-yes s w ends))
+      ∙ ap (λ v. take at row ++ (before s v ++ (behind s v ++ rest))) is
+
+  pub cut-both : (x y : Span) → w.from < s.from → s.until < w.until → x ≡ span w.from (min w.until s.from) → y ≡ span (max w.from s.until) w.until
+      → insert (slice_set row at x) (suc at) y ≡ cut_in row at s
+  cut-both x y begins ends left right =
+      insert-split row at x y on
+      ∙ ap (λ z. take at row ++ z ∷ y ∷ rest) left
+      ∙ ap (λ z. take at row ++ span w.from (min w.until s.from) ∷ z ∷ rest) right
+      ∙ sym (ap (λ zs. take at row ++ (zs ++ (behind s w ++ rest))) (before-yes s w begins) ∙ ap (λ zs. take at row ++ span w.from (min w.until s.from) ∷ (zs ++ rest)) (behind-yes s w ends))
+      ∙ ap (λ v. take at row ++ (before s v ++ (behind s v ++ rest))) is
+
+  pub cut-none : s.from ≤ w.from → w.until ≤ s.until → remove row at ≡ cut_in row at s
+  cut-none begins ends =
+      sym (ap (λ zs. take at row ++ (zs ++ (behind s w ++ rest))) (before-no s w begins) ∙ ap (λ zs. take at row ++ (zs ++ rest)) (behind-no s w ends))
+      ∙ ap (λ v. take at row ++ (before s v ++ (behind s v ++ rest))) is
