@@ -1,33 +1,51 @@
 //! The cells of a departure's search.
-ghost use Rattle.std.specs.Prelude.{◌≡◌, ◌<◌, Some, option_map};
+ghost use Rattle.std.specs.Prelude.{◌≡◌, ◌<◌, Some, option_map, IfOk};
 ghost use Rattle.taxi_base.specs.declared.numbers.Arc.{Arc as ArcNumber};
 ghost use Rattle.taxi_base.specs.declared.numbers.Node.{Node as NodeNumber};
 ghost use Rattle.taxi_base.specs.Airport.{head};
 ghost use Rattle.label_search.specs.Backward.{BackwardProblem, finish_of};
 ghost use Rattle.place_cells.specs.Grounds.{ground_of};
-ghost use Rattle.backward_search.specs.Departures.{finish_at, departure_problem};
+ghost use Rattle.backward_search.specs.Departures.{finish_at, last_arcs, departure_problem};
 
 use label_search::{BackwardCells, Cell, Closing, Run};
 use place_cells::SearchGround;
-use taxi_base::{Arc, Node, Time};
+use std::alloc::Global;
+use taxi_base::{Arc, Memory, Node, Time};
 
-/// Walks on a ground that leave a node, and end at another within a time.
+/// Walks on a ground that leave a node, and end at one of some others within a time. The last arcs are those by which they may end.
 #[derive(Drop)]
 pub(crate) struct DepartureCells<'a> {
     pub(crate) ground: &'a SearchGround<'a>,
     pub(crate) from: Node,
-    pub(crate) to: Node,
+    pub(crate) to: &'a [Node],
+    pub(crate) last: &'a [Arc],
     pub(crate) earliest_out: Time,
     pub(crate) latest_out: Time,
-    ghost nodes: { (a : ArcNumber) (n : NodeNumber) → head ground.now.graph.now a ≡ Some n → n.0 < ground.now.graph.now.nodes },
+    ghost lasts: { last.now ≡ last_arcs ground.now.graph.now to.now },
+}
+
+/// The arcs by which walks may end at one of some nodes.
+pub(crate) fn last_arcs(
+    alloc: Global,
+    ground: &SearchGround,
+    to: &[Node],
+) -> Result<Vec<Arc>, Memory>
+    requires { (a : ArcNumber) (n : NodeNumber) → head ground.now.graph.now a ≡ Some n → n.0 < ground.now.graph.now.nodes }
+    ensures { IfOk result (λ arcs. arcs.items ≡ last_arcs ground.now.graph.now to.now) }
+{
+    let mut arcs = Vec::new(alloc);
+    for node in to {
+        arcs.extend_from_slice(ground.entering(*node))?;
+    }
+    Ok(arcs)
 }
 
 impl DepartureCells<'_> {
     /// How a walk may end by the arc, if one may.
     fn closing_at(&self, arc: Arc) -> Option<Closing>
-        ensures { option_map finish_of result ≡ finish_at self.now.ground.now.graph.now (record { to = self.now.to; earliest = self.now.earliest_out; latest = self.now.latest_out }) arc }
+        ensures { option_map finish_of result ≡ finish_at self.now.ground.now.graph.now (record { to = self.now.to.now; earliest = self.now.earliest_out; latest = self.now.latest_out }) arc }
     {
-        if self.ground.leads_to(arc, &[self.to]) {
+        if self.ground.leads_to(arc, self.to) {
             Some(Closing {
                 earliest_out: self.earliest_out,
                 latest_out: self.latest_out,
@@ -39,7 +57,7 @@ impl DepartureCells<'_> {
 }
 
 impl BackwardCells for DepartureCells<'_> {
-    ghost backward = { λ s. departure_problem (ground_of s.ground.now) s.from (record { to = s.to; earliest = s.earliest_out; latest = s.latest_out }) };
+    ghost backward = { λ s. departure_problem (ground_of s.ground.now) s.from (record { to = s.to.now; earliest = s.earliest_out; latest = s.latest_out }) };
 
     fn count(&self) -> usize {
         self.ground.count()
@@ -61,11 +79,11 @@ impl BackwardCells for DepartureCells<'_> {
     }
 
     fn last_runs(&self) -> usize {
-        self.ground.entering(self.to).len()
+        self.last.len()
     }
 
     fn last_run(&self, run: usize) -> Run {
-        self.ground.run(self.ground.entering(self.to)[run])
+        self.ground.run(self.last[run])
     }
 
     fn runs_before(&self, cell: usize) -> usize {

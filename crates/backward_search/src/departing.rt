@@ -4,9 +4,10 @@ ghost use Rattle.taxi_base.specs.Airport.{layout_of, IsWellFormed};
 ghost use Rattle.taxi_base.specs.Walks.{conditions_in_windows, ReachesNodeWithin};
 ghost use Rattle.taxi_base.specs.Labels.{AnswersDeparture};
 ghost use Rattle.walk_labels.specs.PlacesInWindows.{AreWindowLists};
+ghost use Rattle.walk_labels.specs.Requests.{ReachesOneOfWithin};
 ghost use Rattle.place_cells.specs.Laid.{windows_of, HaveNumbers};
 
-use crate::cells::DepartureCells;
+use crate::cells::{DepartureCells, last_arcs};
 use airport_file::Airport;
 use label_search::{LabelRoom, latest_entries};
 use place_cells::{CellNumbers, SearchGround, SearchRoom, rows_of, steps_of};
@@ -66,6 +67,39 @@ pub fn depart_in(
     requires times { earliest_out < 2 ^ 31 }
     ensures { IfOk result (AnswersDeparture (conditions_in_windows airport.now class clearance (windows_of store.now)) from (ReachesNodeWithin (layout_of airport.now) to earliest_out latest_out)) }
 {
+    depart_to_one_of(
+        alloc,
+        room,
+        airport,
+        store,
+        from,
+        &[to],
+        class,
+        earliest_out,
+        latest_out,
+        clearance,
+    )
+}
+
+/// The same where walks may end at any of some nodes: the picked one of all of them, with the labels past its begin, each the
+/// latest entry of the walks to any of the nodes.
+pub fn depart_to_one_of(
+    alloc: Global,
+    room: &mut SearchRoom,
+    airport: &Airport,
+    store: &WindowStore,
+    from: Node,
+    to: &[Node],
+    class: Class,
+    earliest_out: Time,
+    latest_out: Time,
+    clearance: Time,
+) -> Result<Found, Memory>
+    requires segments { length store.now.lists ≡ length airport.now.segments }
+    requires horizon { All (All (λ w. w.until ≤ airport.now.horizon)) (windows_of store.now) }
+    requires times { earliest_out < 2 ^ 31 }
+    ensures { IfOk result (AnswersDeparture (conditions_in_windows airport.now class clearance (windows_of store.now)) from (ReachesOneOfWithin (layout_of airport.now) to.now earliest_out latest_out)) }
+{
     // With the horizon comes that the airport keeps the rules.
     let _horizon = airport.horizon();
     room.numbers.fit(airport.graph().segments(), store)?;
@@ -92,7 +126,7 @@ fn search_among<'x>(
     store: &'x WindowStore,
     numbers: &'x CellNumbers,
     from: Node,
-    to: Node,
+    to: &'x [Node],
     class: Class,
     earliest_out: Time,
     latest_out: Time,
@@ -102,7 +136,7 @@ fn search_among<'x>(
     requires room { HaveNumbers (windows_of store.now) numbers.now.first.items }
     requires rules { IsWellFormed airport.now }
     requires times { earliest_out < 2 ^ 31 }
-    ensures { IfOk result (AnswersDeparture (conditions_in_windows airport.now class clearance (windows_of store.now)) from (ReachesNodeWithin (layout_of airport.now) to earliest_out latest_out)) }
+    ensures { IfOk result (AnswersDeparture (conditions_in_windows airport.now class clearance (windows_of store.now)) from (ReachesOneOfWithin (layout_of airport.now) to.now earliest_out latest_out)) }
 {
     let ground = SearchGround {
         graph: airport.graph(),
@@ -113,10 +147,12 @@ fn search_among<'x>(
         horizon: airport.horizon(),
         clearance,
     };
+    let last = last_arcs(alloc, &ground, to)?;
     let asked = DepartureCells {
         ground: &ground,
         from,
         to,
+        last: &last,
         earliest_out,
         latest_out,
     };

@@ -1,7 +1,7 @@
-//! The search for a departure's route: from a node to a node, at the latest.
+//! The search for a departure's route: from a node to a node, or to any of some nodes, at the latest.
 #![tactic(auto)]
 
 mod cells;
 mod departing;
 
-pub use departing::{depart, depart_in};
+pub use departing::{depart, depart_in, depart_to_one_of};

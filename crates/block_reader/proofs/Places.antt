@@ -117,7 +117,7 @@ chosen false x y e = absurd cc
 
 module _ (airport : Airport) where
   module _ (well : IsWellFormed airport) where
-    arc-read : (arc : Arc) → HasArc airport arc → arc_named airport (segment_word airport (segment_of arc)) (arc.0 % 2 == 0) ≡ Some arc
+    pub arc-read : (arc : Arc) → HasArc airport arc → arc_named airport (segment_word airport (segment_of arc)) (arc.0 % 2 == 0) ≡ Some arc
     unfolding arc_named
     arc-read arc has = rw (segment-again airport well (segment_of arc) (arc_exists-segment airport arc has), arc-again arc, is_true _ has) refl
 

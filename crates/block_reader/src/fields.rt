@@ -1,12 +1,17 @@
 //! The words of a block, read at the front of the bytes.
-ghost use Rattle.std.specs.Prelude.{◌≡◌, ◌<◌, ◌≤◌, ◌^◌, ◌==◌, IfSome, length, position};
+ghost use Rattle.std.specs.Prelude.{◌≡◌, ◌<◌, ◌≤◌, ◌^◌, ◌==◌, ◌%◌, IfSome, IsTrue, Some, length, position};
+ghost use Rattle.taxi_base.specs.Airport.{arc_named};
 ghost use Rattle.taxi_text.specs.Fields.{name_of};
 ghost use Rattle.block_reader.specs.Fields.{digits_of, decimal_of, number_of, count_of, some_count_of, step_number_of, kind_of, class_of_word, segment_of_word, arc_of_word};
 ghost use Rattle.block_reader.specs.Reading.{behind, word_at, field_at, Finds};
 
 use airport_file::Airport;
+use segment_graph::segment_of;
 use taxi_base::{Arc, Class, FlightKind, Name, Segment, Time};
 use taxi_text::read_arc_word;
+
+// How many arcs are looked at before one is looked for by its name.
+const ARCS_AHEAD: u32 = 8;
 
 /// What comes after a text that stands at the front.
 pub(crate) fn behind<'a>(text: &[u8], bytes: &'a [u8]) -> Option<&'a [u8]>
@@ -163,11 +168,48 @@ pub(crate) fn segment_field<'a>(
     Some((segment, rest))
 }
 
-pub(crate) fn arc_field<'a>(airport: &Airport, last: u8, bytes: &'a [u8]) -> Option<(Arc, &'a [u8])>
+/// An arc. Rows stand in order of their arcs, so it is looked for first from the arc of the row before on.
+pub(crate) fn arc_field<'a>(
+    airport: &Airport,
+    near: Arc,
+    last: u8,
+    bytes: &'a [u8],
+) -> Option<(Arc, &'a [u8])>
     ensures { Finds (λ x. (x.0, x.1.now)) result (field_at (arc_of_word airport.now) last bytes.now) }
 {
     let (word, rest) = word_at(last, bytes)?;
     let (name, forward) = read_arc_word(word)?;
-    let arc = airport.arc_named(&name, forward)?;
+    let arc = arc_near(airport, near, &name, forward)?;
     Some((arc, rest))
+}
+
+fn arc_near(airport: &Airport, near: Arc, name: &Name, forward: bool) -> Option<Arc>
+    ensures { result ≡ arc_named airport.now name.now forward }
+{
+    for ahead in 0..ARCS_AHEAD {
+        let arc = Arc(near.0.saturating_add(ahead));
+        if is_forward(arc) == forward && is_of_segment(airport, arc, name) {
+            return Some(arc);
+        }
+    }
+    airport.arc_named(name, forward)
+}
+
+fn is_forward(arc: Arc) -> bool
+    ensures { result ≡ (arc.0 % 2 == 0) }
+{
+    arc.0 % 2 == 0
+}
+
+// Whether an arc is there, and is of the segment of a name.
+fn is_of_segment(airport: &Airport, arc: Arc, name: &Name) -> bool
+    ensures { IsTrue result → arc_named airport.now name.now (arc.0 % 2 == 0) ≡ Some arc }
+{
+    // The airport keeps its rules, so no two segments have one name.
+    let _ = airport.horizon();
+    if !airport.graph().exists(arc) {
+        return false;
+    }
+    let own = airport.segment_name(segment_of(arc));
+    own == *name
 }

@@ -10,27 +10,35 @@ use crate::fields::{
 use crate::refused::BlockRefused;
 use airport_file::Airport;
 use std::alloc::Global;
-use taxi_base::{FlightRow, HeldRow, LabelRow, List, Span, Step};
+use taxi_base::{Arc, FlightRow, HeldRow, LabelRow, List, Span, Step};
 
 /// What is written as one line.
 pub(crate) trait Row: Copy {
     /// How the line is read.
     ghost row_at: { Plain → Items ℕ → Maybe (Self × Items ℕ) };
 
-    fn read<'a>(airport: &Airport, bytes: &'a [u8]) -> Option<(Self, &'a [u8])>
+    /// The row at the front. The arc says only where to look first.
+    fn read<'a>(airport: &Airport, near: Arc, bytes: &'a [u8]) -> Option<(Self, &'a [u8])>
         ensures { Finds (λ x. (x.0, x.1.now)) result (row_at airport.now bytes.now) };
+
+    /// The arc from which on the one of the next row is looked for.
+    fn near(&self) -> Arc;
 }
 
 impl Row for Step {
     ghost row_at = { step_at };
 
     #[tactic(auto, unfolding(crate::specs::Blocks::step_at))]
-    fn read<'a>(airport: &Airport, bytes: &'a [u8]) -> Option<(Step, &'a [u8])> {
+    fn read<'a>(airport: &Airport, near: Arc, bytes: &'a [u8]) -> Option<(Step, &'a [u8])> {
         let rest = behind(b"step ", bytes)?;
-        let (arc, rest) = arc_field(airport, b' ', rest)?;
+        let (arc, rest) = arc_field(airport, near, b' ', rest)?;
         let (enter, rest) = number_field(b' ', rest)?;
         let (leave, rest) = number_field(b'\n', rest)?;
         Some((Step { arc, enter, leave }, rest))
+    }
+
+    fn near(&self) -> Arc {
+        self.arc
     }
 }
 
@@ -38,9 +46,9 @@ impl Row for LabelRow {
     ghost row_at = { label_at };
 
     #[tactic(auto, unfolding(crate::specs::Blocks::label_at))]
-    fn read<'a>(airport: &Airport, bytes: &'a [u8]) -> Option<(LabelRow, &'a [u8])> {
+    fn read<'a>(airport: &Airport, near: Arc, bytes: &'a [u8]) -> Option<(LabelRow, &'a [u8])> {
         let rest = behind(b"label ", bytes)?;
-        let (arc, rest) = arc_field(airport, b' ', rest)?;
+        let (arc, rest) = arc_field(airport, near, b' ', rest)?;
         let (from, rest) = number_field(b' ', rest)?;
         let (until, rest) = number_field(b' ', rest)?;
         let (value, rest) = number_field(b'\n', rest)?;
@@ -52,18 +60,26 @@ impl Row for LabelRow {
         };
         Some((row, rest))
     }
+
+    fn near(&self) -> Arc {
+        self.arc
+    }
 }
 
 impl Row for Span {
     ghost row_at = { window_at };
 
     #[tactic(auto, unfolding(crate::specs::Blocks::window_at))]
-    fn read<'a>(airport: &Airport, bytes: &'a [u8]) -> Option<(Span, &'a [u8])> {
+    fn read<'a>(airport: &Airport, _near: Arc, bytes: &'a [u8]) -> Option<(Span, &'a [u8])> {
         let _names = airport;
         let rest = behind(b"window ", bytes)?;
         let (from, rest) = number_field(b' ', rest)?;
         let (until, rest) = number_field(b'\n', rest)?;
         Some((Span { from, until }, rest))
+    }
+
+    fn near(&self) -> Arc {
+        Arc(0)
     }
 }
 
@@ -71,7 +87,7 @@ impl Row for HeldRow {
     ghost row_at = { held_at };
 
     #[tactic(auto, unfolding(crate::specs::Blocks::held_at))]
-    fn read<'a>(airport: &Airport, bytes: &'a [u8]) -> Option<(HeldRow, &'a [u8])> {
+    fn read<'a>(airport: &Airport, _near: Arc, bytes: &'a [u8]) -> Option<(HeldRow, &'a [u8])> {
         let rest = behind(b"held ", bytes)?;
         let (from, rest) = number_field(b' ', rest)?;
         let (until, rest) = number_field(b' ', rest)?;
@@ -87,13 +103,17 @@ impl Row for HeldRow {
         };
         Some((row, rest))
     }
+
+    fn near(&self) -> Arc {
+        Arc(0)
+    }
 }
 
 impl Row for FlightRow {
     ghost row_at = { flight_at };
 
     #[tactic(auto, unfolding(crate::specs::Blocks::flight_at))]
-    fn read<'a>(airport: &Airport, bytes: &'a [u8]) -> Option<(FlightRow, &'a [u8])> {
+    fn read<'a>(airport: &Airport, _near: Arc, bytes: &'a [u8]) -> Option<(FlightRow, &'a [u8])> {
         let rest = behind(b"flight ", bytes)?;
         let Some((flight, rest)) = name_field(b' ', rest) else {
             return None;
@@ -111,6 +131,10 @@ impl Row for FlightRow {
         };
         Some((row, rest))
     }
+
+    fn near(&self) -> Arc {
+        Arc(0)
+    }
 }
 
 /// So many rows. Room is taken for each only once it is read.
@@ -124,12 +148,14 @@ pub(crate) fn read_rows<'a, R: Row>(
 {
     let mut rows = List::new(alloc);
     let mut rest = bytes;
+    let mut near = Arc(0);
     for _ in 0..count {
-        let Some(row) = R::read(airport, rest) else {
+        let Some(row) = R::read(airport, near, rest) else {
             return Err(BlockRefused::NotABlock);
         };
         rows.push(row.0)?;
         rest = row.1;
+        near = row.0.near();
     }
     Ok((rows, rest))
 }

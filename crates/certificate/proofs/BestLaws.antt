@@ -110,6 +110,8 @@ module _ (airport : Airport) (state : State) (well : IsWellFormed airport) (soun
   sought-right (command.Windows segment) s none e = absurd (none-some s e)
   sought-right (command.Occupancy segment) s none e = absurd (none-some s e)
   sought-right command.Timetable s none e = absurd (none-some s e)
+  sought-right (command.Work name segment from until) s none e = absurd (none-some s e)
+  sought-right (command.WorkDone name) s none e = absurd (none-some s e)
 
   -- ---- a route, or that there is none, answers a command that seeks a walk
 
@@ -131,6 +133,8 @@ module _ (airport : Airport) (state : State) (well : IsWellFormed airport) (soun
   plain-none (command.Windows segment) block after none e done told = subst IsFound done.reply.0 told
   plain-none (command.Occupancy segment) block after none e done told = subst IsFound done.reply.0 told
   plain-none command.Timetable block after none e done told = subst IsFound done.0 told
+  plain-none (command.Work name segment from until) block after none e done told = subst IsFound done.reply.0 told
+  plain-none (command.WorkDone name) block after none e done told = subst IsFound done.0 told
 
   -- what is sought by a line that is answered so
   record IsSoughtBy (line : List ℕ) (block : Block) : Type 0 where

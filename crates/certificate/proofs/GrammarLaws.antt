@@ -3,7 +3,7 @@ use Rattle.std.proofs.Common.{ℕ, ◌==◌, Bool, cond, List, [], ◌∷◌, le
 use Rattle.std.specs.Prelude.{IfSome}
 use Rattle.std.proofs.lemmas.Bool.{cond_both, cases_Bool}
 use Rattle.taxi_text.specs.declared.command.Command.{Command}
-use Rattle.taxi_text.specs.declared.command.Command.TheVariants.{Cancel, Reroute, Divert, Windows, Occupancy, Timetable}
+use Rattle.taxi_text.specs.declared.command.Command.TheVariants.{Cancel, Reroute, Divert, Windows, Occupancy, Timetable, Work, WorkDone}
 use Rattle.taxi_text.specs.Words.{words_of}
 use Rattle.taxi_text.specs.Fields.{name_of, is_number, number_of}
 use Rattle.taxi_text.proofs.Numbers.{numerals, is_number-parts}
@@ -12,7 +12,7 @@ use Rattle.std.proofs.lemmas.Str.Parse.{digits_value_short}
 use Rattle.taxi_base.specs.Words.{is_name}
 use Rattle.certificate.specs.Printable.{IsShort, IsName}
 use Rattle.certificate.specs.Asked.{IsInGrammar}
-use Rattle.taxi_text.specs.Commands.{◌>>=◌, first_as, the_end, asked_of, steps_of, is_step_count, route_of, filed_steps_of, file_of, unfiled_of, command_of_words, command_of}
+use Rattle.taxi_text.specs.Commands.{◌>>=◌, first_as, the_end, asked_of, steps_of, is_step_count, route_of, filed_steps_of, file_of, work_of, work_done_of, unfiled_of, command_of_words, command_of}
 
 module _ {A B : Type 0} (P : B → Type 0) (f : A → Option B) where
   bind-each : (o : Option A) → ((x : A) → IfSome (f x) P) → IfSome (o >>= f) P
@@ -68,6 +68,23 @@ asked-so words =
 ended : (command : Command) (words : List (List ℕ)) → IsInGrammar command → IfSome (the_end command words) IsInGrammar
 ended command words holds = if_some IsInGrammar (length words == 0) command (λ _. holds)
 
+-- the forms of work parties, and none
+work-count : (verb : List ℕ) (words : List (List ℕ))
+    → IfSome (cond (bytes_eq verb (codes "work")) (work_of words) (cond (bytes_eq verb (codes "workdone")) (work_done_of words) None)) IsInGrammar
+work-count verb words =
+    elim (cases_Bool (bytes_eq verb (codes "work"))) [
+      | inl e ↦ rw e (bind-name _ words (λ n name.
+          bind-each IsInGrammar _ (first_as name_of (drop 1 words)) (λ s.
+          bind-number _ (drop 1 (drop 1 words)) (λ a from.
+          bind-number _ (drop 1 (drop 1 (drop 1 words))) (λ b until. ended (Work n s a b) (drop 1 (drop 1 (drop 1 (drop 1 words)))) (name, from, until))))))
+      | inr e ↦ rw e (
+          elim (cases_Bool (bytes_eq verb (codes "workdone"))) [
+            | inl e ↦ rw e (bind-name _ words (λ n name. ended (WorkDone n) (drop 1 words) name))
+            | inr e ↦ rw e tt
+          ]
+          )
+    ]
+
 unfiled-count : (verb : List ℕ) (words : List (List ℕ)) → IfSome (unfiled_of verb words) IsInGrammar
 unfiled-count verb words =
     elim (cases_Bool (bytes_eq verb (codes "arrival"))) [
@@ -94,9 +111,7 @@ unfiled-count verb words =
                                           | inr e ↦ rw e (
                                               elim (cases_Bool (bytes_eq verb (codes "timetable"))) [
                                                 | inl e ↦ rw e (ended Timetable words tt)
-                                                | inr e ↦ rw e (
-                                                    tt
-                                                    )
+                                                | inr e ↦ rw e (work-count verb words)
                                               ]
                                               )
                                         ]

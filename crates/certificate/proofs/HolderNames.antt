@@ -9,7 +9,7 @@ use Rattle.taxi_base.specs.declared.answers.Flight.{Flight}
 use Rattle.taxi_base.specs.declared.answers.Party.{Party}
 use Rattle.taxi_base.specs.Airport.{Airport}
 use Rattle.taxi_base.specs.Windows.{blocks}
-use Rattle.taxi_base.specs.State.{State, name_precedes, party_hold, flight_holds, with_flight, without}
+use Rattle.taxi_base.specs.State.{State, name_precedes, party_hold, flight_holds, with_flight, with_party, without}
 use Rattle.taxi_base.specs.Faults.{first_name, party_at, flight_at, holder_at}
 use Rattle.taxi_base.proofs.NameLaws.{All-put_in}
 use Rattle.certificate.specs.Printable.{IsName}
@@ -36,6 +36,10 @@ holder_at-name airport state s t names =
 pub with_flight-names : (flight : Flight) (state : State) → IsName flight.name → HaveNames state → HaveNames (with_flight flight state)
 with_flight-names flight state name names =
     (All-put_in (λ (f : Flight). f.name) (λ f. IsName f.name) flight name state.flights names.0, names.1)
+
+pub with_party-names : (party : Party) (state : State) → IsName party.name → HaveNames state → HaveNames (with_party party state)
+with_party-names party state name names =
+    (names.0, All-put_in (λ (p : Party). p.name) (λ p. IsName p.name) party name state.parties names.1)
 
 pub without-names : (name : List ℕ) (state : State) → HaveNames state → HaveNames (without name state)
 without-names name state names = (

@@ -27,9 +27,9 @@ use Rattle.taxi_text.specs.declared.command.Command.{Command}
 use Rattle.taxi_text.specs.declared.command.Command.TheVariants as command
 use Rattle.taxi_text.specs.Commands.{command_of}
 use Rattle.certificate.specs.declared.block.Block.{Block}
-use Rattle.certificate.specs.Asked.{filed_steps, arrival_named, departure_named, AnswersRequest}
+use Rattle.certificate.specs.Asked.{filed_steps, party_of, arrival_named, departure_named, AnswersRequest}
 use Rattle.certificate.specs.Refusals.{first_refusal}
-use Rattle.certificate.specs.CarriedOut.{Reply, IsOf, filed_reply, found_reply, routed_flight, IsRouted, IsRoutedAgain, cancelled_reply, windows_reply, occupancy_reply, timetable_reply, IsCarriedOut}
+use Rattle.certificate.specs.CarriedOut.{Reply, IsOf, filed_reply, found_reply, routed_flight, IsRouted, IsRoutedAgain, shut_reply, opened_reply, cancelled_reply, windows_reply, occupancy_reply, timetable_reply, IsCarriedOut}
 use Rattle.certificate.specs.Replies.{refused, IsDueTo, IsDue}
 
 -- what is found under one name is one thing
@@ -172,6 +172,10 @@ module _ (block : Block) (after : State) (other : Block) (others : State) where
         let rows : a.rows ≡ b.rows = AreHeldRows-same airport state a.segment a.rows b.rows a.held held in
         of_same (occupancy_reply state a.segment a.rows) (occupancy_reply state b.segment b.rows) (λ i. occupancy_reply state (segments i) (rows i)) a.reply b.reply
     IsCarriedOut-same well command.Timetable a b = of_one (timetable_reply state) a b
+    IsCarriedOut-same well (command.Work name segment from until) a b =
+        let segments : a.segment ≡ b.segment = one-some (segment_named airport segment) a.segment b.segment a.segment_known b.segment_known in
+        of_same (shut_reply state (party_of name a.segment from until)) (shut_reply state (party_of name b.segment from until)) (ap (λ s. shut_reply state (party_of name s from until)) segments) a.reply b.reply
+    IsCarriedOut-same well (command.WorkDone name) a b = of_one (opened_reply state name) a b
 
     IsDueTo-same : IsWellFormed airport → (c : Command) → IsDueTo airport state c block after → IsDueTo airport state c other others → AreSame block after other others
     IsDueTo-same well c a b = go (first_refusal airport state c) a b where

@@ -342,6 +342,11 @@ module _ (airport : Airport) (state : State) (well : IsWellFormed airport) (soun
         plain-passes (Occupancy done.segment done.rows) done.reply.0 (λ s. sought-keeps s (Occupancy done.segment done.rows) tt tt) done.reply.1 (inr (rw (read, none) (after, done)))
     carried-passes command.Timetable read none due done =
         plain-passes (Timetable (timetable_rows state)) done.0 (λ s. sought-keeps s (Timetable (timetable_rows state)) tt tt) done.1 (inr (rw read (after, done)))
+    carried-passes (command.Work name segment from until) read none due done =
+        plain-passes (Filed name from until) done.reply.0 (λ s. sought-keeps s (Filed name from until) tt tt)
+        (subst (λ b. IsDue airport state line b after) done.reply.0 due) (inr (rw (read, none) (after, done)))
+    carried-passes (command.WorkDone name) read none due done =
+        plain-passes (Cancelled name) done.0 (λ s. sought-keeps s (Cancelled name) tt tt) (subst (λ b. IsDue airport state line b after) done.0 due) (inr (rw (read, none) (after, done)))
 
     pub due-passes : IsDue airport state line block after → IsPassed airport state line block after
     unfolding IsDue

@@ -1,8 +1,8 @@
 -- The blocks that are due have texts, in an airport that keeps the rules: no number in them is past the horizon.
-use Rattle.std.proofs.Common.{◌≡◌, ℕ, ◌+◌, ◌<◌, ◌≤◌, cond, not, nat_lt, Bool, true, false, List, [], ◌∷◌, length, Option, Some, None, option_map, option_and_then, IsFalse, refl, sym, subst, arith}
-use Rattle.std.specs.Prelude.{IfSome, MatchOption, All}
+use Rattle.std.proofs.Common.{◌≡◌, ℕ, ◌+◌, ◌<◌, ◌≤◌, cond, not, nat_lt, Bool, true, false, List, [], ◌∷◌, length, Option, Some, None, option_map, option_and_then, IsFalse, refl, sym, subst, arith, inl, inr}
+use Rattle.std.specs.Prelude.{IfSome, MatchOption, All, nat_le}
 use Rattle.std.specs.Option.{option_map_or}
-use Rattle.std.proofs.lemmas.Bool.{and_parts, leb-true, ltb-true}
+use Rattle.std.proofs.lemmas.Bool.{and_parts, cases_lt, lt-ltb, le-ltb, leb-true, ltb-true}
 use Rattle.std.proofs.lemmas.List.Elements.{All-weaker, All-contains}
 use Rattle.taxi_base.specs.declared.numbers.Class.{Class}
 use Rattle.taxi_base.specs.declared.numbers.Arc.{Arc}
@@ -19,12 +19,12 @@ use Rattle.taxi_base.specs.declared.answers.Found.TheVariants as found
 use Rattle.taxi_base.specs.declared.answers.Request.{Request}
 use Rattle.taxi_base.specs.declared.answers.Refusal.{Refusal}
 use Rattle.taxi_base.specs.declared.answers.Refusal.TheVariants as refusal
-use Rattle.taxi_base.specs.Airport.{Airport, IsWellFormed, segment_of, seconds, class_named, node_named}
+use Rattle.taxi_base.specs.Airport.{Airport, IsWellFormed, segment_of, seconds, class_named, node_named, segment_named}
 use Rattle.taxi_base.specs.Windows.{Hold}
 use Rattle.taxi_base.specs.Walks.{Conditions, free_among, hold_under, IsFeasibleWalk, Meets, begin_of, end_of}
-use Rattle.taxi_base.specs.State.{State, flight_named, with_flight, with_route, without, holds_in, conditions_of, IsSound}
+use Rattle.taxi_base.specs.State.{State, flight_named, with_flight, with_route, without, party_hold, holds_in, conditions_of, IsSound}
 use Rattle.taxi_base.specs.Again.{retargeted, IsTarget, AnswersAgain}
-use Rattle.taxi_base.specs.Faults.{first_taken, holder_at, taken_by, conditions_in, may_follow, cause_of, fault_after, route_fault, taken_cause}
+use Rattle.taxi_base.specs.Faults.{first_taken, holder_at, taken_by, conditions_in, may_follow, cause_of, fault_after, route_fault, taken_cause, hold_cause, hold_fault}
 use Rattle.taxi_base.proofs.FaultLaws.{first_taken-Some, route_fault-None}
 use Rattle.taxi_base.proofs.WalkLaws.{conditions_among-bounded, Meets-IsFeasibleWalk}
 use Rattle.taxi_text.specs.declared.command.FiledStep.{FiledStep}
@@ -34,13 +34,13 @@ use Rattle.taxi_text.specs.Commands.{command_of}
 use Rattle.certificate.specs.declared.block.Block.{Block}
 use Rattle.certificate.specs.declared.block.Block.TheVariants.{Refused, Filed, Cancelled, Route, NoRoute, Windows, Occupancy, Timetable}
 use Rattle.certificate.specs.Printable.{IsShort, IsName, IsPrintableCause, IsPrintableRefusal, IsPrintableStep, IsPrintableWindow, IsPrintable}
-use Rattle.certificate.specs.Asked.{filed_steps, IsInGrammar, arrival_named, departure_named, AnswersRequest}
-use Rattle.certificate.specs.Refusals.{refused_if, first_of, of_flight, not_routed, not_arrival, already_done, already_moving, in_force, unknown_class, unknown_node, no_runway, no_stand, unknown_segment, unknown_arc, not_in_force, full, step_fails, is_filed, is_departure, first_refusal}
-use Rattle.certificate.specs.CarriedOut.{Reply, IsOf, filed_reply, IsFiled, second_of, found_reply, routed_flight, IsRouted, IsRoutedAgain, cancelled_reply, windows_among, windows_reply, occupancy_reply, timetable_reply, IsCarriedOut}
+use Rattle.certificate.specs.Asked.{filed_steps, party_of, IsInGrammar, arrival_named, departure_named, AnswersRequest}
+use Rattle.certificate.specs.Refusals.{refused_if, first_of, of_flight, not_routed, not_arrival, already_done, already_moving, in_force, unknown_class, unknown_node, no_runway, no_stand, unknown_segment, unknown_arc, not_in_force, not_at_work, full, step_fails, hold_fails, is_filed, is_departure, first_refusal}
+use Rattle.certificate.specs.CarriedOut.{Reply, IsOf, filed_reply, IsFiled, second_of, found_reply, routed_flight, IsRouted, IsRoutedAgain, shut_reply, opened_reply, cancelled_reply, windows_among, windows_reply, occupancy_reply, timetable_reply, IsCarriedOut}
 use Rattle.certificate.specs.Replies.{refused, IsDueTo, IsDue, HaveNames, DoesAsItSays}
 use Rattle.certificate.proofs.FiledLaws.{filed_steps-length, filed_steps-arcs, filed_steps-joined}
 use Rattle.certificate.proofs.FlightLaws.{flight_named-there}
-use Rattle.certificate.proofs.HolderNames.{holder_at-name, with_flight-names, without-names}
+use Rattle.certificate.proofs.HolderNames.{holder_at-name, with_flight-names, with_party-names, without-names}
 use Rattle.certificate.proofs.FoundLaws.{walk-end, walk-begin, walk-second, walk-some, walk-count, walk-printable, found-meets, found_again-meets, ArePrintableLabels, found-printable, found_again-printable}
 use Rattle.certificate.proofs.GrammarLaws.{command_of-in_grammar}
 use Rattle.certificate.proofs.RefusalLaws.{none-fails, file-does_not_fail}
@@ -105,6 +105,14 @@ module _ (airport : Airport) (state : State) (well : IsWellFormed airport) (name
       go None h others = others
       go (Some cause) h others = (omega arith, omega arith, h)
 
+  hold_cause-printable : (hold : Hold) → IfSome (hold_cause airport state hold) IsPrintableCause
+  hold_cause-printable hold = or-cause (nat_le hold.span.until hold.span.from) TooFast tt _ in_span where
+    in_span : IfSome (cond (nat_lt airport.horizon hold.span.until) (Some PastHorizon) (taken_by airport state hold)) IsPrintableCause
+    in_span = elim (cases_lt airport.horizon hold.span.until) [
+      | inl past ↦ rw (lt-ltb _ _ past) tt
+      | inr in_time ↦ rw (le-ltb _ _ in_time) (taken-printable hold in_time)
+    ]
+
   -- ---- refusals
 
   abbrev IsFine : Option Refusal → Type 0
@@ -161,6 +169,20 @@ module _ (airport : Airport) (state : State) (well : IsWellFormed airport) (name
     of_class None = tt
     of_class (Some class) = of_steps class (filed_steps airport start filed) refl
 
+  shut-fine : (hold : Hold) → IsFine (option_map (λ fault. refusal.Step fault) (hold_fault airport state hold))
+  unfolding hold_fault
+  shut-fine hold = of_cause (hold_cause airport state hold) (hold_cause-printable hold) where
+    of_cause : (o : Option StepCause) → IfSome o IsPrintableCause → IsFine (option_map (λ fault. refusal.Step fault) (option_map (λ cause. record { number = 1; cause = cause }) o))
+    of_cause None h = tt
+    of_cause (Some cause) h = ((omega arith, omega arith), h)
+
+  hold-fine : (name segment : List ℕ) (from until : ℕ) → IsFine (hold_fails airport state name segment from until)
+  hold-fine name segment from until = of_segment (segment_named airport segment) where
+    of_segment : (o : Option Segment)
+        → IsFine (option_and_then (λ s. option_map (λ fault. refusal.Step fault) (hold_fault airport state (party_hold (party_of name s from until)))) o)
+    of_segment None = tt
+    of_segment (Some s) = shut-fine (party_hold (party_of name s from until))
+
   refusal-fine : (c : Command) → IsInGrammar c → IsFine (first_refusal airport state c)
   refusal-fine (command.File flight class start steps) spoken =
       first-fine (in_force state flight) _ (if-fine _ _ tt) (first-fine (unknown_class airport class) _ (if-fine _ _ tt) (first-fine (unknown_arc airport start steps) _ (if-fine _ _ tt)
@@ -184,6 +206,10 @@ module _ (airport : Airport) (state : State) (well : IsWellFormed airport) (name
   refusal-fine (command.Windows segment) spoken = first-fine (unknown_segment airport segment) [] (if-fine _ _ tt) tt
   refusal-fine (command.Occupancy segment) spoken = first-fine (unknown_segment airport segment) [] (if-fine _ _ tt) tt
   refusal-fine command.Timetable spoken = tt
+  refusal-fine (command.Work name segment from until) spoken =
+      first-fine (in_force state name) _ (if-fine _ _ tt) (first-fine (unknown_segment airport segment) _ (if-fine _ _ tt) (first-fine (full state) _ (if-fine _ _ tt)
+      (first-fine (hold_fails airport state name segment from until) [] (hold-fine name segment from until) tt)))
+  refusal-fine (command.WorkDone name) spoken = first-fine (not_at_work state name) [] (if-fine _ _ tt) tt
 
   -- ---- what is carried out
 
@@ -282,6 +308,9 @@ module _ (airport : Airport) (state : State) (well : IsWellFormed airport) (name
       )
   carried_out-printable command.Timetable block after spoken none done =
       of-reply (timetable_reply state) block after done (timetable-count airport state well sound, timetable-printable airport state well sound names)
+  carried_out-printable (command.Work name segment from until) block after spoken none done =
+      of-reply (shut_reply state (party_of name done.segment from until)) block after done.reply (spoken.0, (spoken.1, spoken.2))
+  carried_out-printable (command.WorkDone name) block after spoken none done = of-reply (opened_reply state name) block after done spoken
 
   of-refusal : (why : Refusal) (block : Block) (after : State) → IsOf (refused state why) block after → IsPrintableRefusal why → IsPrintable airport block
   of-refusal why block after of fine = of-reply (refused state why) block after of fine
@@ -305,8 +334,10 @@ module _ (airport : Airport) (state : State) (well : IsWellFormed airport) (name
 -- what a block says leaves holders names, where the block has a text
 pub says-names : (airport : Airport) (state : State) (block : Block) (after : State) → HaveNames state → DoesAsItSays airport state block after
     → IsPrintable airport block → HaveNames after
-says-names airport state (Filed name start end) after names says fine =
-    subst HaveNames (sym says.2) (with_flight-names says.0 state (subst IsName (sym says.1) fine.0) names)
+says-names airport state (Filed name start end) after names (inl says) fine =
+    subst HaveNames (sym says.goes_in) (with_flight-names says.flight state (subst IsName (sym says.name_told) fine.0) names)
+says-names airport state (Filed name start end) after names (inr says) fine =
+    subst HaveNames (sym says.goes_in) (with_party-names says.party state (subst IsName (sym says.name_told) fine.0) names)
 says-names airport state (Cancelled name) after names says fine = subst HaveNames (sym says.1) (without-names name state names)
 says-names airport state (Route name second steps labels) after names says fine =
     subst HaveNames (sym says.3) (with_flight-names says.0 (without says.0.name state) (subst IsName (sym says.1) fine.0.0) (without-names says.0.name state names))

@@ -2,17 +2,18 @@
 use Rattle.std.proofs.Common.{◌≡◌, ℕ, ◌<◌, Bool, true, false, not, List, [], ◌∷◌, IsTrue, IsFalse, Option, Some, None, option_map, refl, inl, inr}
 use Rattle.std.proofs.lemmas.Bool.{cases_lt, le-leb}
 use Rattle.taxi_base.specs.declared.numbers.Class.{Class}
+use Rattle.taxi_base.specs.declared.numbers.Segment.{Segment}
 use Rattle.taxi_base.specs.declared.rows.Step.{Step}
 use Rattle.taxi_base.specs.declared.answers.StepFault.{StepFault}
 use Rattle.taxi_base.specs.declared.answers.Refusal.{Refusal}
 use Rattle.taxi_base.specs.declared.answers.Refusal.TheVariants as refusal
-use Rattle.taxi_base.specs.Airport.{Airport, class_named}
-use Rattle.taxi_base.specs.State.{State, holder_count, has_holder}
-use Rattle.taxi_base.specs.Faults.{route_fault}
+use Rattle.taxi_base.specs.Airport.{Airport, class_named, segment_named}
+use Rattle.taxi_base.specs.State.{State, party_hold, holder_count, has_holder}
+use Rattle.taxi_base.specs.Faults.{route_fault, hold_fault}
 use Rattle.taxi_text.specs.declared.command.FiledStep.{FiledStep}
-use Rattle.certificate.specs.Asked.{filed_steps}
+use Rattle.certificate.specs.Asked.{filed_steps, party_of}
 use Rattle.taxi_text.specs.declared.command.Command.TheVariants as command
-use Rattle.certificate.specs.Refusals.{refused_if, first_of, is_in_force, most_holders, in_force, unknown_class, unknown_node, no_runway, no_stand, unknown_arc, not_in_force, full, step_fails, first_refusal}
+use Rattle.certificate.specs.Refusals.{refused_if, first_of, is_in_force, is_at_work, most_holders, in_force, unknown_class, unknown_node, no_runway, no_stand, unknown_segment, unknown_arc, not_in_force, not_at_work, full, step_fails, hold_fails, first_refusal}
 
 -- none of the tests gives a refusal, so neither the first does nor the others
 pub none-first : (o : Option Refusal) (tests : List (Option Refusal)) → first_of (o ∷ tests) ≡ None → o ≡ None
@@ -27,12 +28,16 @@ pub not_refused : (test : Bool) (why : Refusal) → refused_if test why ≡ None
 not_refused false why e = refl
 not_refused true why e = absurd (cc e)
 
--- a flight of the name is in force
+so-not_refused : (test : Bool) (why : Refusal) → refused_if (not test) why ≡ None → IsTrue test
+so-not_refused true why e = refl
+so-not_refused false why e = absurd (cc e)
+
+-- a flight of the name is in force, and a work party of the name is
 pub is-in_force : (state : State) (name : List ℕ) → not_in_force state name ≡ None → IsTrue (is_in_force name state)
-is-in_force state name e = go (is_in_force name state) (not_refused (not (is_in_force name state)) refusal.NotInForce e) where
-  go : (b : Bool) → IsFalse (not b) → IsTrue b
-  go true h = refl
-  go false h = absurd (cc h)
+is-in_force state name e = so-not_refused (is_in_force name state) refusal.NotInForce e
+
+pub is-at_work : (state : State) (name : List ℕ) → not_at_work state name ≡ None → IsTrue (is_at_work name state)
+is-at_work state name e = so-not_refused (is_at_work name state) refusal.NotInForce e
 
 -- there is room for a holder
 pub not-full : (state : State) → full state ≡ None → holder_count state < most_holders
@@ -42,18 +47,24 @@ not-full state e =
       | inr many ↦ absurd (cc (rw (le-leb most_holders (holder_count state) many) at e))
     ]
 
+no_fault : (o : Option StepFault) → option_map (λ fault. refusal.Step fault) o ≡ None → o ≡ None
+no_fault None h = refl
+no_fault (Some fault) h = absurd (cc h)
+
 -- no step of the route fails
 pub none-fails : (airport : Airport) (state : State) (name : List ℕ) (start : ℕ) (filed : List FiledStep) (class : Class) (steps : List Step)
     → class_named airport name ≡ Some class → filed_steps airport start filed ≡ Some steps
     → step_fails airport state name start filed ≡ None → route_fault airport class state steps ≡ None
-none-fails airport state name start filed class steps known made e = go (route_fault airport class state steps) (rw (known, made) at e) where
-  go : (o : Option StepFault) → option_map (λ fault. refusal.Step fault) o ≡ None → o ≡ None
-  go None h = refl
-  go (Some fault) h = absurd (cc h)
+none-fails airport state name start filed class steps known made e = no_fault (route_fault airport class state steps) (rw (known, made) at e)
 
--- ---- what the commands that put a flight in force are not refused
+-- the segment may be shut
+pub none-holds : (airport : Airport) (state : State) (name segment : List ℕ) (from until : ℕ) (s : Segment) → segment_named airport segment ≡ Some s
+    → hold_fails airport state name segment from until ≡ None → hold_fault airport state (party_hold (party_of name s from until)) ≡ None
+none-holds airport state name segment from until s known e = no_fault (hold_fault airport state (party_hold (party_of name s from until))) (rw known at e)
 
--- there is room for a flight of a new name
+-- ---- what the commands that put a holder in force are not refused
+
+-- there is room for a holder of a new name
 pub record HasRoom (state : State) (name : List ℕ) : Type 0 where
   pub absent : IsFalse (has_holder name state)
   pub room : holder_count state < most_holders
@@ -84,3 +95,14 @@ module _ (airport : Airport) (state : State) (name class : List ℕ) where
         (none-others (no_runway airport to) _ (none-others (no_stand airport from) _ (none-others (unknown_node airport to) _ (none-others (unknown_node airport from) _
         (none-others (unknown_class airport class) _ (none-others (in_force state name) _ e)))))));
   }
+
+module _ (airport : Airport) (state : State) (name segment : List ℕ) (from until : ℕ) where
+  pub work-has_room : first_refusal airport state (command.Work name segment from until) ≡ None → HasRoom state name
+  work-has_room e = record {
+    absent = not_refused (has_holder name state) refusal.InForce (none-first (in_force state name) _ e);
+    room = not-full state (none-first (full state) _ (none-others (unknown_segment airport segment) _ (none-others (in_force state name) _ e)));
+  }
+
+  pub work-does_not_fail : first_refusal airport state (command.Work name segment from until) ≡ None → hold_fails airport state name segment from until ≡ None
+  work-does_not_fail e =
+      none-first (hold_fails airport state name segment from until) [] (none-others (full state) _ (none-others (unknown_segment airport segment) _ (none-others (in_force state name) _ e)))

@@ -1,9 +1,10 @@
 -- A reply keeps the state sound, and what it says is so.
-use Rattle.std.proofs.Common.{◌≡◌, ℕ, ◌<◌, Bool, true, false, List, [], length, inl, inr, Option, Some, None, refl, sym, ap, subst, arith}
+use Rattle.std.proofs.Common.{◌≡◌, ℕ, ◌<◌, Bool, true, false, List, [], length, IsTrue, inl, inr, Option, Some, None, refl, sym, ap, subst, arith}
 use Rattle.std.specs.Prelude.{◌⊎◌, Contains, IfSome, MatchOption}
-use Rattle.std.proofs.lemmas.Bool.{and_parts, ltb-true}
+use Rattle.std.proofs.lemmas.Bool.{and_parts, or_left, or_right, ltb-true}
 use Rattle.taxi_base.specs.declared.numbers.Node.{Node}
 use Rattle.taxi_base.specs.declared.answers.Flight.{Flight}
+use Rattle.taxi_base.specs.declared.answers.Party.{Party}
 use Rattle.taxi_base.specs.declared.answers.Found.{Found}
 use Rattle.taxi_base.specs.declared.answers.Found.TheVariants as found
 use Rattle.taxi_base.specs.declared.answers.Request.{Request}
@@ -11,11 +12,11 @@ use Rattle.taxi_base.specs.declared.answers.Refusal.{Refusal}
 use Rattle.taxi_base.specs.declared.answers.Refusal.TheVariants as refusal
 use Rattle.taxi_base.specs.Airport.{Airport, node_named}
 use Rattle.taxi_base.specs.Walks.{IsFeasibleWalk, Meets}
-use Rattle.taxi_base.specs.State.{State, with_flight, with_route, without, conditions_of, IsSound}
+use Rattle.taxi_base.specs.State.{State, with_flight, with_route, without, party_hold, conditions_of, IsFeasibleHold, IsSound}
 use Rattle.taxi_base.specs.Faults.{conditions_in, route_fault}
 use Rattle.taxi_base.specs.Again.{retargeted, IsTarget, AnswersAgain}
-use Rattle.taxi_base.proofs.FaultLaws.{route_fault-None}
-use Rattle.taxi_base.proofs.StateLaws.{IsSound-with_flight, IsSound-with_route, IsSound-without, IsClashFree-feasible}
+use Rattle.taxi_base.proofs.FaultLaws.{route_fault-None, hold_fault-None}
+use Rattle.taxi_base.proofs.StateLaws.{IsSound-with_flight, IsSound-with_party, IsSound-with_route, IsSound-without, IsClashFree-feasible}
 use Rattle.std.proofs.lemmas.List.Elements.{All-contains}
 use Rattle.taxi_text.specs.declared.command.FiledStep.{FiledStep}
 use Rattle.taxi_text.specs.declared.command.Command.{Command}
@@ -23,15 +24,15 @@ use Rattle.taxi_text.specs.declared.command.Command.TheVariants as command
 use Rattle.taxi_text.specs.Commands.{command_of, IsFile}
 use Rattle.certificate.specs.declared.block.Block.{Block}
 use Rattle.certificate.specs.declared.block.Block.TheVariants.{Refused, Route, NoRoute}
-use Rattle.certificate.specs.Asked.{IsInGrammar, arrival_named, departure_named, AnswersRequest}
-use Rattle.certificate.specs.Refusals.{is_in_force, not_in_force, first_refusal}
-use Rattle.certificate.specs.CarriedOut.{Reply, IsOf, filed_flight, filed_reply, IsFiled, second_of, found_reply, routed_flight, IsRouted, IsRoutedAgain, cancelled_reply, windows_reply, occupancy_reply, timetable_reply, IsCarriedOut}
+use Rattle.certificate.specs.Asked.{IsInGrammar, party_of, arrival_named, departure_named, AnswersRequest}
+use Rattle.certificate.specs.Refusals.{is_in_force, is_at_work, not_in_force, not_at_work, first_refusal}
+use Rattle.certificate.specs.CarriedOut.{Reply, IsOf, filed_flight, filed_reply, IsFiled, second_of, found_reply, routed_flight, IsRouted, IsRoutedAgain, shut_reply, IsShut, opened_reply, cancelled_reply, windows_reply, occupancy_reply, timetable_reply, IsCarriedOut}
 use Rattle.certificate.specs.Replies.{refused, IsDueTo, IsDue, NeedsNoMemory, IsReply, as_due, no_memory, DoesAsItSays, IsAnswered}
 use Rattle.certificate.proofs.FiledLaws.{filed_steps-length, filed_steps-arcs, filed_steps-joined}
-use Rattle.certificate.proofs.FlightLaws.{flight_named-there, flight_named-name, without-none}
-use Rattle.certificate.proofs.RefusalLaws.{none-first, is-in_force, none-fails, HasRoom, file-has_room, file-does_not_fail, arrival-has_room, departure-has_room}
+use Rattle.certificate.proofs.FlightLaws.{flight_named-there, flight_named-name, without-none, without-party}
+use Rattle.certificate.proofs.RefusalLaws.{none-first, is-in_force, is-at_work, none-fails, none-holds, HasRoom, file-has_room, file-does_not_fail, arrival-has_room, departure-has_room, work-has_room, work-does_not_fail}
 use Rattle.certificate.proofs.GrammarLaws.{command_of-in_grammar}
-use Rattle.certificate.proofs.WindowsTold.{windows_among-are}
+use Rattle.certificate.proofs.WindowsTold.{windows_among-are, segment_named-exists}
 use Rattle.certificate.proofs.FoundLaws.{found-meets, found_again-meets, second-retargeted}
 use Rattle.certificate.proofs.PrintableLaws.{due-printable, says-names}
 
@@ -60,7 +61,7 @@ module _ (airport : Airport) (state : State) (sound : IsSound airport state) whe
       (route_fault-None airport done.class state steps (omega (arith, some, filed_steps-length airport start filed steps made))
       (filed_steps-arcs airport start filed steps made) (filed_steps-joined airport start filed steps made)).0 faultless in
       of-reply (filed_reply state name done.class steps) block after done.reply (record {
-        as_it_says = (filed_flight name done.class steps, refl, refl, walk, refl, refl);
+        as_it_says = inl (record { flight = filed_flight name done.class steps; name_told = refl; goes_in = refl; walk = walk; start_told = refl; end_told = refl });
         stays_sound = IsSound-with_flight airport (filed_flight name done.class steps) state sound room.room room.absent walk;
       })
 
@@ -102,6 +103,28 @@ module _ (airport : Airport) (state : State) (sound : IsSound airport state) whe
           stays_sound = IsSound-with_route airport flight state asked steps sound there met;
         })
 
+  work-kept : (name segment : List ℕ) (from until : ℕ) (block : Block) (after : State) → first_refusal airport state (command.Work name segment from until) ≡ None
+      → IsShut airport state name segment from until block after → IsKept block after
+  work-kept name segment from until block after none done =
+      let party : Party = party_of name done.segment from until in
+      let room : HasRoom state name = work-has_room airport state name segment from until none in
+      let hold : IsFeasibleHold airport state (party_hold party) =
+      (hold_fault-None airport state (party_hold party) (segment_named-exists airport segment done.segment done.segment_known)).0
+      (none-holds airport state name segment from until done.segment done.segment_known (work-does_not_fail airport state name segment from until none)) in
+      of-reply (shut_reply state party) block after done.reply (record {
+        as_it_says = inr (record { party = party; name_told = refl; goes_in = refl; hold = hold; start_told = refl; end_told = refl });
+        stays_sound = IsSound-with_party airport party state sound room.room room.absent hold;
+      })
+
+  -- leaving the party out leaves the holder out
+  work_done-kept : (name : List ℕ) (block : Block) (after : State) → IsTrue (is_at_work name state) → IsOf (opened_reply state name) block after → IsKept block after
+  work_done-kept name block after there done =
+      let same = without-party airport name state sound.feasible there in
+      of-reply (opened_reply state name) block after done (record {
+        as_it_says = (or_left (is_at_work name state) (is_in_force name state) there, same);
+        stays_sound = subst (IsSound airport) (sym same) (IsSound-without airport name state sound);
+      })
+
   -- a command that is refused nothing and is carried out keeps the state sound
   pub carried_out-kept : (c : Command) (block : Block) (after : State) → IsInGrammar c → first_refusal airport state c ≡ None
       → IsCarriedOut airport state c block after → IsKept block after
@@ -113,7 +136,7 @@ module _ (airport : Airport) (state : State) (sound : IsSound airport state) whe
       routed-kept flight class (departure_named airport from to time queue) block after (departure-has_room airport state flight class from to time queue none) done
   carried_out-kept (command.Cancel flight) block after spoken none done =
       of-reply (cancelled_reply state flight) block after done (record {
-        as_it_says = (is-in_force state flight (none-first (not_in_force state flight) [] none), refl);
+        as_it_says = (or_right (is_at_work flight state) (is_in_force flight state) (is-in_force state flight (none-first (not_in_force state flight) [] none)), refl);
         stays_sound = IsSound-without airport flight state sound;
       })
   carried_out-kept (command.Reroute flight time) block after spoken none done = again-kept flight time IsTarget block after done
@@ -124,6 +147,9 @@ module _ (airport : Airport) (state : State) (sound : IsSound airport state) whe
       of-reply (occupancy_reply state done.segment done.rows) block after done.reply (record { as_it_says = (done.held, refl); stays_sound = sound })
   carried_out-kept command.Timetable block after spoken none done =
       of-reply (timetable_reply state) block after done (record { as_it_says = (refl, refl); stays_sound = sound })
+  carried_out-kept (command.Work name segment from until) block after spoken none done = work-kept name segment from until block after none done
+  carried_out-kept (command.WorkDone name) block after spoken none done =
+      work_done-kept name block after (is-at_work state name (none-first (not_at_work state name) [] none)) done
 
   of-refusal : (why : Refusal) (block : Block) (after : State) → IsOf (refused state why) block after → IsKept block after
   of-refusal why block after of = of-reply (refused state why) block after of (refused-kept why)
@@ -188,11 +214,19 @@ needs_no_memory-or (Some (command.Divert flight time node)) = inr (λ needs. nee
 needs_no_memory-or (Some (command.Windows segment)) = inr (λ needs. needs)
 needs_no_memory-or (Some (command.Occupancy segment)) = inr (λ needs. needs)
 needs_no_memory-or (Some command.Timetable) = inr (λ needs. needs)
+needs_no_memory-or (Some (command.Work name segment from until)) = inr (λ needs. needs)
+needs_no_memory-or (Some (command.WorkDone name)) = inl tt
 
 cancel-due : (airport : Airport) (state : State) (name : List ℕ) → (reply : Reply) × IsDueTo airport state (command.Cancel name) reply.block reply.after
 cancel-due airport state name = go (is_in_force name state) refl where
   go : (b : Bool) → is_in_force name state ≡ b → (reply : Reply) × IsDueTo airport state (command.Cancel name) reply.block reply.after
   go true e = (cancelled_reply state name, rw e (refl, refl))
+  go false e = (refused state refusal.NotInForce, rw e (refl, refl))
+
+work_done-due : (airport : Airport) (state : State) (name : List ℕ) → (reply : Reply) × IsDueTo airport state (command.WorkDone name) reply.block reply.after
+work_done-due airport state name = go (is_at_work name state) refl where
+  go : (b : Bool) → is_at_work name state ≡ b → (reply : Reply) × IsDueTo airport state (command.WorkDone name) reply.block reply.after
+  go true e = (opened_reply state name, rw e (refl, refl))
   go false e = (refused state refusal.NotInForce, rw e (refl, refl))
 
 -- each line has a reply
@@ -203,22 +237,26 @@ reply-is_there airport state line = go (command_of line) refl where
 
   go : (o : Option Command) → command_of line ≡ o → (reply : Reply) × IsReply airport state line reply.block reply.after
   go o e = elim (needs_no_memory-or o) [
-    | inl needs ↦ of_cancel o e needs
+    | inl needs ↦ by_due o e needs
     | inr not_so ↦ by_memory (λ needs. not_so (subst NeedsNoMemory e needs))
   ] where
-    of_cancel : (o : Option Command) → command_of line ≡ o → NeedsNoMemory o → (reply : Reply) × IsReply airport state line reply.block reply.after
-    of_cancel None e needs = absurd needs
-    of_cancel (Some (command.File flight class start steps)) e needs = absurd needs
-    of_cancel (Some (command.Arrival flight class from to time hold)) e needs = absurd needs
-    of_cancel (Some (command.Departure flight class from to time queue)) e needs = absurd needs
-    of_cancel (Some (command.Cancel flight)) e needs =
+    by_due : (o : Option Command) → command_of line ≡ o → NeedsNoMemory o → (reply : Reply) × IsReply airport state line reply.block reply.after
+    by_due None e needs = absurd needs
+    by_due (Some (command.File flight class start steps)) e needs = absurd needs
+    by_due (Some (command.Arrival flight class from to time hold)) e needs = absurd needs
+    by_due (Some (command.Departure flight class from to time queue)) e needs = absurd needs
+    by_due (Some (command.Cancel flight)) e needs =
         let due = cancel-due airport state flight in
         (due.0, as_due due.0.block due.0.after (due-command airport state line (command.Cancel flight) due.0.block due.0.after e due.1))
-    of_cancel (Some (command.Reroute flight time)) e needs = absurd needs
-    of_cancel (Some (command.Divert flight time node)) e needs = absurd needs
-    of_cancel (Some (command.Windows segment)) e needs = absurd needs
-    of_cancel (Some (command.Occupancy segment)) e needs = absurd needs
-    of_cancel (Some command.Timetable) e needs = absurd needs
+    by_due (Some (command.Reroute flight time)) e needs = absurd needs
+    by_due (Some (command.Divert flight time node)) e needs = absurd needs
+    by_due (Some (command.Windows segment)) e needs = absurd needs
+    by_due (Some (command.Occupancy segment)) e needs = absurd needs
+    by_due (Some command.Timetable) e needs = absurd needs
+    by_due (Some (command.Work name segment from until)) e needs = absurd needs
+    by_due (Some (command.WorkDone name)) e needs =
+        let due = work_done-due airport state name in
+        (due.0, as_due due.0.block due.0.after (due-command airport state line (command.WorkDone name) due.0.block due.0.after e due.1))
 
 -- a line that files a route is none that needs no memory
 pub IsFile-memory : (c : Command) → IsFile c → NeedsNoMemory (Some c) → ⊥
@@ -231,3 +269,5 @@ IsFile-memory (command.Divert flight time node) file needs = file
 IsFile-memory (command.Windows segment) file needs = file
 IsFile-memory (command.Occupancy segment) file needs = file
 IsFile-memory command.Timetable file needs = file
+IsFile-memory (command.Work name segment from until) file needs = file
+IsFile-memory (command.WorkDone name) file needs = file

@@ -1,6 +1,8 @@
 -- What do the words of a command ask for, in the airport's own terms?
 use Rattle.std.specs.Prelude.{ℕ, ◌-◌, ◌+◌, List, [], ◌∷◌, length, Option, Some, option_map, option_and_then, IsTrue, ⊤}
+use Rattle.taxi_base.specs.declared.numbers.Segment.{Segment}
 use Rattle.taxi_base.specs.declared.rows.Step.{Step}
+use Rattle.taxi_base.specs.declared.answers.Party.{Party}
 use Rattle.taxi_base.specs.declared.answers.Request.{Request}
 use Rattle.taxi_base.specs.declared.answers.Request.TheVariants as request
 use Rattle.taxi_base.specs.declared.answers.Found.{Found}
@@ -23,8 +25,8 @@ filed_steps airport enter (filed ∷ rest) =
     option_and_then (λ arc. option_map (λ steps. record { arc = arc; enter = enter; leave = filed.leave } ∷ steps) (filed_steps airport filed.leave rest))
     (arc_named airport filed.segment filed.forward)
 
--- What the grammar promises of a command: the name that a flight has or is to have is a name, times have at most 7 digits, and
--- a route given by hand has 1 to 256 steps.
+-- What the grammar promises of a command: the name that a flight or a work party has or is to have is a name, times have at
+-- most 7 digits, and a route given by hand has 1 to 256 steps.
 abbrev pub IsInGrammar : Command → Type 0
 IsInGrammar (command.File flight class start steps) = IsName flight × IsTrue (is_step_count (length steps))
 IsInGrammar (command.Arrival flight class from to time hold) = IsName flight × IsShort time × IsShort hold
@@ -32,7 +34,15 @@ IsInGrammar (command.Departure flight class from to time queue) = IsName flight 
 IsInGrammar (command.Cancel flight) = IsName flight
 IsInGrammar (command.Reroute flight time) = IsName flight × IsShort time
 IsInGrammar (command.Divert flight time node) = IsName flight × IsShort time
+IsInGrammar (command.Work name segment from until) = IsName name × IsShort from × IsShort until
+IsInGrammar (command.WorkDone name) = IsName name
 IsInGrammar _ = ⊤
+
+-- ---- a segment to be shut
+
+-- the work party of a name that shuts a segment for a span
+abbrev pub party_of : List ℕ → Segment → ℕ → ℕ → Party
+party_of name segment from until = record { name = name; segment = segment; from = from; until = until }
 
 -- ---- a route to be found
 

@@ -9,12 +9,13 @@ use Rattle.taxi_base.specs.declared.rows.HeldRow.{HeldRow}
 use Rattle.taxi_base.specs.declared.answers.Request.{Request}
 use Rattle.taxi_base.specs.declared.answers.Request.TheVariants as request
 use Rattle.taxi_base.specs.declared.answers.Flight.{Flight}
+use Rattle.taxi_base.specs.declared.answers.Party.{Party}
 use Rattle.taxi_base.specs.declared.answers.Found.{Found}
 use Rattle.taxi_base.specs.declared.answers.Found.TheVariants as found
 use Rattle.taxi_base.specs.Airport.{Airport, node_named, class_named, segment_named}
 use Rattle.taxi_base.specs.Windows.{is_free, windows_before}
 use Rattle.taxi_base.specs.Walks.{begin_of, end_of}
-use Rattle.taxi_base.specs.State.{State, flight_named, with_flight, without, with_route, holds_in, conditions_of}
+use Rattle.taxi_base.specs.State.{State, flight_named, parties_without, with_flight, with_party, without, with_route, holds_in, conditions_of}
 use Rattle.taxi_base.specs.Faults.{conditions_in}
 use Rattle.taxi_base.specs.Again.{retargeted, IsTarget, AnswersAgain}
 use Rattle.taxi_base.specs.Reports.{timetable_rows, AreHeldRows}
@@ -23,7 +24,7 @@ use Rattle.taxi_text.specs.declared.command.Command.{Command}
 use Rattle.taxi_text.specs.declared.command.Command.TheVariants as command
 use Rattle.certificate.specs.declared.block.Block.{Block}
 use Rattle.certificate.specs.declared.block.Block.TheVariants.{Filed, Cancelled, Route, NoRoute, Windows, Occupancy, Timetable}
-use Rattle.certificate.specs.Asked.{filed_steps, arrival_named, departure_named, AnswersRequest}
+use Rattle.certificate.specs.Asked.{filed_steps, party_of, arrival_named, departure_named, AnswersRequest}
 
 -- what is answered, and the state afterwards
 pub record Reply : Type 0 where
@@ -87,6 +88,21 @@ pub record IsRoutedAgain (airport : Airport) (state : State) (name : List ℕ) (
   pub answers : AnswersAgain (conditions_of airport state flight) flight.steps time target flight.request found
   pub reply : IsOf (found_reply state name flight.request (λ steps. with_route flight (retargeted flight.request target) steps state) found) block after
 
+-- ---- shutting a segment, and opening it again
+
+-- the work party is in force
+abbrev pub shut_reply : State → Party → Reply
+shut_reply state party = record { block = Filed party.name party.from party.until; after = with_party party state }
+
+pub record IsShut (airport : Airport) (state : State) (name segment_name : List ℕ) (from until : ℕ) (block : Block) (after : State) : Type 0 where
+  pub segment : Segment
+  pub segment_known : segment_named airport segment_name ≡ Some segment
+  pub reply : IsOf (shut_reply state (party_of name segment from until)) block after
+
+-- the party is out
+abbrev pub opened_reply : State → List ℕ → Reply
+opened_reply state name = record { block = Cancelled name; after = record state { parties = parties_without name state.parties } }
+
 -- ---- cancelling and reporting
 
 abbrev pub cancelled_reply : State → List ℕ → Reply
@@ -132,3 +148,5 @@ IsCarriedOut airport state (command.Divert flight time node) = IsRoutedAgain air
 IsCarriedOut airport state (command.Windows segment) = AreWindowsTold airport state segment
 IsCarriedOut airport state (command.Occupancy segment) = IsOccupancyTold airport state segment
 IsCarriedOut airport state command.Timetable = IsOf (timetable_reply state)
+IsCarriedOut airport state (command.Work name segment from until) = IsShut airport state name segment from until
+IsCarriedOut airport state (command.WorkDone name) = IsOf (opened_reply state name)

@@ -38,7 +38,7 @@ IsOfDueForm airport state line block =
     MatchOption (command_of line) (block ≡ Refused refusal.BadLine)
     (λ command. MatchOption (first_refusal airport state command) (IsAsAsked airport state command block) (λ why. block ≡ Refused why))
 
--- `refused memory` may stand for every reply but one to a line that cancels a flight
+-- `refused memory` may stand for every reply but one to a line that takes a flight or a work party out
 abbrev pub KeepsReply : Airport → State → List ℕ → Block → Type 0
 KeepsReply airport state line block =
     ((NeedsNoMemory (command_of line) → ⊥) × (block ≡ Refused refusal.Memory)) ⊎ IsOfDueForm airport state line block

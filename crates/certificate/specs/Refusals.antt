@@ -10,12 +10,12 @@ use Rattle.taxi_base.specs.declared.answers.Refusal.{Refusal}
 use Rattle.taxi_base.specs.declared.answers.Refusal.TheVariants as refusal
 use Rattle.taxi_base.specs.Airport.{Airport, node_named, class_named, segment_named}
 use Rattle.taxi_base.specs.Walks.{begin_of, end_of}
-use Rattle.taxi_base.specs.State.{State, flight_named, holder_count, has_holder}
-use Rattle.taxi_base.specs.Faults.{route_fault}
+use Rattle.taxi_base.specs.State.{State, flight_named, party_named, party_hold, holder_count, has_holder}
+use Rattle.taxi_base.specs.Faults.{route_fault, hold_fault}
 use Rattle.taxi_text.specs.declared.command.FiledStep.{FiledStep}
 use Rattle.taxi_text.specs.declared.command.Command.{Command}
 use Rattle.taxi_text.specs.declared.command.Command.TheVariants as command
-use Rattle.certificate.specs.Asked.{filed_steps}
+use Rattle.certificate.specs.Asked.{filed_steps, party_of}
 
 -- a refusal where a test holds
 abbrev pub refused_if : Bool → Refusal → Option Refusal
@@ -31,6 +31,9 @@ first_of (None ∷ tests) = first_of tests
 
 abbrev pub is_in_force : List ℕ → State → Bool
 is_in_force name state = is_some (flight_named name state.flights)
+
+abbrev pub is_at_work : List ℕ → State → Bool
+is_at_work name state = is_some (party_named name state.parties)
 
 -- how many holders there may be
 abbrev pub most_holders : ℕ
@@ -86,6 +89,10 @@ unknown_arc airport start filed = refused_if (is_none (filed_steps airport start
 abbrev pub not_in_force : State → List ℕ → Option Refusal
 not_in_force state name = refused_if (not (is_in_force name state)) refusal.NotInForce
 
+-- no work party has the name
+abbrev pub not_at_work : State → List ℕ → Option Refusal
+not_at_work state name = refused_if (not (is_at_work name state)) refusal.NotInForce
+
 -- a test of the flight of a name
 abbrev pub of_flight : State → List ℕ → (Flight → Option Refusal) → Option Refusal
 of_flight state name test = option_and_then test (flight_named name state.flights)
@@ -115,6 +122,11 @@ step_fails airport state class start filed =
     (λ class. option_and_then (λ steps. option_map (λ fault. refusal.Step fault) (route_fault airport class state steps)) (filed_steps airport start filed))
     (class_named airport class)
 
+-- the work party may not shut its segment
+abbrev pub hold_fails : Airport → State → List ℕ → List ℕ → ℕ → ℕ → Option Refusal
+hold_fails airport state name segment from until =
+    option_and_then (λ s. option_map (λ fault. refusal.Step fault) (hold_fault airport state (party_hold (party_of name s from until)))) (segment_named airport segment)
+
 -- ---- the table: what each command is tried for
 
 abbrev pub first_refusal : Airport → State → Command → Option Refusal
@@ -137,3 +149,6 @@ first_refusal airport state (command.Divert flight time node) =
 first_refusal airport state (command.Windows segment) = first_of (unknown_segment airport segment ∷ [])
 first_refusal airport state (command.Occupancy segment) = first_of (unknown_segment airport segment ∷ [])
 first_refusal airport state command.Timetable = None
+first_refusal airport state (command.Work name segment from until) =
+    first_of (in_force state name ∷ unknown_segment airport segment ∷ full state ∷ hold_fails airport state name segment from until ∷ [])
+first_refusal airport state (command.WorkDone name) = first_of (not_at_work state name ∷ [])

@@ -1,12 +1,13 @@
 -- What may a line be answered, and what does the answer promise?
-use Rattle.std.specs.Prelude.{ℕ, ◌≡◌, List, Option, Some, All, IsTrue, MatchOption, ⊤}
+use Rattle.std.specs.Prelude.{ℕ, ◌≡◌, ◌⊎◌, List, Option, Some, All, IsTrue, MatchOption, ⊤}
 use Rattle.taxi_base.specs.declared.answers.Flight.{Flight}
+use Rattle.taxi_base.specs.declared.answers.Party.{Party}
 use Rattle.taxi_base.specs.declared.answers.Refusal.{Refusal}
 use Rattle.taxi_base.specs.declared.answers.Refusal.TheVariants as refusal
 use Rattle.taxi_base.specs.Airport.{Airport, IsWellFormed}
 use Rattle.taxi_base.specs.Windows.{is_free, AreWindows}
 use Rattle.taxi_base.specs.Walks.{IsFeasibleWalk, Meets, begin_of, end_of}
-use Rattle.taxi_base.specs.State.{State, with_flight, without, holds_in, conditions_of, IsClashFree, IsSound}
+use Rattle.taxi_base.specs.State.{State, has_holder, with_flight, with_party, without, party_hold, holds_in, conditions_of, IsFeasibleHold, IsClashFree, IsSound}
 use Rattle.taxi_base.specs.Faults.{conditions_in}
 use Rattle.taxi_base.specs.Reports.{timetable_rows, AreHeldRows}
 use Rattle.taxi_text.specs.declared.command.Command.{Command}
@@ -15,7 +16,7 @@ use Rattle.taxi_text.specs.Commands.{command_of}
 use Rattle.certificate.specs.declared.block.Block.{Block}
 use Rattle.certificate.specs.declared.block.Block.TheVariants.{Refused, Filed, Cancelled, Route, NoRoute, Windows, Occupancy, Timetable}
 use Rattle.certificate.specs.Printable.{IsName, IsPrintable}
-use Rattle.certificate.specs.Refusals.{is_in_force, first_refusal}
+use Rattle.certificate.specs.Refusals.{first_refusal}
 use Rattle.certificate.specs.CarriedOut.{Reply, IsOf, second_of, IsCarriedOut}
 
 -- ---- what is due
@@ -36,9 +37,10 @@ IsDue airport state line block after =
 
 -- ---- what may be answered
 
--- The lines whose reply never wants for memory: those that cancel a flight.
+-- The lines whose reply never wants for memory: those that take a flight or a work party out.
 abbrev pub NeedsNoMemory : Option Command → Type 0
 NeedsNoMemory (Some (command.Cancel flight)) = ⊤
+NeedsNoMemory (Some (command.WorkDone name)) = ⊤
 NeedsNoMemory _ = ⊥
 
 -- A block and the state afterwards answer a line: as is due, or for want of memory, which changes nothing and never
@@ -49,16 +51,31 @@ pub data IsReply (airport : Airport) (state : State) (line : List ℕ) : Block �
 
 -- ---- what a reply promises
 
--- What a block says is so, and nothing else changes: a filed route is a feasible walk among the holders before, and its
--- flight goes in; a cancelled flight was in force, and goes out; a route does what its flight asked for among the other
--- holders, and its flight has it afterwards; the windows of a segment are those that the holders leave; the rows of an occupancy
--- are those of all that holds a segment in conflict with it; the rows of a timetable are those of the flights in force.
+-- a flight goes in, from its begin to its end, on a route that is a feasible walk among the holders before
+pub record IsFlightIn (airport : Airport) (state : State) (name : List ℕ) (start end : ℕ) (after : State) : Type 0 where
+  pub flight : Flight
+  pub name_told : flight.name ≡ name
+  pub goes_in : after ≡ with_flight flight state
+  pub walk : IsFeasibleWalk (conditions_in airport flight.class state) flight.steps
+  pub start_told : begin_of flight.steps ≡ start
+  pub end_told : end_of flight.steps ≡ end
+
+-- a work party goes in, for a span for which its segment may be shut among the holders before
+pub record IsPartyIn (airport : Airport) (state : State) (name : List ℕ) (start end : ℕ) (after : State) : Type 0 where
+  pub party : Party
+  pub name_told : party.name ≡ name
+  pub goes_in : after ≡ with_party party state
+  pub hold : IsFeasibleHold airport state (party_hold party)
+  pub start_told : party.from ≡ start
+  pub end_told : party.until ≡ end
+
+-- What a block says is so, and nothing else changes: what is filed is a flight or a work party, and goes in; what is cancelled
+-- was in force, and goes out; a route does what its flight asked for among the other holders, and its flight has it afterwards;
+-- the windows of a segment are those that the holders leave; the rows of an occupancy are those of all that holds a segment in
+-- conflict with it; the rows of a timetable are those of the flights in force.
 abbrev pub DoesAsItSays : Airport → State → Block → State → Type 0
-DoesAsItSays airport state (Filed name start end) after =
-    (flight : Flight) × (flight.name ≡ name) × (after ≡ with_flight flight state)
-    × IsFeasibleWalk (conditions_in airport flight.class state) flight.steps
-    × (begin_of flight.steps ≡ start) × (end_of flight.steps ≡ end)
-DoesAsItSays airport state (Cancelled name) after = IsTrue (is_in_force name state) × (after ≡ without name state)
+DoesAsItSays airport state (Filed name start end) after = IsFlightIn airport state name start end after ⊎ IsPartyIn airport state name start end after
+DoesAsItSays airport state (Cancelled name) after = IsTrue (has_holder name state) × (after ≡ without name state)
 DoesAsItSays airport state (Route name second steps labels) after =
     (flight : Flight) × (flight.name ≡ name) × (flight.steps ≡ steps) × (after ≡ with_flight flight (without flight.name state))
     × Meets (conditions_of airport state flight) flight.request flight.steps × (second_of flight.request flight.steps ≡ second)

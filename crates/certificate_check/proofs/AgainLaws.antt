@@ -8,7 +8,7 @@ use Rattle.taxi_base.specs.declared.answers.Flight.{Flight}
 use Rattle.taxi_base.specs.declared.answers.Request.{Request}
 use Rattle.taxi_base.specs.Airport.{Airport, IsWellFormed, layout_of, arc_exists}
 use Rattle.taxi_base.specs.Walks.{Conditions, conditions_among, Meets}
-use Rattle.taxi_base.specs.State.{State, flight_named, flights_without, without, with_route, holds_in, conditions_of, IsSound}
+use Rattle.taxi_base.specs.State.{State, flight_named, party_named, without, with_route, holds_in, conditions_of, IsSound}
 use Rattle.taxi_base.proofs.StateLaws.{IsSound-with_route}
 use Rattle.taxi_base.proofs.FlightNames.{find-named}
 use Rattle.taxi_base.proofs.WalkLaws.{IsFeasibleWalk-steps}
@@ -19,17 +19,17 @@ use Rattle.certificate.specs.Sought.{UnderWay, Sought}
 use Rattle.certificate.specs.Passes.{IsFormOf, KeepsSought}
 use Rattle.certificate.proofs.FlightLaws.{flight_named-there}
 use Rattle.certificate.proofs.FoundLaws.{step-enter}
-use Rattle.checked_state.specs.declared.spans.HeldSpans.{HeldSpans}
-use Rattle.checked_state.specs.Spans.{AreSpansOf, holds_in_lists}
-use Rattle.checked_state.proofs.HeldLaws.{same-conditions, differ-with}
-use Rattle.checked_state.proofs.FlightLaws.{if-some}
+use Rattle.held_spans.specs.declared.spans.HeldSpans.{HeldSpans}
+use Rattle.held_spans.specs.Spans.{AreSpansOf, holds_in_lists}
+use Rattle.due_refusals.proofs.HeldLaws.{same-conditions, differ-with}
+use Rattle.checked_state.proofs.PlaceLaws.{if-some}
 use Rattle.check_rows.specs.Known.{DifferOn}
-use Rattle.certificate_check.specs.Told.{IsFirstOf}
+use Rattle.check_walks.specs.Told.{IsFirstOf}
 use Rattle.certificate_check.specs.Again.{HasToldSteps}
 use Rattle.certificate_check.specs.Judged.{KeepsTold, IsToldOf}
-use Rattle.certificate_check.proofs.DeskLaws.{flight-walk, flight-arcs}
+use Rattle.certificate_check.proofs.DeskLaws.{flight-walk, flight-arcs, flight-alone}
 use Rattle.certificate_check.proofs.JudgedLaws.{told-of}
-use Rattle.certificate_check.proofs.StepLaws.{ok-weaker}
+use Rattle.check_walks.proofs.StepLaws.{ok-weaker}
 
 -- the steps of a flight in force are entered early
 pub flight-early : (airport : Airport) (state : State) → IsWellFormed airport → (sound : IsSound airport state) (name : List ℕ) (flight : Flight) → flight_named name state.flights ≡ Some flight
@@ -96,6 +96,12 @@ module _ (airport : Airport) (state lifted : State) (is : lifted ≡ state) (sou
       subst (λ (s : State). IfSome (flight_named name s.flights) (λ flight. All (λ step. IsTrue (arc_exists (layout_of airport) step.arc)) flight.steps)) (sym is)
       (if-some (flight_named name state.flights) _ (λ flight found. flight-arcs airport state sound name flight found))
 
+  -- no party has the name of a flight
+  pub lifted-alone : IsSome (flight_named name state.flights) → party_named name lifted.parties ≡ None
+  lifted-alone some =
+      let flight = some-there (flight_named name state.flights) some in
+      subst (λ (s : State). party_named name s.parties ≡ None) (sym is) (flight-alone airport state sound name flight.0 flight.1)
+
   module _ (flight : Flight) (found : flight_named name state.flights ≡ Some flight) (request : Request) (steps : List Leg) (met : Meets (conditions_of airport state flight) request steps) where
     pub again-sound : IsSound airport (with_route flight request steps state)
     again-sound = IsSound-with_route airport flight state request steps sound (flight_named-there name state.flights flight found) met
@@ -106,10 +112,10 @@ module _ (airport : Airport) (state lifted : State) (is : lifted ≡ state) (sou
         let there : flight_named name lifted.flights ≡ Some flight = ap (λ (s : State). flight_named name s.flights) is ∙ found in
         (rw there at did) ∙ ap (with_route flight request steps) is
 
--- what is held changes on the segments of the new steps, where no party is at work
-pub again-differ : (airport : Airport) (flights : List Flight) (name : List ℕ) (flight : Flight) → flight_named name flights ≡ Some flight → (request : Request) (steps : List Leg)
-    → DifferOn steps (holds_in airport (without name (record { flights = flights; parties = [] }))) (holds_in airport (with_route flight request steps (record { flights = flights; parties = [] })))
-again-differ airport flights name flight found request steps =
-    subst (λ n. DifferOn steps (holds_in airport (without n (record { flights = flights; parties = [] }))) (holds_in airport (with_route flight request steps (record { flights = flights; parties = [] }))))
-    (find-named name flights flight found)
-    (differ-with airport (record flight { request = request; steps = steps }) (flights_without flight.name flights))
+-- what is held changes on the segments of the new steps
+pub again-differ : (airport : Airport) (state : State) (name : List ℕ) (flight : Flight) → flight_named name state.flights ≡ Some flight → (request : Request) (steps : List Leg)
+    → DifferOn steps (holds_in airport (without name state)) (holds_in airport (with_route flight request steps state))
+again-differ airport state name flight found request steps =
+    subst (λ n. DifferOn steps (holds_in airport (without n state)) (holds_in airport (with_route flight request steps state)))
+    (find-named name state.flights flight found)
+    (differ-with airport (record flight { request = request; steps = steps }) (without flight.name state))

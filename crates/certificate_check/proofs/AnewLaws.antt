@@ -18,8 +18,8 @@ use Rattle.certificate.specs.Refusals.{is_stand, is_filed, is_departure, refused
 use Rattle.certificate.proofs.RefusalLaws.{none-first, none-others}
 use Rattle.std.proofs.lemmas.List.Elements.{All-contains}
 use Rattle.certificate.proofs.FlightLaws.{flight_named-there}
-use Rattle.certificate_check.specs.Asked.{is_of_kind}
-use Rattle.certificate_check.specs.Told.{CanBeSought}
+use Rattle.due_refusals.specs.Asked.{is_of_kind}
+use Rattle.check_walks.specs.Told.{CanBeSought}
 use Rattle.certificate_check.specs.Desk.{CanGoOn}
 
 -- a test that refuses nothing fails

@@ -1,38 +1,30 @@
 -- What the parts of a checker say of the flights in force.
-use Rattle.std.proofs.Common.{◌≡◌, ◌↔◌, ◌∙◌, ℕ, ◌<◌, ◌≤◌, Bool, true, false, ◌&&◌, eqb, List, length, get_or, Option, Some, None, IsTrue, refl, sym, ap, subst, arith}
-use Rattle.std.specs.Prelude.{Ok, All, Contains, option_copied}
+use Rattle.std.proofs.Common.{◌≡◌, ◌↔◌, ◌∙◌, ℕ, ◌<◌, ◌≤◌, Bool, true, false, ◌&&◌, eqb, List, length, get_or, Option, Some, None, IsTrue, IsFalse, refl, sym, ap, subst, arith}
+use Rattle.std.specs.Prelude.{Ok, All, Contains, bytes_eq, option_copied}
+use Rattle.std.specs.Cmp.Lexicographic.{bytes_decides}
 use Rattle.std.specs.Bool.{Decides}
-use Rattle.std.specs.Borrow.{Bor}
-use Rattle.std.proofs.lemmas.Bool.{lt-ltb, false≢true, and_parts, and_from, eqb-true, eq-eqb}
+use Rattle.std.proofs.lemmas.Bool.{lt-ltb, false≢true, both_ways, and_parts, and_from, eqb-true, eq-eqb}
 use Rattle.std.proofs.lemmas.List.Elements.{All-contains}
 use Rattle.taxi_base.specs.declared.numbers.Segment.{Segment}
 use Rattle.taxi_base.specs.declared.rows.Span.{Span}
 use Rattle.taxi_base.specs.declared.rows.Step.{Step}
 use Rattle.taxi_base.specs.declared.answers.Flight.{Flight}
+use Rattle.taxi_base.specs.declared.answers.Party.{Party}
 use Rattle.taxi_base.specs.Airport.{Airport, IsWellFormed, layout_of, arc_exists, segment_named}
 use Rattle.taxi_base.specs.Windows.{is_free, AreWindows}
 use Rattle.taxi_base.specs.Walks.{Conditions, IsFeasibleWalk, IsFeasibleStep, free_among}
-use Rattle.taxi_base.specs.State.{State, flight_named, holds_in, conditions_of, IsSound}
+use Rattle.taxi_base.specs.State.{State, flight_named, party_named, holds_in, conditions_of, IsSound}
+use Rattle.taxi_base.proofs.NamedLists.{find-named}
 use Rattle.taxi_base.proofs.WalkLaws.{IsFeasibleWalk-steps}
 use Rattle.taxi_base.proofs.WindowLaws.{AreWindows-same}
 use Rattle.taxi_text.specs.declared.command.Command.TheVariants as command
 use Rattle.certificate.specs.declared.block.Block.{Block}
 use Rattle.certificate.specs.declared.block.Block.TheVariants.{Windows}
 use Rattle.certificate.specs.CarriedOut.{windows_among}
-use Rattle.certificate.proofs.FlightLaws.{flight_named-there}
+use Rattle.certificate.proofs.FlightLaws.{find-there, flight_named-there, flight_named-name}
 use Rattle.certificate.proofs.WindowsTold.{windows_among-are}
-use Rattle.check_rows.specs.declared.known.KnownWindows.{KnownWindows}
-use Rattle.check_rows.specs.Known.{AreKnown}
-use Rattle.checked_state.specs.declared.spans.HeldSpans.{HeldSpans}
-use Rattle.checked_state.specs.Spans.{AreSpansOf, holds_in_lists}
-use Rattle.checked_state.proofs.HeldLaws.{same-free}
-use Rattle.certificate_check.specs.Desk.{AreKnownIn}
 use Rattle.certificate_check.specs.Judged.{broken_unless, IsAfterFor, IsJudged}
 use Rattle.certificate_check.proofs.JudgedLaws.{done-judged, undone-judged}
-
--- the flight that a look-up finds
-pub copied-flight : {A : Type 0} (o : Option (Bor A)) (x : Bor A) → o ≡ Some x → option_copied o ≡ Some x.now
-copied-flight o x is = ap option_copied is
 
 module _ (airport : Airport) (state : State) (sound : IsSound airport state) (name : List ℕ) (flight : Flight) (found : flight_named name state.flights ≡ Some flight) where
   pub flight-walk : IsFeasibleWalk (conditions_of airport state flight) flight.steps
@@ -41,14 +33,17 @@ module _ (airport : Airport) (state : State) (sound : IsSound airport state) (na
   pub flight-arcs : All (λ step. IsTrue (arc_exists (layout_of airport) step.arc)) flight.steps
   flight-arcs k d low = (IsFeasibleWalk-steps (conditions_of airport state flight) flight.steps flight-walk k d low).on_arc
 
--- ---- the windows by the lists' own holds, and by those of the state
-
-module _ (airport : Airport) (state : State) (spans : HeldSpans) (has : AreSpansOf (holds_in airport state) spans) (known : KnownWindows) where
-  pub known-own : AreKnownIn airport state known → AreKnown (length airport.segments) (free_among airport (holds_in_lists spans)) known
-  known-own are = subst (λ (free : Segment → ℕ → Bool). AreKnown (length airport.segments) free known) (sym (same-free airport spans (holds_in airport state) has)) are
-
-  pub own-known : AreKnown (length airport.segments) (free_among airport (holds_in_lists spans)) known → AreKnownIn airport state known
-  own-known are = subst (λ (free : Segment → ℕ → Bool). AreKnown (length airport.segments) free known) (same-free airport spans (holds_in airport state) has) are
+  -- no party has the name
+  pub flight-alone : party_named name state.parties ≡ None
+  flight-alone = go (party_named name state.parties) refl where
+    go : (o : Option Party) → party_named name state.parties ≡ o → party_named name state.parties ≡ None
+    go None none = none
+    go (Some party) there =
+        let others : All (λ f. IsFalse (bytes_eq f.name party.name)) state.flights =
+        All-contains (λ p. All (λ f. IsFalse (bytes_eq f.name p.name)) state.flights) state.parties party sound.feasible.differ (find-there (λ (p : Party). bytes_eq p.name name) state.parties party there) in
+        let other : IsFalse (bytes_eq flight.name party.name) = All-contains (λ f. IsFalse (bytes_eq f.name party.name)) state.flights flight others (flight_named-there name state.flights flight found) in
+        let same : flight.name ≡ party.name = flight_named-name name state.flights flight found ∙ sym (find-named (λ (p : Party). p.name) name state.parties party there) in
+        absurd (both_ways _ other ((bytes_decides flight.name party.name).1 same))
 
 -- the windows that are known are those that are told
 pub windows-known : (airport : Airport) (state : State) (segment : Segment) (windows : List Span) → segment.0 < length airport.segments

@@ -1,7 +1,6 @@
 -- A route that is given by hand and not refused: its flight can be put in force, and how the block that answers it is judged.
 use Rattle.std.proofs.Common.{◌≡◌, ◌∙◌, ℕ, ◌<◌, List, [], ◌++◌, length, Option, Some, None, IsTrue, option_map, refl, sym, ap, subst, arith}
 use Rattle.std.specs.Prelude.{Ok, All, MatchOption, nat_lt, nat_le}
-use Rattle.std.proofs.lemmas.Bool.{and_parts, ltb-true, leb-true}
 use Rattle.taxi_base.specs.declared.rows.Step.{Step}
 use Rattle.taxi_base.specs.declared.answers.Flight.{Flight}
 use Rattle.taxi_base.specs.Airport.{Airport, layout_of, arc_exists}
@@ -18,23 +17,13 @@ use Rattle.certificate.specs.declared.block.Block.TheVariants.{Refused, Filed}
 use Rattle.certificate.specs.Asked.{filed_steps}
 use Rattle.certificate.specs.CarriedOut.{filed_flight, IsFiled, IsCarriedOut}
 use Rattle.certificate.specs.Replies.{refused, IsDueTo}
-use Rattle.certificate.proofs.FiledLaws.{filed_steps-length, filed_steps-arcs, filed_steps-joined}
+use Rattle.certificate.proofs.FiledLaws.{filed_steps-arcs, filed_steps-joined}
 use Rattle.certificate.proofs.RefusalLaws.{HasRoom, none-fails, file-has_room, file-does_not_fail}
 use Rattle.certificate.specs.CarriedOut.{IsOf}
-use Rattle.certificate_check.specs.Filing.{IsAccepted}
+use Rattle.due_refusals.specs.Filing.{IsAccepted}
+use Rattle.due_refusals.proofs.FiledLaws.{few-made}
 use Rattle.certificate_check.specs.Judged.{IsAfterFor, IsJudged}
 use Rattle.certificate_check.proofs.JudgedLaws.{done-judged}
-
--- what is still to come after some steps
-abbrev pub steps_and : Airport → List Step → ℕ → List FiledStep → Option (List Step)
-steps_and airport steps enter filed = option_map (λ rest. steps ++ rest) (filed_steps airport enter filed)
-
-pub few-made : (airport : Airport) (start : ℕ) (filed : List FiledStep) (steps : List Step) → filed_steps airport start filed ≡ Some steps → IsTrue (is_step_count (length filed))
-    → (0 < length steps) × (length steps < 257)
-few-made airport start filed steps made count =
-    let parts = and_parts (nat_lt 0 (length filed)) (nat_le (length filed) 256) count in
-    let same = filed_steps-length airport start filed steps made in
-    (omega (arith, same, ltb-true _ _ parts.0), omega (arith, same, leb-true _ _ parts.1))
 
 module _ (airport : Airport) (state : State) (name class : List ℕ) (start : ℕ) (filed : List FiledStep) (count : IsTrue (is_step_count (length filed)))
     (flight : Flight) (accepted : IsAccepted airport state name class start filed flight) where

@@ -9,7 +9,7 @@ use Rattle.taxi_base.specs.Airport.{Airport}
 use Rattle.taxi_base.specs.State.{State, flight_named, flights_with, flights_without}
 use Rattle.taxi_base.proofs.NameLaws.{All-put_in}
 use Rattle.certificate.proofs.FlightLaws.{flight_named-there}
-use Rattle.certificate_check.specs.Told.{CanBeSought}
+use Rattle.check_walks.specs.Told.{CanBeSought}
 use Rattle.certificate_check.specs.Desk.{CanGoOn}
 
 module _ (airport : Airport) where

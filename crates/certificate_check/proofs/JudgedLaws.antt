@@ -17,7 +17,7 @@ use Rattle.certificate.specs.CarriedOut.{IsCarriedOut}
 use Rattle.certificate.specs.Replies.{IsDueTo}
 use Rattle.certificate.specs.Sought.{Sought, sought_of}
 use Rattle.certificate.specs.Passes.{IsFormOf, IsAsAsked, KeepsSought, turn_of}
-use Rattle.certificate_check.specs.Told.{IsFirstOf}
+use Rattle.check_walks.specs.Told.{IsFirstOf}
 use Rattle.certificate_check.specs.Judged.{KeepsTold, IsAfterTold, IsToldOf, IsDueForm, KeepsFor, IsAfterFor, IsJudged}
 
 -- the first rule is broken

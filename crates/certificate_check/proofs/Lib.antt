@@ -1,10 +1,3 @@
-mod InsideLaws
-mod StepLaws
-mod EndLaws
-mod CourseLaws
-mod ToldLaws
-mod TableLaws
-mod AskedLaws
 mod JudgedLaws
 mod DeskLaws
 mod RoutedLaws
@@ -12,6 +5,5 @@ mod PassedLaws
 mod AgainLaws
 mod GoOnLaws
 mod AnewLaws
-mod OccupiedLaws
-mod TakenLaws
 mod FilingLaws
+mod PartyLaws

@@ -17,7 +17,7 @@ use Rattle.certificate.proofs.PassLaws.{reply-passes}
 use Rattle.certificate.proofs.BestLaws.{passed-best, passed-sound}
 use Rattle.certificate_check.specs.declared.checker.CheckRefused.{CheckRefused}
 use Rattle.certificate_check.specs.declared.checker.CheckRefused.TheVariants as check
-use Rattle.certificate_check.specs.Told.{IsFirstOf}
+use Rattle.check_walks.specs.Told.{IsFirstOf}
 use Rattle.certificate_check.specs.Judged.{KeepsFor, IsAfterFor, IsJudged}
 use Rattle.certificate_check.specs.Checker.{ChecksIn, IsBadLineChecked, answer_of}
 

@@ -24,8 +24,9 @@ use Rattle.check_rows.specs.declared.known.KnownWindows.{KnownWindows}
 use Rattle.check_rows.proofs.LoopLaws.{says-no}
 use Rattle.checked_state.specs.declared.flights.HeldFlights.{HeldFlights}
 use Rattle.checked_state.specs.Flights.{state_of, HasSpansOf}
-use Rattle.certificate_check.specs.Told.{IsFirstOf}
-use Rattle.certificate_check.specs.Desk.{AreKnownIn, CanGoOn, IsReady}
+use Rattle.check_walks.specs.Told.{IsFirstOf}
+use Rattle.due_refusals.specs.KnownIn.{AreKnownIn}
+use Rattle.certificate_check.specs.Desk.{CanGoOn, IsReady}
 use Rattle.certificate_check.specs.Judged.{KeepsTold, IsAfterTold, IsToldOf}
 use Rattle.certificate_check.proofs.JudgedLaws.{reply-first}
 

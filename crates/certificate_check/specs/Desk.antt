@@ -1,19 +1,14 @@
 -- When are the parts of a checker in order?
-use Rattle.std.specs.Prelude.{ℕ, List, length, All, ⊤}
+use Rattle.std.specs.Prelude.{All, ⊤}
 use Rattle.taxi_base.specs.declared.answers.Request.{Request}
 use Rattle.taxi_base.specs.declared.answers.Request.TheVariants as request
 use Rattle.taxi_base.specs.Airport.{Airport}
-use Rattle.taxi_base.specs.Walks.{free_among}
-use Rattle.taxi_base.specs.State.{State, holds_in, IsSound}
+use Rattle.taxi_base.specs.State.{IsSound}
 use Rattle.checked_state.specs.declared.flights.HeldFlights.{HeldFlights}
 use Rattle.checked_state.specs.Flights.{state_of, HasSpansOf}
 use Rattle.check_rows.specs.declared.known.KnownWindows.{KnownWindows}
-use Rattle.check_rows.specs.Known.{AreKnown}
-use Rattle.certificate_check.specs.Told.{CanBeSought}
-
--- the windows that are known are those among what is held in a state
-abbrev pub AreKnownIn : Airport → State → KnownWindows → Type 0
-AreKnownIn airport state known = AreKnown (length airport.segments) (free_among airport (holds_in airport state)) known
+use Rattle.due_refusals.specs.KnownIn.{AreKnownIn}
+use Rattle.check_walks.specs.Told.{CanBeSought}
 
 -- what a flight in force asked for can be sought again
 abbrev pub CanGoOn : Airport → Request → Type 0

@@ -1,9 +1,10 @@
 -- Which rule does a block break first, as the answer to a command, and what is the state then? Beside `refused memory`.
-use Rattle.std.specs.Prelude.{ℕ, ◌≡◌, Bool, if◌then◌else◌, List, Option, Some, None, Result, Ok, Err, MatchOption, ⊤}
+use Rattle.std.specs.Prelude.{ℕ, ◌≡◌, Bool, true, false, if◌then◌else◌, List, Option, Some, None, Result, Ok, Err, MatchOption, ⊤}
 use Rattle.taxi_base.specs.Airport.{Airport}
 use Rattle.taxi_base.specs.State.{State}
 use Rattle.taxi_base.specs.declared.collections.Memory.{Memory}
 use Rattle.taxi_text.specs.declared.command.Command.{Command}
+use Rattle.taxi_text.specs.declared.command.Command.TheVariants.{File, Arrival, Departure}
 use Rattle.certificate.specs.declared.block.Block.{Block}
 use Rattle.certificate.specs.declared.block.Block.TheVariants.{Refused, Filed, Cancelled, Route}
 use Rattle.certificate.specs.declared.rule.Rule.{Rule}
@@ -12,7 +13,7 @@ use Rattle.certificate.specs.Refusals.{first_refusal}
 use Rattle.certificate.specs.Replies.{IsDueTo}
 use Rattle.certificate.specs.Sought.{Sought, sought_of}
 use Rattle.certificate.specs.Passes.{IsFormOf, IsAsAsked, KeepsSought}
-use Rattle.certificate_check.specs.Told.{IsFirstOf}
+use Rattle.check_walks.specs.Told.{IsFirstOf}
 
 -- the rule that is broken where a block is not of the form that is due
 abbrev pub broken_unless : Bool → Option Rule
@@ -40,6 +41,13 @@ IsToldOf s block old (Ok (Some broken)) new = IsFirstOf (KeepsTold s block) (Som
 IsToldOf s block old (Err memory) new = new ≡ old
 
 -- ---- a command
+
+-- whether a command brings a new flight
+abbrev pub brings_flight : Command → Bool
+brings_flight (File flight class start steps) = true
+brings_flight (Arrival flight class from to time hold) = true
+brings_flight (Departure flight class from to time queue) = true
+brings_flight _ = false
 
 -- where a refusal is due, the block is that refusal
 abbrev pub IsDueForm : Airport → State → Command → Block → Type 0

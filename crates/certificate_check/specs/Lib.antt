@@ -1,10 +1,6 @@
-pub mod Course
-pub mod Told
-pub mod Steps
-pub mod Asked
 pub mod Again
 pub mod Judged
 pub mod Desk
 pub mod Reports
-pub mod Filing
 pub mod Checker
+pub mod Parties

@@ -1,5 +1,5 @@
 //! The check of the block that answers a line.
-ghost use Rattle.std.specs.Prelude.{◌≡◌, ◌↔◌, IsTrue, Some};
+ghost use Rattle.std.specs.Prelude.{◌≡◌, ◌↔◌, false, IsTrue, Some};
 ghost use Rattle.taxi_base.specs.declared.answers.Refusal.TheVariants as refusal;
 ghost use Rattle.taxi_text.specs.Commands.{command_of};
 ghost use Rattle.certificate.specs.declared.block.Block.TheVariants.{Refused};
@@ -7,13 +7,14 @@ ghost use Rattle.certificate.specs.Asked.{IsInGrammar};
 ghost use Rattle.certificate.specs.Replies.{NeedsNoMemory};
 ghost use Rattle.checked_state.specs.Flights.{state_of};
 ghost use Rattle.certificate_check.specs.Desk.{IsReady};
-ghost use Rattle.certificate_check.specs.Judged.{IsJudged};
+ghost use Rattle.certificate_check.specs.Judged.{brings_flight, IsJudged};
 ghost use Rattle.certificate_check.specs.Checker.{ChecksIn, IsBadLineChecked, answer_of};
 
 use crate::CheckRefused;
 use crate::anew::{check_divert, check_reroute};
-use crate::filing::{FiledRoute, check_file};
+use crate::filing::check_file;
 use crate::lines::{NewFlight, check_arrival_block, check_departure_block};
+use crate::parties::{check_work, check_work_done};
 use crate::plain::{check_cancel, check_windows};
 use crate::reply::is_refusal;
 use crate::reports::{check_occupancy, check_timetable};
@@ -21,11 +22,12 @@ use airport_file::Airport;
 use certificate::{Block, Rule};
 use check_rows::KnownWindows;
 use checked_state::HeldFlights;
+use due_refusals::{FiledRoute, NewParty};
 use std::alloc::Global;
-use taxi_base::{Memory, Refusal};
-use taxi_text::{Command, CommandRefused, read_command};
+use taxi_base::{Memory, Name, Refusal, Time};
+use taxi_text::{Command, CommandRefused, FiledStep, read_command};
 
-/// Checks the block that answers a line. Where it does not pass the flights stay as they are.
+/// Checks the block that answers a line. Where it does not pass the flights and parties stay as they are.
 pub fn check_line(
     alloc: Global,
     airport: &Airport,
@@ -63,12 +65,12 @@ fn check_bad_line(block: &Block) -> Result<(), CheckRefused>
     Err(CheckRefused::Wrong { rule: Rule::Reply })
 }
 
-// Whether `refused memory` stands for the reply to a command: it may to every one but that which cancels a flight.
+// Whether `refused memory` stands for the reply to a command: it may to every one but those that take a flight or a party out.
 fn may_want_memory(command: &Command, block: &Block) -> bool
     ensures { IsTrue result ↔ ((NeedsNoMemory (Some command.now) → ⊥) × (block.now ≡ Refused refusal.Memory)) }
 {
     match command {
-        Command::Cancel { .. } => false,
+        Command::Cancel { .. } | Command::WorkDone { .. } => false,
         _ => is_refusal(block, &Refusal::Memory),
     }
 }
@@ -106,14 +108,7 @@ fn judge(
             time,
             hold,
         } => {
-            let new = NewFlight {
-                name: flight,
-                class,
-                from,
-                to,
-                time: *time,
-                slack: *hold,
-            };
+            let new = new_flight(flight, class, from, to, *time, *hold);
             check_arrival_block(alloc, airport, held, known, &new, block)
         }
         Command::Departure {
@@ -124,39 +119,105 @@ fn judge(
             time,
             queue,
         } => {
-            let new = NewFlight {
-                name: flight,
-                class,
-                from,
-                to,
-                time: *time,
-                slack: *queue,
-            };
+            let new = new_flight(flight, class, from, to, *time, *queue);
             check_departure_block(alloc, airport, held, known, &new, block)
         }
-        Command::Cancel { flight } => check_cancel(airport, held, known, flight, block),
-        Command::Windows { segment } => check_windows(airport, held, known, segment, block),
         Command::File {
             flight,
             class,
             start,
             steps,
         } => {
-            let route = FiledRoute {
-                name: flight,
-                class,
-                start: *start,
-                steps: steps.as_slice(),
-            };
+            let route = filed_route(flight, class, *start, steps.as_slice());
             check_file(alloc, airport, held, known, &route, block)
         }
+        _ => judge_other(alloc, airport, held, known, command, block),
+    }
+}
+
+// The same of a command that brings no flight.
+fn judge_other(
+    alloc: Global,
+    airport: &Airport,
+    held: &mut HeldFlights,
+    known: &mut KnownWindows,
+    command: &Command,
+    block: &Block,
+) -> Result<Option<Rule>, Memory>
+    requires other { brings_flight command.now ≡ false }
+    requires ready { IsReady airport.now held.old known.old }
+    ensures judged { IsJudged airport.now command.now block.now (state_of held.old) result (state_of held.new) }
+    ensures ready { IsReady airport.now held.new known.new }
+{
+    match command {
+        Command::Cancel { flight } => check_cancel(airport, held, known, flight, block),
         Command::Reroute { flight, time } => {
             check_reroute(alloc, airport, held, known, flight, *time, block)
         }
         Command::Divert { flight, time, node } => {
             check_divert(alloc, airport, held, known, flight, *time, node, block)
         }
+        Command::Windows { segment } => check_windows(airport, held, known, segment, block),
         Command::Occupancy { segment } => Ok(check_occupancy(airport, held, segment, block)),
         Command::Timetable => Ok(check_timetable(held, block)),
+        Command::Work {
+            name,
+            segment,
+            from,
+            until,
+        } => {
+            let new = new_party(name, segment, *from, *until);
+            check_work(airport, held, known, &new, block)
+        }
+        Command::WorkDone { name } => check_work_done(airport, held, known, name, block),
+        // These bring one.
+        Command::Arrival { .. } | Command::Departure { .. } | Command::File { .. } => Ok(None),
+    }
+}
+
+fn new_flight<'a>(
+    name: &'a Name,
+    class: &'a Name,
+    from: &'a Name,
+    to: &'a Name,
+    time: Time,
+    slack: Time,
+) -> NewFlight<'a>
+    ensures { result ≡ record { name = name.entry; class = class.entry; from = from.entry; to = to.entry; time = time; slack = slack } }
+{
+    NewFlight {
+        name,
+        class,
+        from,
+        to,
+        time,
+        slack,
+    }
+}
+
+fn filed_route<'a>(
+    name: &'a Name,
+    class: &'a Name,
+    start: Time,
+    steps: &'a [FiledStep],
+) -> FiledRoute<'a>
+    ensures { result ≡ record { name = name.entry; class = class.entry; start = start; steps = steps.entry } }
+{
+    FiledRoute {
+        name,
+        class,
+        start,
+        steps,
+    }
+}
+
+fn new_party<'a>(name: &'a Name, segment: &'a Name, from: Time, until: Time) -> NewParty<'a>
+    ensures { result ≡ record { name = name.entry; segment = segment.entry; from = from; until = until } }
+{
+    NewParty {
+        name,
+        segment,
+        from,
+        until,
     }
 }

@@ -5,7 +5,6 @@ ghost use Rattle.checked_state.specs.Flights.{state_of};
 ghost use Rattle.certificate_check.specs.Desk.{IsReady};
 ghost use Rattle.certificate_check.specs.Judged.{IsJudged};
 
-use crate::asked::{named_arrival, named_departure};
 use crate::plain::broken_unless;
 use crate::reply::is_refusal;
 use crate::routed::check_new;
@@ -13,6 +12,7 @@ use airport_file::Airport;
 use certificate::{Block, Rule};
 use check_rows::KnownWindows;
 use checked_state::HeldFlights;
+use due_refusals::{named_arrival, named_departure};
 use std::alloc::Global;
 use taxi_base::{Memory, Name, Request, Time};
 

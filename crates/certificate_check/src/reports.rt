@@ -1,18 +1,17 @@
 //! Commands that ask for a report: what is held of a segment, and the flights in force.
 ghost use Rattle.std.specs.Prelude.{◌≡◌, ◌↔◌, ◌<◌, IsTrue, Ok, length};
 ghost use Rattle.taxi_base.specs.Airport.{Airport};
-ghost use Rattle.taxi_base.specs.State.{IsSound};
+ghost use Rattle.taxi_base.specs.State.{IsInOrder, IsSound};
 ghost use Rattle.taxi_text.specs.declared.command.Command.TheVariants as command;
-ghost use Rattle.checked_state.specs.Flights.{state_of, AreInOrder};
+ghost use Rattle.checked_state.specs.Flights.{state_of};
 ghost use Rattle.certificate_check.specs.Judged.{IsJudged};
 ghost use Rattle.certificate_check.specs.Reports.{IsOccupancyOf, IsTimetableOf};
 
-use crate::occupied::are_held_rows;
 use crate::plain::broken_unless;
 use crate::reply::is_refusal;
-use crate::timetable::are_flight_rows;
 use airport_file::Airport;
 use certificate::{Block, Rule};
+use check_reports::{are_flight_rows, are_held_rows};
 use checked_state::HeldFlights;
 use taxi_base::{Flight, Name, Refusal, Segment};
 
@@ -45,7 +44,7 @@ pub fn check_timetable(held: &HeldFlights, block: &Block) -> Option<Rule>
 // Whether a block tells all that is held of a segment and of those in conflict with it.
 fn is_occupancy(airport: &Airport, held: &HeldFlights, segment: Segment, block: &Block) -> bool
     requires on { segment.0 < length airport.now.segments }
-    requires ordered { AreInOrder (state_of held.now).flights }
+    requires ordered { IsInOrder (state_of held.now) }
     ensures { IsTrue result ↔ IsOccupancyOf airport.now (state_of held.now) segment block.now }
 {
     match block {

@@ -6,16 +6,15 @@ ghost use Rattle.taxi_base.specs.Faults.{conditions_in};
 ghost use Rattle.certificate.specs.CarriedOut.{routed_flight};
 ghost use Rattle.certificate.specs.Sought.{sought_new};
 ghost use Rattle.checked_state.specs.Flights.{state_of};
-ghost use Rattle.certificate_check.specs.Told.{CanBeSought};
+ghost use Rattle.check_walks.specs.Told.{CanBeSought};
 ghost use Rattle.certificate_check.specs.Desk.{IsReady};
 ghost use Rattle.certificate_check.specs.Judged.{IsToldOf};
 
-use crate::course::Asked;
 use crate::reply::is_told;
-use crate::told::check_told;
 use airport_file::Airport;
 use certificate::{Block, Rule};
 use check_rows::KnownWindows;
+use check_walks::{Asked, check_told};
 use checked_state::HeldFlights;
 use std::alloc::Global;
 use taxi_base::{Class, Flight, List, Memory, Name, Request, Step};

@@ -16,7 +16,8 @@ use Rattle.taxi_base.specs.Windows.{Hold, span_has, covers, blocks, is_free, Are
 use Rattle.taxi_base.proofs.WindowLaws.{span_has-before}
 use Rattle.taxi_base.proofs.ListLaws.{list_any-true, list_any-member}
 use Rattle.conflict_sets.specs.Conflicts.{AreConflicts}
-use Rattle.check_rows.specs.Holds.{held_at, is_some_time, gap, gaps}
+use Rattle.held_spans.specs.Holds.{held_at}
+use Rattle.check_rows.specs.Gaps.{is_some_time, gap, gaps}
 
 -- ---- busy spans in order
 

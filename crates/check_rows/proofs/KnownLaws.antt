@@ -1,5 +1,5 @@
 -- The windows that are known stay right as more are made, and where some are forgotten.
-use Rattle.std.proofs.Common.{◌≡◌, ℕ, ◌+◌, ◌<◌, ◌≤◌, Bool, false, ◌&&◌, not, ltb, Some, None, Option, List, length, get_or, set, take, All, map, inl, inr, ◌⊎◌, eqb, [], IsTrue, IsFalse, refl, sym, ◌∙◌, ap, subst, arith}
+use Rattle.std.proofs.Common.{◌≡◌, ℕ, ◌+◌, ◌*◌, ◌/◌, ◌<◌, ◌≤◌, ◌∷◌, Bool, false, ◌&&◌, not, ltb, Some, None, Option, List, length, get_or, set, take, All, map, inl, inr, ◌⊎◌, eqb, [], IsTrue, IsFalse, refl, sym, ◌∙◌, ap, subst, arith}
 use Rattle.std.specs.Prelude.{slice_get, Contains}
 use Rattle.std.specs.List.{list_any}
 use Rattle.std.specs.Option.{option_map_or}
@@ -14,12 +14,12 @@ use Rattle.taxi_base.specs.declared.rows.Step.{Step}
 use Rattle.taxi_base.specs.Airport.{Airport, Layout, layout_of, link_of, segment_of, conflict, has_member}
 use Rattle.taxi_base.specs.Windows.{Hold, span_has, blocks, is_free, AreWindows}
 use Rattle.taxi_base.specs.Walks.{free_among}
-use Rattle.taxi_base.proofs.ListLaws.{list_any-true, list_any-member}
+use Rattle.taxi_base.proofs.ListLaws.{Contains-first, list_any-true, list_any-member}
 use Rattle.conflict_sets.specs.Conflicts.{AreConflicts}
 use Rattle.check_rows.specs.declared.known.KnownWindows.{KnownWindows}
 use Rattle.check_rows.specs.declared.known.SegmentWindows.{SegmentWindows}
-use Rattle.check_rows.specs.Holds.{held_at}
-use Rattle.check_rows.specs.Known.{AreKnown, is_known, DifferOn, AreStill, AreLeft}
+use Rattle.held_spans.specs.Holds.{held_at}
+use Rattle.check_rows.specs.Known.{AreKnown, is_known, DifferOn, DifferAt, AreStill, AreLeft}
 
 -- ---- what stands in a list
 
@@ -208,3 +208,21 @@ still-known airport steps old new still holds others differ known = record {
         ap (λ (b : Bool). ltb s.0 (length airport.segments) && (ltb t airport.horizon && not b))
         (same_answer (list_any (blocks airport.conflicts s t) holds) (list_any (blocks airport.conflicts s t) others)
         (blocked airport.conflicts steps s away holds others t differ) (blocked airport.conflicts steps s away others holds t back))
+
+-- the same of one segment
+module _ (airport : Airport) (segment : Segment) (old new : KnownWindows) (segments : List Segment) (all : AreConflicts airport.conflicts segment segments)
+    (left : AreLeft segments old.lists.items new.lists.items) where
+  -- a step on it
+  abbrev on_it : Step
+  on_it = record { arc = record { 0 = 2 * segment.0 }; enter = 0; leave = 0 }
+
+  its : segment_of on_it.arc ≡ segment
+  its = let e : (2 * segment.0) / 2 ≡ segment.0 = omega arith in λ i. record { 0 = e i }
+
+  pub still-known_segment : (holds others : List Hold) → DifferAt segment holds others → AreKnown (length airport.segments) (free_among airport holds) old
+      → AreKnown (length airport.segments) (free_among airport others) new
+  still-known_segment holds others differ known =
+      still-known airport (on_it ∷ []) old new
+      (AreStill-more airport.conflicts (on_it ∷ []) 0 on_it old.lists.items old.lists.items new.lists.items segments (omega arith)
+      (subst (λ (s : Segment). AreConflicts airport.conflicts s segments) (sym its) all) (AreStill-none airport.conflicts old.lists.items) left)
+      holds others (λ s t away. differ s t (λ e. away (subst (Contains (segment_of on_it.arc ∷ [])) (its ∙ sym e) (Contains-first (segment_of on_it.arc) [])))) known

@@ -1,5 +1,5 @@
 -- Which windows are known, and what is still known where some holds have changed?
-use Rattle.std.specs.Prelude.{ℕ, ◌≡◌, Bool, false, IsTrue, IsFalse, List, length, map, Some, slice_get, All, Contains}
+use Rattle.std.specs.Prelude.{ℕ, ◌≡◌, ◌≢◌, Bool, false, IsTrue, IsFalse, List, length, map, Some, slice_get, All, Contains}
 use Rattle.std.specs.Option.{option_map_or}
 use Rattle.taxi_base.specs.declared.numbers.Segment.{Segment}
 use Rattle.taxi_base.specs.declared.rows.Step.{Step}
@@ -7,7 +7,7 @@ use Rattle.taxi_base.specs.Airport.{segment_of, conflict}
 use Rattle.taxi_base.specs.Windows.{Hold, AreWindows}
 use Rattle.check_rows.specs.declared.known.KnownWindows.{KnownWindows}
 use Rattle.check_rows.specs.declared.known.SegmentWindows.{SegmentWindows}
-use Rattle.check_rows.specs.Holds.{held_at}
+use Rattle.held_spans.specs.Holds.{held_at}
 
 -- there is a list a segment, and each list that was made has all windows of its segment
 pub record AreKnown (segments : ℕ) (free : Segment → ℕ → Bool) (known : KnownWindows) : Type 0 where
@@ -21,6 +21,10 @@ is_known known s = option_map_or (λ (list : SegmentWindows). list.is_made) (sli
 -- the holds differ on the segments of the steps alone
 abbrev pub DifferOn : List Step → List Hold → List Hold → Type 0
 DifferOn steps holds others = (s : Segment) (t : ℕ) → (Contains (map (λ step. segment_of step.arc) steps) s → ⊥) → held_at holds s t ≡ held_at others s t
+
+-- the holds differ on a segment alone
+abbrev pub DifferAt : Segment → List Hold → List Hold → Type 0
+DifferAt segment holds others = (s : Segment) (t : ℕ) → s ≢ segment → held_at holds s t ≡ held_at others s t
 
 -- ---- what is forgotten; no public clause cites these
 

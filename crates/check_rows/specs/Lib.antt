@@ -1,4 +1,4 @@
-pub mod Holds
+pub mod Gaps
 pub mod Known
 pub mod Rows
 pub mod Verdict

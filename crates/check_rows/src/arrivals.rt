@@ -14,8 +14,9 @@ use crate::starts::{leaving_have_rows, resuming_have_rows};
 use crate::steps::rows_are_closed;
 use crate::table::Table;
 use crate::target::all_fall_short;
-use crate::{HoldsOf, KnownWindows, RowRule};
+use crate::{KnownWindows, RowRule};
 use airport_file::Airport;
+use held_spans::HoldsOf;
 use taxi_base::{Class, LabelRow, Memory, Node, Step, Time};
 
 /// How walks begin: at a node within a time, or by going on with a step that was begun, and leaving it not before a time.

@@ -9,11 +9,12 @@ ghost use Rattle.check_rows.specs.Known.{AreKnown};
 ghost use Rattle.check_rows.specs.Rules.{HasEach};
 ghost use Rattle.check_rows.specs.Reached.{conditions_at, label_in, IsReachedAt, IsReachedIn};
 
+use crate::KnownWindows;
 use crate::near::windows_between;
 use crate::reach::{Reach, value_in};
 use crate::table::Table;
-use crate::{HoldsOf, KnownWindows};
 use airport_file::Airport;
+use held_spans::HoldsOf;
 use segment_graph::segment_of;
 use taxi_base::{Arc, Class, LabelRow, Memory, Span, Time};
 

@@ -13,8 +13,9 @@ use crate::starts::entering_have_rows;
 use crate::steps::rows_are_closed;
 use crate::table::Table;
 use crate::target::all_fall_short;
-use crate::{HoldsOf, KnownWindows, RowRule};
+use crate::{KnownWindows, RowRule};
 use airport_file::Airport;
+use held_spans::HoldsOf;
 use taxi_base::{Class, LabelRow, Memory, Node, Time};
 
 /// How walks end: at one of some nodes within a time.

@@ -4,11 +4,11 @@ ghost use Rattle.taxi_base.specs.declared.numbers.Segment.{Segment};
 ghost use Rattle.taxi_base.specs.Airport.{layout_of, arc_exists};
 ghost use Rattle.taxi_base.specs.Windows.{Hold, AreWindows};
 ghost use Rattle.taxi_base.specs.Walks.{free_among};
-ghost use Rattle.check_rows.specs.Known.{AreKnown, is_known, DifferOn, AreLeft};
+ghost use Rattle.check_rows.specs.Known.{AreKnown, is_known, DifferOn, DifferAt, AreLeft};
 
-use crate::HoldsOf;
 use crate::windows::fill_windows;
 use airport_file::Airport;
+use held_spans::HoldsOf;
 use segment_graph::segment_of;
 use std::alloc::Global;
 use taxi_base::{Memory, Segment, Span, Step};
@@ -83,6 +83,16 @@ impl KnownWindows {
             let segments = airport.conflicts().of(segment_of(step.arc));
             forget_lists(&mut self.lists, segments);
         }
+    }
+
+    /// Forgets the windows of a segment and of those in conflict with it. The others stay right where the holds change on this
+    /// segment alone.
+    pub fn forget_segment(&mut self, airport: &Airport, segment: Segment)
+        requires { segment.0 < length airport.now.segments }
+        ensures { (holds others : List Hold) → DifferAt segment holds others → AreKnown (length airport.now.segments) (free_among airport.now holds) self.old → AreKnown (length airport.now.segments) (free_among airport.now others) self.new }
+    {
+        let conflicting = airport.conflicts().of(segment);
+        forget_lists(&mut self.lists, conflicting);
     }
 }
 

@@ -22,4 +22,3 @@ pub use departures::{End, check_departure};
 pub use known::KnownWindows;
 pub use laws::no_rule_fails_where_a_table_passes;
 pub use verdict::RowRule;
-pub use windows::HoldsOf;

@@ -8,9 +8,10 @@ ghost use Rattle.walk_labels.specs.Places.{IsPlace, place_of};
 ghost use Rattle.walk_labels.specs.PlacesInWindows.{can_use};
 ghost use Rattle.check_rows.specs.Known.{AreKnown};
 
+use crate::KnownWindows;
 use crate::rows::window_of;
-use crate::{HoldsOf, KnownWindows};
 use airport_file::Airport;
+use held_spans::HoldsOf;
 use segment_graph::segment_of;
 use taxi_base::{Arc, Class, LabelRow, Memory, Span};
 

@@ -13,11 +13,12 @@ ghost use Rattle.check_rows.specs.Known.{AreKnown};
 ghost use Rattle.check_rows.specs.Rules.{HasEach};
 ghost use Rattle.check_rows.specs.Reached.{conditions_at, IsAround};
 
+use crate::KnownWindows;
 use crate::closed::{arcs_have_rows, label_in};
 use crate::reach::{Reach, Way, later};
 use crate::table::Table;
-use crate::{HoldsOf, KnownWindows};
 use airport_file::Airport;
+use held_spans::HoldsOf;
 use segment_graph::segment_of;
 use taxi_base::{Class, Memory, Node, Span, Step, Time};
 

@@ -8,12 +8,13 @@ ghost use Rattle.check_rows.specs.Known.{AreKnown};
 ghost use Rattle.check_rows.specs.Rules.{HasEach, ComesOf, AreClosed};
 ghost use Rattle.check_rows.specs.Reached.{conditions_at, reach_of, AreNeighbours};
 
+use crate::KnownWindows;
 use crate::closed::arcs_have_rows;
 use crate::reach::{Reach, Way, last_in};
 use crate::rows::window_of;
 use crate::table::Table;
-use crate::{HoldsOf, KnownWindows};
 use airport_file::Airport;
+use held_spans::HoldsOf;
 use segment_graph::Graph;
 use taxi_base::{Arc, Class, LabelRow, Memory};
 

@@ -1,22 +1,14 @@
 //! The windows of a segment among the holds.
-ghost use Rattle.std.specs.Prelude.{◌≡◌, ◌<◌, ◌≤◌, ◌++◌, ℕ, List, [], All, AllPairs, OnOk, filter, length, nat_lt};
+ghost use Rattle.std.specs.Prelude.{◌≡◌, ◌<◌, ◌≤◌, ◌++◌, ℕ, [], All, AllPairs, OnOk, filter, length, nat_lt};
 ghost use Rattle.std.specs.List.{list_any};
-ghost use Rattle.taxi_base.specs.Windows.{Hold, is_free, covers, AreWindows};
-ghost use Rattle.check_rows.specs.Holds.{held_at, is_some_time, gap, gaps};
+ghost use Rattle.taxi_base.specs.Windows.{is_free, covers, AreWindows};
+ghost use Rattle.held_spans.specs.Holds.{held_at};
+ghost use Rattle.check_rows.specs.Gaps.{is_some_time, gap, gaps};
 
 use airport_file::Airport;
+use held_spans::HoldsOf;
 use std::cmp::{max, min};
 use taxi_base::{Memory, Segment, Span, Time};
-
-/// Holds, to be found by their segment.
-pub trait HoldsOf {
-    /// All holds.
-    ghost held: { Self → List Hold };
-
-    /// Spans that have just the seconds for which a segment itself is held, in any order.
-    fn spans(&self, segment: Segment) -> &[Span]
-        ensures { (t : ℕ) → covers result.now t ≡ held_at (held self.now) segment t };
-}
 
 /// Fills a list with the windows of a segment among the holds, in order. The other list is worked with.
 pub fn fill_windows<H: HoldsOf>(

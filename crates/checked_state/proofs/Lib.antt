@@ -1,5 +1,2 @@
-mod SumLaws
-pub mod SpanLaws
-pub mod LoopLaws
+pub mod PlaceLaws
 pub mod FlightLaws
-pub mod HeldLaws

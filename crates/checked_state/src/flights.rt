@@ -1,39 +1,54 @@
-//! The flights in force by rising names, and the spans that they hold.
+//! The flights in force by rising names, and the spans that are held.
 ghost use Rattle.std.specs.Prelude.{◌≡◌, ◌<◌, [], None, All, AllPairs, IsTrue, IsSome, IfOk, IfSome, OnOk, OnErr, length, option_copied};
 ghost use Rattle.taxi_base.specs.Airport.{arc_exists, layout_of};
-ghost use Rattle.taxi_base.specs.State.{no_holder, flight_named, with_flight, without, with_route, holder_count, holds_in};
-ghost use Rattle.checked_state.specs.Spans.{AreSpansOf};
-ghost use Rattle.checked_state.specs.Flights.{state_of, HasSpansOf, HasRoomAgain, AreInOrder, IsPlace};
+ghost use Rattle.taxi_base.specs.State.{no_holder, flight_named, party_named, has_holder, with_flight, without, with_route, holder_count, holds_in};
+ghost use Rattle.held_spans.specs.Spans.{AreSpansOf};
+ghost use Rattle.checked_state.specs.Flights.{state_of, HasSpansOf, HasRoomAgain, AreInOrder, ArePartiesInOrder, IsPlace};
 
-use crate::HeldSpans;
 use airport_file::Airport;
+use held_spans::HeldSpans;
 use std::alloc::Global;
-use taxi_base::{Flight, List, Memory, Name, Request, Step};
+use taxi_base::{Flight, List, Memory, Name, Party, Request, Step};
 
-/// The flights in force, by rising names, and beside them the spans for which segments are held. The spans of one flight may be
-/// taken out for a while.
+/// The flights in force and the work parties, each by rising names, and beside them the spans for which segments are held. The
+/// spans of one flight may be taken out for a while.
 #[derive(Drop)]
 pub struct HeldFlights {
-    flights: Vec<Flight>,
-    spans: HeldSpans,
+    pub(crate) flights: Vec<Flight>,
+    pub(crate) parties: Vec<Party>,
+    pub(crate) spans: HeldSpans,
 }
 
 impl HeldFlights {
-    /// No flight over an airport.
+    /// No flight and no party over an airport.
     pub fn new(alloc: Global, airport: &Airport) -> Result<HeldFlights, Memory>
         ensures none { IfOk result (λ held. state_of held ≡ no_holder) }
         ensures spans { IfOk result (HasSpansOf airport.now no_holder) }
     {
         let flights = Vec::new(alloc);
+        let parties = Vec::new(alloc);
         let spans = HeldSpans::new(alloc, airport.graph().segments())?;
-        Ok(HeldFlights { flights, spans })
+        Ok(HeldFlights {
+            flights,
+            parties,
+            spans,
+        })
     }
 
-    /// How many flights are in force.
+    /// How many flights and parties are in force.
     pub fn count(&self) -> usize
         ensures { result ≡ holder_count (state_of self.now) }
     {
-        self.flights.len()
+        self.parties.len() + self.flights.len()
+    }
+
+    /// Whether a flight or a party has a name.
+    pub fn has_holder(&self, name: &Name) -> bool
+        requires flights { AreInOrder (state_of self.now).flights }
+        requires parties { ArePartiesInOrder (state_of self.now).parties }
+        ensures { result ≡ has_holder name.now (state_of self.now) }
+    {
+        self.party(name).is_some() || self.flight(name).is_some()
     }
 
     /// The flights, by rising names.
@@ -82,6 +97,7 @@ impl HeldFlights {
     pub fn take_out(&mut self, airport: &Airport, name: &Name)
         requires ordered { AreInOrder (state_of self.old).flights }
         requires in_force { IsSome (flight_named name.now (state_of self.old).flights) }
+        requires alone { party_named name.now (state_of self.old).parties ≡ None }
         requires spans { HasSpansOf airport.now (state_of self.old) self.old }
         ensures state { state_of self.new ≡ without name.now (state_of self.old) }
         ensures spans { HasSpansOf airport.now (state_of self.new) self.new }
@@ -97,6 +113,7 @@ impl HeldFlights {
     pub fn lift(&mut self, airport: &Airport, name: &Name)
         requires ordered { AreInOrder (state_of self.old).flights }
         requires in_force { IsSome (flight_named name.now (state_of self.old).flights) }
+        requires alone { party_named name.now (state_of self.old).parties ≡ None }
         requires spans { HasSpansOf airport.now (state_of self.old) self.old }
         ensures state { state_of self.new ≡ state_of self.old }
         ensures spans { HasSpansOf airport.now (without name.now (state_of self.old)) self.new }
@@ -113,6 +130,7 @@ impl HeldFlights {
     pub fn lower(&mut self, airport: &Airport, name: &Name)
         requires ordered { AreInOrder (state_of self.old).flights }
         requires in_force { IsSome (flight_named name.now (state_of self.old).flights) }
+        requires alone { party_named name.now (state_of self.old).parties ≡ None }
         requires arcs { IfSome (flight_named name.now (state_of self.old).flights) (λ flight. All (λ step. IsTrue (arc_exists (layout_of airport.now) step.arc)) flight.steps) }
         requires spans { HasSpansOf airport.now (without name.now (state_of self.old)) self.old }
         requires room { HasRoomAgain name.now self.old }
@@ -139,6 +157,7 @@ impl HeldFlights {
     ) -> Result<(), Memory>
         requires ordered { AreInOrder (state_of self.old).flights }
         requires in_force { IsSome (flight_named name.now (state_of self.old).flights) }
+        requires alone { party_named name.now (state_of self.old).parties ≡ None }
         requires old_arcs { IfSome (flight_named name.now (state_of self.old).flights) (λ flight. All (λ step. IsTrue (arc_exists (layout_of airport.now) step.arc)) flight.steps) }
         requires arcs { All (λ step. IsTrue (arc_exists (layout_of airport.now) step.arc)) steps }
         requires spans { HasSpansOf airport.now (without name.now (state_of self.old)) self.old }
@@ -166,7 +185,7 @@ impl HeldFlights {
 // Where a name is among flights, or where it would go.
 fn place_of(flights: &[Flight], name: &Name) -> Result<usize, usize>
     requires { AreInOrder flights.now }
-    ensures { IsPlace flights.now name.now result }
+    ensures { IsPlace (λ f. f.name) flights.now name.now result }
 {
     flights.binary_search_by_key(name, |flight| flight.name)
 }

@@ -1,8 +1,8 @@
-//! The flights in force as a checker keeps them: by rising names, and beside them the spans for which segments are held.
+//! The flights in force and the work parties as a checker keeps them: by rising names, and beside them the spans for which
+//! segments are held.
 #![tactic(auto)]
 
 mod flights;
-mod spans;
+mod parties;
 
 pub use flights::HeldFlights;
-pub use spans::HeldSpans;

@@ -1,8 +1,10 @@
 pub mod Names
+pub mod Inserted
 pub mod Stored
 pub mod Edits
 pub mod TakenFirst
 pub mod TakenCause
 pub mod SameHolds
+pub mod Routes
 pub mod Numbers
 pub mod Fitting

@@ -1,16 +1,17 @@
--- The holds of flights that come and go are the same in another order, and a store stands for holds in any order.
-use Rattle.std.proofs.Common.{◌≡◌, ℕ, zero, suc, ◌<◌, List, [], ◌∷◌, ◌++◌, length, Some, sym, inl, inr, subst, cond, append_assoc, arith}
-use Rattle.std.specs.Prelude.{remove, slice_get}
+-- The holds of flights and parties that come and go are the same in another order, and a store stands for holds in any order.
+use Rattle.std.proofs.Common.{◌≡◌, ℕ, zero, suc, ◌<◌, List, [], ◌∷◌, ◌++◌, length, map, Some, refl, sym, ap, ◌∙◌, inl, inr, subst, cond, append_assoc, arith}
+use Rattle.std.specs.Prelude.{flat_map, remove, slice_get}
 use Rattle.std.specs.List.Sorted.{IsPermutation}
 use Rattle.std.proofs.lemmas.Bool.{cases_Bool}
-use Rattle.std.proofs.lemmas.List.Sorted.{IsPermutation-sym, IsPermutation-append_comm, IsPermutation-append_right, list_any-IsPermutation, sum_by-IsPermutation}
+use Rattle.std.proofs.lemmas.List.Sorted.{IsPermutation-sym, IsPermutation-trans, IsPermutation-append_comm, IsPermutation-append_left, IsPermutation-append_right, list_any-IsPermutation, sum_by-IsPermutation}
 use Rattle.std.proofs.lemmas.List.Sums.{sum_by-append}
 use Rattle.taxi_base.specs.declared.numbers.Segment.{Segment}
 use Rattle.taxi_base.specs.declared.rows.Step.{Step}
 use Rattle.taxi_base.specs.declared.answers.Flight.{Flight}
+use Rattle.taxi_base.specs.declared.answers.Party.{Party}
 use Rattle.taxi_base.specs.Airport.{Airport, conflict}
 use Rattle.taxi_base.specs.Windows.{Hold, blocks}
-use Rattle.taxi_base.specs.State.{name_precedes, flights_with, flight_holds, flights_hold}
+use Rattle.taxi_base.specs.State.{State, name_precedes, put_in, flights_with, parties_with, with_flight, with_party, flight_holds, flights_hold, party_hold, holds_in}
 use Rattle.window_store.specs.Store.{Store}
 use Rattle.window_store.specs.Stands.{StandsFor, HasRoomFor}
 use Rattle.window_store.specs.Kept.{KeepsNodes}
@@ -36,33 +37,54 @@ HasRoomFor-fewer sets horizon holds left gone old new moved before after kept st
     let both = sum_by-append (λ (h : Hold). cond (conflict sets segment h.segment) 1 0) left gone in
     omega (arith, (before segment low).number, (after segment within).number, same, both, kept.nodes segment low, room segment low)
 
--- ---- flights and their holds
+-- ---- holders and their holds
 
-module _ (airport : Airport) where
-  -- a flight put in adds its holds
-  pub flights_hold-with : (x : Flight) (state : List Flight) → IsPermutation (flights_hold airport state ++ flight_holds airport x) (flights_hold airport (flights_with x state))
-  flights_hold-with x [] = IsPermutation-append_comm [] (flight_holds airport x)
-  flights_hold-with x (f ∷ state) =
-      elim (cases_Bool (name_precedes x.name f.name)) [
-        | inl before ↦ rw before (IsPermutation-append_comm (flight_holds airport f ++ flights_hold airport state) (flight_holds airport x))
-        | inr after ↦ rw after (rw append_assoc (IsPermutation-append_right (flight_holds airport f) (flights_hold airport state ++ flight_holds airport x) (flights_hold airport (flights_with x state))
-            (flights_hold-with x state)))
-      ]
+-- what is put in by its name adds its holds
+put_in-holds : {X : Type 0} (name_of : X → List ℕ) (holds : X → List Hold) (x : X) (xs : List X) → IsPermutation (flat_map holds xs ++ holds x) (flat_map holds (put_in name_of x xs))
+put_in-holds name_of holds x [] = IsPermutation-append_comm [] (holds x)
+put_in-holds name_of holds x (y ∷ ys) =
+    elim (cases_Bool (name_precedes (name_of x) (name_of y))) [
+      | inl before ↦ rw before (IsPermutation-append_comm (holds y ++ flat_map holds ys) (holds x))
+      | inr after ↦ rw after (rw append_assoc (IsPermutation-append_right (holds y) (flat_map holds ys ++ holds x) (flat_map holds (put_in name_of x ys)) (put_in-holds name_of holds x ys)))
+    ]
 
-  -- the flight at a place, taken out, leaves the holds of the others
-  pub flights_hold-remove : (flights : List Flight) (place : ℕ) (x : Flight) → slice_get flights place ≡ Some x
-      → IsPermutation (flights_hold airport flights) (flights_hold airport (remove flights place) ++ flight_holds airport x)
-  flights_hold-remove [] place x found = absurd (cc found)
-  flights_hold-remove (f ∷ flights) zero x found =
-      let same : f ≡ x = cc found in
-      subst (λ (g : Flight). IsPermutation (flight_holds airport f ++ flights_hold airport flights) (flights_hold airport flights ++ flight_holds airport g)) same
-      (IsPermutation-append_comm (flight_holds airport f) (flights_hold airport flights))
-  flights_hold-remove (f ∷ flights) (suc place) x found =
-      rw append_assoc (IsPermutation-append_right (flight_holds airport f) (flights_hold airport flights) (flights_hold airport (remove flights place) ++ flight_holds airport x)
-      (flights_hold-remove flights place x found))
+-- what is at a place, taken out, leaves the holds of the others
+pub remove-holds : {X : Type 0} (holds : X → List Hold) (xs : List X) (place : ℕ) (x : X) → slice_get xs place ≡ Some x
+    → IsPermutation (flat_map holds xs) (flat_map holds (remove xs place) ++ holds x)
+remove-holds holds [] place x found = absurd (cc found)
+remove-holds holds (y ∷ ys) zero x found =
+    let same : y ≡ x = cc found in
+    subst (λ z. IsPermutation (holds y ++ flat_map holds ys) (flat_map holds ys ++ holds z)) same (IsPermutation-append_comm (holds y) (flat_map holds ys))
+remove-holds holds (y ∷ ys) (suc place) x found =
+    rw append_assoc (IsPermutation-append_right (holds y) (flat_map holds ys) (flat_map holds (remove ys place) ++ holds x) (remove-holds holds ys place x found))
 
-  -- and put back, adds its holds again
-  pub flights_hold-back : (flights : List Flight) (place : ℕ) (x : Flight) → slice_get flights place ≡ Some x
-      → IsPermutation (flights_hold airport (remove flights place) ++ flight_holds airport x) (flights_hold airport flights)
-  flights_hold-back flights place x found =
-      IsPermutation-sym (flights_hold airport flights) (flights_hold airport (remove flights place) ++ flight_holds airport x) (flights_hold-remove flights place x found)
+-- what each party holds, one after the other
+each-party : (parties : List Party) → flat_map (λ p. party_hold p ∷ []) parties ≡ map party_hold parties
+each-party [] = refl
+each-party (p ∷ parties) = ap (λ (holds : List Hold). party_hold p ∷ holds) (each-party parties)
+
+module _ (airport : Airport) (state : State) where
+  -- a flight put in adds its holds to those of the others
+  pub with_flight-holds : (x : Flight) → IsPermutation (holds_in airport state ++ flight_holds airport x) (holds_in airport (with_flight x state))
+  with_flight-holds x =
+      rw append_assoc (IsPermutation-append_right (map party_hold state.parties) (flights_hold airport state.flights ++ flight_holds airport x) (flights_hold airport (flights_with x state.flights))
+      (put_in-holds (λ f. f.name) (flight_holds airport) x state.flights))
+
+  -- and a party its own
+  pub with_party-holds : (x : Party) → IsPermutation (holds_in airport state ++ party_hold x ∷ []) (holds_in airport (with_party x state))
+  with_party-holds x =
+      let parties = map party_hold state.parties in
+      let flights = flights_hold airport state.flights in
+      let own = party_hold x ∷ [] in
+      let more : IsPermutation (parties ++ own) (map party_hold (parties_with x state.parties)) =
+      rw (each-party state.parties, each-party (parties_with x state.parties)) at (put_in-holds (λ p. p.name) (λ p. party_hold p ∷ []) x state.parties) in
+      IsPermutation-trans ((parties ++ flights) ++ own) ((parties ++ own) ++ flights) (map party_hold (parties_with x state.parties) ++ flights)
+      (rw append_assoc (rw append_assoc (IsPermutation-append_right parties (flights ++ own) (own ++ flights) (IsPermutation-append_comm flights own))))
+      (IsPermutation-append_left flights (parties ++ own) (map party_hold (parties_with x state.parties)) more)
+
+  -- the flight at a place, put back, adds its holds again
+  pub flight-back : (place : ℕ) (x : Flight) → slice_get state.flights place ≡ Some x
+      → IsPermutation (holds_in airport (record state { flights = remove state.flights place }) ++ flight_holds airport x) (holds_in airport state)
+  flight-back place x found =
+      rw append_assoc (IsPermutation-append_right (map party_hold state.parties) (flights_hold airport (remove state.flights place) ++ flight_holds airport x) (flights_hold airport state.flights)
+      (IsPermutation-sym (flights_hold airport state.flights) (flights_hold airport (remove state.flights place) ++ flight_holds airport x) (remove-holds (flight_holds airport) state.flights place x found)))

@@ -6,7 +6,7 @@ use Rattle.slab.specs.Slab.{Slab, get, Updates}
 use Rattle.taxi_base.specs.declared.answers.Flight.{Flight}
 use Rattle.taxi_base.proofs.ListLaws.{AllPairs-first, AllPairs-rest}
 use Rattle.commitments.specs.Book.{flights_of, AreNamed}
-use Rattle.commitments.specs.Places.{AreInOrder}
+use Rattle.commitments.specs.Places.{AreInOrder, key_name}
 use Rattle.taxi_base.proofs.FlightNames.{Precedes, precedes_itself}
 
 abbrev pub Names : Type 0
@@ -63,7 +63,7 @@ get-stored s (n ∷ ns) (f ∷ fs) stored zero d e low = (stored.0, stored.1)
 get-stored s (n ∷ ns) (f ∷ fs) stored (suc k) d e low = get-stored s ns fs stored.2 k d e (omega arith)
 
 -- the names rise as the flights do
-pub names-ordered : (s : Slab Flight) (ns : Names) (fs : List Flight) → AllPairs Precedes fs → AreStored s ns fs → AreInOrder ns
+pub names-ordered : (s : Slab Flight) (ns : Names) (fs : List Flight) → AllPairs Precedes fs → AreStored s ns fs → AreInOrder key_name ns
 names-ordered s ns fs ordered stored i j d low high =
     let long = length-stored s ns fs stored in
     let g : Flight = some_flight fs (omega arith) in

@@ -1,19 +1,18 @@
--- The first second at which a segment is taken, over holds and flights one by one.
-use Rattle.std.proofs.Common.{◌≡◌, ℕ, ◌+◌, ◌<◌, ◌≤◌, Bool, true, false, ◌||◌, List, [], ◌∷◌, ◌++◌, IsTrue, IsFalse, Option, Some, None, min, length, take, get_or, refl, sym, ap, ◌∙◌, subst, inl, inr, arith}
+-- The first second at which a segment is taken, over holds and holders one by one, and over parties and flights together.
+use Rattle.std.proofs.Common.{◌≡◌, ℕ, ◌+◌, ◌<◌, ◌≤◌, ◌==◌, Bool, true, false, ◌||◌, List, [], ◌∷◌, ◌++◌, IsTrue, IsFalse, Option, Some, None, min, length, take, get_or, refl, sym, ap, ◌∙◌, subst, inl, inr, arith}
 use Rattle.std.specs.Prelude.{option_map, find, nat_lt, slice_get}
 use Rattle.std.specs.Option.{option_or}
-use Rattle.std.proofs.lemmas.Bool.{cases_lt, cond_both, ltb-true, ltb-false, or_left, or_right}
+use Rattle.std.proofs.lemmas.Bool.{cases_lt, cases_Bool, cond_both, ltb-true, ltb-false, lt-ltb, le-ltb, eqb-true, eq-eqb, false_from_ne_true, or_left, or_right}
 use Rattle.std.proofs.lemmas.List.Folds.{find-append, list_any-append}
 use Rattle.std.proofs.lemmas.List.{map_more, take_more}
 use Rattle.std.proofs.lemmas.Option.{get_or_from_slice_get}
 use Rattle.taxi_base.specs.declared.numbers.Segment.{Segment}
 use Rattle.taxi_base.specs.declared.rows.Span.{Span}
 use Rattle.taxi_base.specs.declared.rows.Step.{Step}
-use Rattle.taxi_base.specs.declared.answers.Flight.{Flight}
-use Rattle.taxi_base.specs.Airport.{Airport}
 use Rattle.taxi_base.specs.Windows.{Hold, blocks, hold_of, holds_of}
-use Rattle.taxi_base.specs.State.{flight_holds}
-use Rattle.commitments.specs.Taken.{IsFirst, earlier, sooner, takes, holder, IsFirstTaken}
+use Rattle.taxi_base.specs.State.{name_precedes}
+use Rattle.taxi_base.specs.Faults.{first_name}
+use Rattle.commitments.specs.Taken.{IsFirst, earlier, sooner, takes, first_of, IsFirstTaken}
 
 -- ---- several tests
 
@@ -59,58 +58,114 @@ route-more sets s span horizon clearance route k d r q low first further =
     (IsFirst-same (λ t. takes sets s before t || blocks sets s t hold) (takes sets s (before ++ hold ∷ [])) span (earlier r q)
     (takes-more sets s before hold) (first-either (takes sets s before) (λ t. blocks sets s t hold) span r q first further))
 
--- ---- one flight more
+-- ---- one holder more
 
-or-none : (o : Option Flight) → option_or o None ≡ o
+or-none : {X : Type 0} (o : Option X) → option_or o None ≡ o
 or-none None = refl
-or-none (Some f) = refl
+or-none (Some x) = refl
 
-or-first : (name_of : Flight → List ℕ) (o p : Option Flight) (name : List ℕ) → option_map name_of o ≡ Some name → option_map name_of (option_or o p) ≡ Some name
+or-first : {X : Type 0} (name_of : X → List ℕ) (o p : Option X) (name : List ℕ) → option_map name_of o ≡ Some name → option_map name_of (option_or o p) ≡ Some name
 or-first name_of None p name h = absurd (cc h)
-or-first name_of (Some f) p name h = h
+or-first name_of (Some x) p name h = h
 
-module _ (airport : Airport) (s : Segment) (span : Span) (fs : List Flight) (f : Flight) where
-  -- a flight that holds nothing then leaves the holder
-  keeps : (u : ℕ) → IsFalse (takes airport.conflicts s (flight_holds airport f) u) → holder airport s (fs ++ f ∷ []) u ≡ holder airport s fs u
-  keeps u unheld = find-append (λ f. takes airport.conflicts s (flight_holds airport f) u) fs (f ∷ []) ∙ rw unheld (or-none (holder airport s fs u))
+module _ {X : Type 0} (name_of : X → List ℕ) (takes_at : X → ℕ → Bool) (span : Span) where
+  -- the name of the first of some holders that takes a second
+  abbrev pub who : List X → ℕ → Option (List ℕ)
+  who xs u = option_map name_of (find (λ x. takes_at x u) xs)
 
-  -- a flight that holds is the holder where there was none
-  is-holder : (u : ℕ) → holder airport s fs u ≡ None → IsTrue (takes airport.conflicts s (flight_holds airport f) u) → holder airport s (fs ++ f ∷ []) u ≡ Some f
-  is-holder u none held = find-append (λ f. takes airport.conflicts s (flight_holds airport f) u) fs (f ∷ []) ∙ rw (none, held) refl
+  module _ (xs : List X) (x : X) where
+    -- a holder that does not take it leaves the first
+    keeps : (u : ℕ) → IsFalse (takes_at x u) → who (xs ++ x ∷ []) u ≡ who xs u
+    keeps u free = ap (option_map name_of) (find-append (λ y. takes_at y u) xs (x ∷ []) ∙ rw free (or-none (find (λ y. takes_at y u) xs)))
 
-  still-holder : (u : ℕ) (name : List ℕ) → option_map (λ f. f.name) (holder airport s fs u) ≡ Some name → option_map (λ f. f.name) (holder airport s (fs ++ f ∷ []) u) ≡ Some name
-  still-holder u name h =
-      rw (find-append (λ f. takes airport.conflicts s (flight_holds airport f) u) fs (f ∷ [])) (or-first (λ f. f.name) (holder airport s fs u) (find (λ f. takes airport.conflicts s (flight_holds airport f) u) (f ∷ [])) name h)
+    none-found : (o : Option X) → option_map name_of o ≡ None → o ≡ None
+    none-found None h = refl
+    none-found (Some y) h = absurd (cc h)
 
-  -- what is found first is kept where the flight holds nothing before it
-  kept-first : (e : ℕ) (name : List ℕ) → ((u : ℕ) → span.from ≤ u → u < e → IsFalse (takes airport.conflicts s (flight_holds airport f) u)) → IsFirstTaken airport s span fs (Some (e, name))
-      → IsFirstTaken airport s span (fs ++ f ∷ []) (Some (e, name))
-  kept-first e name unheld taken =
-      (taken.0, taken.1, still-holder e name taken.2, λ u low high. keeps u (unheld u low high) ∙ taken.3 u low high)
+    -- one that takes it is the first where there was none
+    is-first : (u : ℕ) → who xs u ≡ None → IsTrue (takes_at x u) → who (xs ++ x ∷ []) u ≡ Some (name_of x)
+    is-first u none taken =
+        let is_x : find (λ y. takes_at y u) (xs ++ x ∷ []) ≡ Some x =
+        find-append (λ y. takes_at y u) xs (x ∷ []) ∙ rw (none-found (find (λ y. takes_at y u) xs) none, taken) refl in
+        ap (option_map name_of) is_x
 
-  -- a flight is found first where it holds from a second on up to which none does
-  found-first : (t : ℕ) → IsFirst (takes airport.conflicts s (flight_holds airport f)) span (Some t) → ((u : ℕ) → span.from ≤ u → u ≤ t → holder airport s fs u ≡ None)
-      → IsFirstTaken airport s span (fs ++ f ∷ []) (Some (t, f.name))
-  found-first t first none = (
-    first.0,
-    first.1,
-    ap (option_map (λ f. f.name)) (is-holder t (none t first.0 (omega arith)) first.2),
-    λ u low high. keeps u (first.3 u low high) ∙ none u low (omega arith),
-  )
+    still-first : (u : ℕ) (name : List ℕ) → who xs u ≡ Some name → who (xs ++ x ∷ []) u ≡ Some name
+    still-first u name h =
+        rw (find-append (λ y. takes_at y u) xs (x ∷ [])) (or-first name_of (find (λ y. takes_at y u) xs) (find (λ y. takes_at y u) (x ∷ [])) name h)
 
-  -- one flight more
-  pub taken-more : (r : Option (ℕ × List ℕ)) (at : Option ℕ) → IsFirstTaken airport s span fs r → IsFirst (takes airport.conflicts s (flight_holds airport f)) span at
-      → IsFirstTaken airport s span (fs ++ f ∷ []) (sooner r at f.name)
-  taken-more None None taken first = λ u low high. keeps u (first u low high) ∙ taken u low high
-  taken-more (Some (e, n)) None taken first = kept-first e n (λ u low high. first u low (omega (arith, taken.1))) taken
-  taken-more None (Some t) taken first = found-first t first (λ u low high. taken u low (omega (arith, first.1)))
-  taken-more (Some (e, n)) (Some t) taken first =
-      cond_both (nat_lt t e) (Some (t, f.name)) (Some (e, n)) (IsFirstTaken airport s span (fs ++ f ∷ []))
-      (λ before. let lt : t < e = ltb-true t e before in found-first t first (λ u low high. taken.3 u low (omega arith)))
-      (λ after. let le : e ≤ t = omega (arith, ltb-false t e after) in kept-first e n (λ u low high. first.3 u low (omega arith)) taken)
+    -- what is found first is kept where the holder takes nothing before it
+    kept-first : (e : ℕ) (name : List ℕ) → ((u : ℕ) → span.from ≤ u → u < e → IsFalse (takes_at x u)) → IsFirstTaken (who xs) span (Some (e, name))
+        → IsFirstTaken (who (xs ++ x ∷ [])) span (Some (e, name))
+    kept-first e name free taken =
+        (taken.0, taken.1, still-first e name taken.2, λ u low high. keeps u (free u low high) ∙ taken.3 u low high)
 
-pub flights-more : (airport : Airport) (s : Segment) (span : Span) (fs : List Flight) (k : ℕ) (f : Flight) (r : Option (ℕ × List ℕ)) (at : Option ℕ) → k < length fs
-    → slice_get fs k ≡ Some f → IsFirstTaken airport s span (take k fs) r → IsFirst (takes airport.conflicts s (flight_holds airport f)) span at
-    → IsFirstTaken airport s span (take (k + 1) fs) (sooner r at f.name)
-flights-more airport s span fs k f r at low here taken first =
-    rw (take_more fs k f low, get_or_from_slice_get fs k f f here) (taken-more airport s span (take k fs) f r at taken first)
+    -- it is found first where it takes a second up to which none is taken
+    found-first : (t : ℕ) → IsFirst (takes_at x) span (Some t) → ((u : ℕ) → span.from ≤ u → u ≤ t → who xs u ≡ None)
+        → IsFirstTaken (who (xs ++ x ∷ [])) span (Some (t, name_of x))
+    found-first t first none =
+        (first.0, first.1, is-first t (none t first.0 (omega arith)) first.2, λ u low high. keeps u (first.3 u low high) ∙ none u low (omega arith))
+
+    taken-more : (r : Option (ℕ × List ℕ)) (at : Option ℕ) → IsFirstTaken (who xs) span r → IsFirst (takes_at x) span at
+        → IsFirstTaken (who (xs ++ x ∷ [])) span (sooner r at (name_of x))
+    taken-more None None taken first = λ u low high. keeps u (first u low high) ∙ taken u low high
+    taken-more (Some (e, n)) None taken first = kept-first e n (λ u low high. first u low (omega (arith, taken.1))) taken
+    taken-more None (Some t) taken first = found-first t first (λ u low high. taken u low (omega (arith, first.1)))
+    taken-more (Some (e, n)) (Some t) taken first =
+        cond_both (nat_lt t e) (Some (t, name_of x)) (Some (e, n)) (IsFirstTaken (who (xs ++ x ∷ [])) span)
+        (λ before. let lt : t < e = ltb-true t e before in found-first t first (λ u low high. taken.3 u low (omega arith)))
+        (λ after. let le : e ≤ t = omega (arith, ltb-false t e after) in kept-first e n (λ u low high. first.3 u low (omega arith)) taken)
+
+  pub holders-more : (xs : List X) (k : ℕ) (x : X) (r : Option (ℕ × List ℕ)) (at : Option ℕ) → k < length xs → slice_get xs k ≡ Some x
+      → IsFirstTaken (who (take k xs)) span r → IsFirst (takes_at x) span at → IsFirstTaken (who (take (k + 1) xs)) span (sooner r at (name_of x))
+  holders-more xs k x r at low here taken first =
+      rw (take_more xs k x low, get_or_from_slice_get xs k x x here) (taken-more (take k xs) x r at taken first)
+
+-- ---- parties and flights together
+
+module _ (party flight : ℕ → Option (List ℕ)) (span : Span) where
+  abbrev either : ℕ → Option (List ℕ)
+  either u = first_name (party u) (flight u)
+
+  neither-named : (u : ℕ) → party u ≡ None → flight u ≡ None → either u ≡ None
+  neither-named u no_party no_flight = rw (no_party, no_flight) refl
+
+  party-named : (u : ℕ) (name : List ℕ) → party u ≡ Some name → flight u ≡ None → either u ≡ Some name
+  party-named u name is no_flight = rw (is, no_flight) refl
+
+  flight-named : (u : ℕ) (name : List ℕ) → party u ≡ None → flight u ≡ Some name → either u ≡ Some name
+  flight-named u name no_party is = rw (no_party, is) refl
+
+  both-named : (u : ℕ) (p f name : List ℕ) → party u ≡ Some p → flight u ≡ Some f → first_name (Some p) (Some f) ≡ Some name → either u ≡ Some name
+  both-named u p f name is_p is_f first = rw (is_p, is_f) first
+
+  -- the sooner of what is found among the parties and among the flights
+  pub first-of : (p f : Option (ℕ × List ℕ)) → IsFirstTaken party span p → IsFirstTaken flight span f → IsFirstTaken either span (first_of p f)
+  first-of None None fp ff = λ u low high. neither-named u (fp u low high) (ff u low high)
+  first-of None (Some (u, n)) fp ff =
+      (ff.0, ff.1, flight-named u n (fp u ff.0 ff.1) ff.2, λ v low high. neither-named v (fp v low (omega (arith, ff.1))) (ff.3 v low high))
+  first-of (Some (t, m)) None fp ff =
+      (fp.0, fp.1, party-named t m fp.2 (ff t fp.0 fp.1), λ v low high. neither-named v (fp.3 v low high) (ff v low (omega (arith, fp.1))))
+  first-of (Some (t, m)) (Some (u, n)) fp ff =
+      elim (cases_lt u t) [
+        | inl sooner ↦ rw (lt-ltb u t sooner) (by-flight (omega arith) (flight-named u n (fp.3 u ff.0 sooner) ff.2))
+        | inr not_sooner ↦ elim (cases_lt t u) [
+          | inl later ↦ rw (le-ltb u t not_sooner, differ later) (by-party not_sooner (party-named t m fp.2 (ff.3 t fp.0 later)))
+          | inr not_later ↦
+              let e : u ≡ t = omega arith in
+              elim (cases_Bool (name_precedes n m)) [
+                | inl before ↦ rw (le-ltb u t not_sooner, eq-eqb u t e, before)
+                    (by-flight (omega arith) (both-named u m n n (subst (λ v. party v ≡ Some m) (sym e) fp.2) ff.2 (rw before refl)))
+                | inr after ↦ rw (le-ltb u t not_sooner, eq-eqb u t e, after)
+                    (by-party not_sooner (both-named t m n m fp.2 (subst (λ v. flight v ≡ Some n) e ff.2) (rw after refl)))
+              ]
+        ]
+      ]
+    where
+      differ : t < u → (u == t) ≡ false
+      differ later = false_from_ne_true _ (λ e. absurd (omega (arith, eqb-true u t e)))
+
+      by-flight : u ≤ t → either u ≡ Some n → IsFirstTaken either span (Some (u, n))
+      by-flight early is = (ff.0, ff.1, is, λ v low high. neither-named v (fp.3 v low (omega (arith, high, early))) (ff.3 v low high))
+
+      by-party : t ≤ u → either t ≡ Some m → IsFirstTaken either span (Some (t, m))
+      by-party early is = (fp.0, fp.1, is, λ v low high. neither-named v (fp.3 v low high) (ff.3 v low (omega (arith, high, early))))

@@ -1,33 +1,29 @@
--- What contracts see of a ledger: the flights in force, the one that is lifted, for how many more there is room, and the
+-- What contracts see of a ledger: the holders in force, the flight that is lifted, for how many more there is room, and the
 -- windows that the others leave.
-use Rattle.std.specs.Prelude.{◌≡◌, ℕ, ◌≤◌, List, [], length, filter_map, option_and_then, Option, Some, None, IsTrue, IsSomeAnd, IfSome, All, AllPairs}
+use Rattle.std.specs.Prelude.{◌≡◌, ℕ, ◌≤◌, List, [], ◌∷◌, ◌++◌, length, map, filter_map, option_and_then, Option, Some, None, IsTrue, IsSomeAnd, IfSome, All, AllPairs}
 use Rattle.slab.specs.Slab.{Slab, get}
+use Rattle.taxi_base.specs.declared.numbers.Segment.{Segment}
 use Rattle.taxi_base.specs.declared.rows.Step.{Step}
 use Rattle.taxi_base.specs.declared.answers.Flight.{Flight}
+use Rattle.taxi_base.specs.declared.answers.Party.{Party}
 use Rattle.taxi_base.specs.Airport.{Airport, clearance_of}
 use Rattle.taxi_base.specs.Windows.{HeldRoute}
-use Rattle.taxi_base.specs.State.{State, name_precedes, flight_named, without, holds_in, IsFeasibleState}
+use Rattle.taxi_base.specs.State.{State, name_precedes, flight_named, without, party_step, holds_in, IsFeasibleState}
 use Rattle.window_store.specs.Store.{Store}
 use Rattle.window_store.specs.Stands.{StandsFor, HasRoomFor}
 
--- the flights, the name of the one that is lifted, how many more a commit takes with no memory, and the free windows of
--- each segment
+-- the flights and parties, the name of the flight that is lifted, how many more flights and parties come in with no memory,
+-- and the free windows of each segment
 pub record Book : Type 0 where
-  pub flights : List Flight
+  pub state : State
   pub lifted : Option (List ℕ)
   pub room : ℕ
+  pub party_room : ℕ
   pub store : Store
-
--- the state of a ledger with these flights: no party is at work
-abbrev pub state_with : List Flight → State
-state_with flights = record { flights = flights; parties = [] }
-
-abbrev pub state_of : Book → State
-state_of book = state_with book.flights
 
 -- the flight that is lifted, where one is
 abbrev pub lifted_flight : Book → Option Flight
-lifted_flight book = option_and_then (λ name. flight_named name book.flights) book.lifted
+lifted_flight book = option_and_then (λ name. flight_named name book.state.flights) book.lifted
 
 -- the state without the flight that is lifted
 abbrev pub without_lifted : Option (List ℕ) → State → State
@@ -35,35 +31,57 @@ without_lifted None state = state
 without_lifted (Some name) state = without name state
 
 abbrev pub remaining : Book → State
-remaining book = without_lifted book.lifted (state_of book)
+remaining book = without_lifted book.lifted book.state
 
--- The ledger fits an airport: each flight is on a feasible walk among the others, and the windows are those that all flights
--- but the lifted one leave. That one is in force, and there is room for its steps.
+-- The ledger fits an airport: each flight is on a feasible walk among the others, and each party where its segment may be shut
+-- among the others; and the windows are those that all but the lifted flight leave. That one is in force, and there is room for
+-- its steps.
 pub record Fits (airport : Airport) (book : Book) : Type 0 where
-  pub feasible : IsFeasibleState airport (state_of book)
+  pub feasible : IsFeasibleState airport book.state
   pub lists : length book.store.lists ≡ length airport.segments
   pub horizon : book.store.horizon ≡ airport.horizon
   pub stands : StandsFor airport.conflicts airport.horizon (holds_in airport (remaining book)) book.store
-  pub lifted : IfSome book.lifted (λ name. IsSomeAnd (flight_named name book.flights) (λ flight. HasRoomFor airport.conflicts flight.steps book.store))
+  pub lifted : IfSome book.lifted (λ name. IsSomeAnd (flight_named name book.state.flights) (λ flight. HasRoomFor airport.conflicts flight.steps book.store))
 
 -- there is room for one more flight with these steps
 pub record IsPrepared (airport : Airport) (steps : List Step) (book : Book) : Type 0 where
   pub flight : 1 ≤ book.room
   pub windows : HasRoomFor airport.conflicts steps book.store
 
+-- there is room for one more party on a segment, for whatever time
+pub record IsPreparedForParty (airport : Airport) (segment : Segment) (book : Book) : Type 0 where
+  pub party : 1 ≤ book.party_room
+  pub windows : (party : Party) → party.segment ≡ segment → HasRoomFor airport.conflicts (party_step party ∷ []) book.store
+
 -- flights by rising names, each with at least one step
 pub record IsBook (flights : List Flight) : Type 0 where
   pub ordered : AllPairs (λ f g. IsTrue (name_precedes f.name g.name)) flights
   pub routed : All (λ f. 1 ≤ length f.steps) flights
 
--- the flights, and for how many more there is room
+-- parties by rising names
+abbrev pub AreParties : List Party → Type 0
+AreParties parties = AllPairs (λ p q. IsTrue (name_precedes p.name q.name)) parties
+
+-- the flights, and for how many more there is room; and so the parties
 pub record Listing : Type 0 where
   pub flights : List Flight
+  pub room : ℕ
+
+pub record PartyListing : Type 0 where
+  pub parties : List Party
   pub room : ℕ
 
 -- a flight as a route, with the clearance of its class
 abbrev pub route_of : Airport → Flight → HeldRoute
 route_of airport flight = record { steps = flight.steps; clearance = clearance_of airport flight.class }
+
+-- a party as a route of one step, with no clearance after it
+abbrev pub party_route : Party → HeldRoute
+party_route party = record { steps = party_step party ∷ []; clearance = 0 }
+
+-- all of a state as routes, the parties first
+abbrev pub routes_of : Airport → State → List HeldRoute
+routes_of airport state = map party_route state.parties ++ map (route_of airport) state.flights
 
 -- the flights at the keys of these names
 abbrev pub flights_of : Slab Flight → List (List ℕ × ℕ) → List Flight

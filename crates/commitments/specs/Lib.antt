@@ -1,3 +1,4 @@
 pub mod Book
 pub mod Places
 pub mod Taken
+pub mod Holders

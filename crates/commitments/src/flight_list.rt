@@ -1,14 +1,13 @@
 //! Flights in a slab, and their names in rising order with the keys.
-ghost use Rattle.std.specs.Prelude.{◌≡◌, ◌+◌, ◌<◌, ◌≤◌, [], Some, None, length, map, remove, slice_get, OnOk, option_copied};
+ghost use Rattle.std.specs.Prelude.{◌≡◌, ◌+◌, ◌<◌, ◌≤◌, [], Some, None, length, remove, slice_get, OnOk, option_copied};
 ghost use Rattle.commitments.specs.Book.{IsBook};
-ghost use Rattle.commitments.specs.Places.{AreInOrder, IsPlace, IsFlightPlace};
+ghost use Rattle.commitments.specs.Places.{AreInOrder, IsPlace, IsFlightPlace, key_name};
 ghost use Rattle.taxi_base.specs.State.{flight_named, flights_with};
 
-use airport_file::Airport;
 use slab::Slab;
 use std::alloc::Global;
 use std::marker::Model;
-use taxi_base::{Flight, Memory, Name, Routes, Step, Time};
+use taxi_base::{Flight, Memory, Name};
 
 /// The flights in force, by rising names, each with at least one step.
 #[derive(Drop)]
@@ -112,52 +111,10 @@ impl FlightList {
     }
 }
 
-/// The flights of a list but the one at a place, as routes, each with the clearance of its class.
-#[derive(Drop)]
-pub(crate) struct Others<'a> {
-    pub(crate) flights: &'a FlightList,
-    pub(crate) place: usize,
-    pub(crate) airport: &'a Airport,
-    ghost among: { place < length flights.now.flights },
-    ghost few: { length flights.now.flights ≤ 4096 },
-}
-
-impl<'a> Routes for Others<'a> {
-    ghost use Rattle.commitments.specs.Book.{route_of};
-
-    ghost listed = { λ r. map (route_of r.airport.now) (remove r.flights.now.flights r.place) };
-
-    fn routes(&self) -> usize {
-        self.flights.count() - 1
-    }
-
-    fn steps(&self, at: usize) -> &[Step] {
-        self.flight(at).steps.as_slice()
-    }
-
-    fn clearance(&self, at: usize) -> Time {
-        self.airport.clearance(self.flight(at).class)
-    }
-}
-
-impl<'a> Others<'a> {
-    // The flight at a place among these. Behind the one left out each stands a place later in the list.
-    fn flight(&self, at: usize) -> &Flight
-        requires { at + 1 < length self.now.flights.now.flights }
-        ensures { slice_get (remove self.now.flights.now.flights self.now.place) at ≡ Some result.now }
-    {
-        if at < self.place {
-            self.flights.at(at)
-        } else {
-            self.flights.at(at + 1)
-        }
-    }
-}
-
 // Where a name is, or where it would go.
 fn place_of(names: &[(Name, usize)], name: &Name) -> Result<usize, usize>
-    requires { AreInOrder names.now }
-    ensures { IsPlace names.now name.now result }
+    requires { AreInOrder key_name names.now }
+    ensures { IsPlace key_name names.now name.now result }
 {
     names.binary_search_by_key(name, |n| n.0)
 }

@@ -1,17 +1,19 @@
-//! What the free windows are once a flight's route is held, or is held no longer.
-ghost use Rattle.std.specs.Prelude.{◌≡◌, ◌<◌, List, ◌++◌, length, remove, slice_get, IfSome};
-ghost use Rattle.taxi_base.specs.Airport.{IsWellFormed};
-ghost use Rattle.taxi_base.specs.Windows.{Hold};
+//! What the free windows are once a holder holds its segments, or holds them no longer.
+ghost use Rattle.std.specs.Prelude.{◌≡◌, ◌+◌, ◌<◌, true, List, [], ◌∷◌, ◌++◌, length, remove, slice_get, IfSome};
+ghost use Rattle.taxi_base.specs.Airport.{IsWellFormed, arc_of};
+ghost use Rattle.taxi_base.specs.Windows.{Hold, holds_of};
 ghost use Rattle.taxi_base.specs.Walks.{IsFeasibleWalk, conditions_among};
-ghost use Rattle.taxi_base.specs.State.{IsFeasibleState, flight_holds, flights_hold};
-ghost use Rattle.window_store.specs.Stands.{StandsFor, HasRoomFor};
+ghost use Rattle.taxi_base.specs.State.{State, IsFeasibleHold, IsFeasibleState, flight_holds, holds_in, party_hold, party_step};
+ghost use Rattle.window_store.specs.Stands.{StandsFor, HasRoomFor, route_holds};
 ghost use Rattle.window_store.specs.Kept.{IsApartFrom, IsClearOf, KeepsWindows, KeepsNodes};
-ghost use Rattle.commitments.specs.Book.{state_with};
+ghost use Rattle.commitments.specs.Book.{routes_of};
+ghost use Rattle.commitments.specs.Holders.{state_of};
 
-use crate::flight_list::{FlightList, Others};
+use crate::holders::{Holders, Others};
 use airport_file::Airport;
 use conflict_sets::Conflicts;
-use taxi_base::Flight;
+use std::slice;
+use taxi_base::{Arc, Flight, Party, Segment, Step};
 use window_store::WindowStore;
 
 // Holds what a flight holds, whose walk is feasible among what is held already.
@@ -32,34 +34,63 @@ pub(crate) fn hold_flight(store: &mut WindowStore, airport: &Airport, flight: &F
     );
 }
 
-// Holds no longer what the flight at a place holds, while the others hold what they do.
-pub(crate) fn free_flight(
+// Holds what a party holds, where its segment may be shut; and gives the step by which it does so.
+pub(crate) fn hold_party(store: &mut WindowStore, airport: &Airport, party: &Party) -> Step
+    requires lists { length store.old.lists ≡ length airport.now.segments }
+    requires horizon { store.old.horizon ≡ airport.now.horizon }
+    requires feasible { (state : State) × IsFeasibleHold airport.now state (party_hold party.now) }
+    requires stands { (holds : List Hold) × StandsFor airport.now.conflicts airport.now.horizon holds store.old }
+    requires room { HasRoomFor airport.now.conflicts (party_step party.now ∷ []) store.old }
+    ensures step { result ≡ party_step party.now }
+    ensures stands { (holds : List Hold) → StandsFor airport.now.conflicts airport.now.horizon holds store.old → StandsFor airport.now.conflicts airport.now.horizon (holds ++ party_hold party.now ∷ []) store.new }
+    ensures kept { KeepsWindows IsApartFrom airport.now.conflicts (party_hold party.now ∷ []) store.old store.new }
+    ensures nodes { KeepsNodes store.old store.new }
+{
+    let step = Step {
+        arc: forward(airport, party.segment),
+        enter: party.from,
+        leave: party.until,
+    };
+    store.occupy(ruled_conflicts(airport), slice::from_ref(&step), 0);
+    step
+}
+
+// The arc of a segment from its first end to its other.
+pub(crate) fn forward(airport: &Airport, segment: Segment) -> Arc
+    requires { segment.0 < length airport.now.segments }
+    ensures { result ≡ arc_of segment true }
+{
+    let _horizon = airport.horizon();
+    Arc(2 * segment.0)
+}
+
+// Holds no longer what the holder of a number holds, while the others hold what they do.
+pub(crate) fn free_holder(
     store: &mut WindowStore,
     airport: &Airport,
-    flights: &FlightList,
-    place: usize,
+    holders: &Holders,
+    number: usize,
 )
     requires lists { length store.old.lists ≡ length airport.now.segments }
     requires horizon { store.old.horizon ≡ airport.now.horizon }
-    requires place { place < length flights.now.flights }
-    requires feasible { IsFeasibleState airport.now (state_with flights.now.flights) }
-    requires stands { StandsFor airport.now.conflicts airport.now.horizon (flights_hold airport.now flights.now.flights) store.old }
-    ensures stands { StandsFor airport.now.conflicts airport.now.horizon (flights_hold airport.now (remove flights.now.flights place)) store.new }
-    ensures room { IfSome (slice_get flights.now.flights place) (λ flight. HasRoomFor airport.now.conflicts flight.steps store.new) }
-    ensures kept { IfSome (slice_get flights.now.flights place) (λ flight. KeepsWindows IsClearOf airport.now.conflicts (flight_holds airport.now flight) store.old store.new) }
+    requires number { number < length holders.now.parties.parties + length holders.now.flights.flights }
+    requires feasible { IsFeasibleState airport.now (state_of holders.now) }
+    requires stands { StandsFor airport.now.conflicts airport.now.horizon (holds_in airport.now (state_of holders.now)) store.old }
+    ensures stands { StandsFor airport.now.conflicts airport.now.horizon (route_holds airport.now.horizon (remove (routes_of airport.now (state_of holders.now)) number)) store.new }
+    ensures room { IfSome (slice_get (routes_of airport.now (state_of holders.now)) number) (λ route. HasRoomFor airport.now.conflicts route.steps store.new) }
+    ensures kept { IfSome (slice_get (routes_of airport.now (state_of holders.now)) number) (λ route. KeepsWindows IsClearOf airport.now.conflicts (holds_of airport.now.horizon route.clearance route.steps) store.old store.new) }
     ensures nodes { KeepsNodes store.old store.new }
 {
     let others = Others {
-        flights,
-        place,
+        holders,
+        number,
         airport,
     };
-    let flight = flights.at(place);
     store.release(
         ruled_conflicts(airport),
         &others,
-        flight.steps.as_slice(),
-        airport.clearance(flight.class),
+        holders.steps(number),
+        holders.clearance(airport, number),
     );
 }
 

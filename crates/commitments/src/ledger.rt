@@ -1,51 +1,58 @@
-//! The flights in force, and the free windows that they leave.
-ghost use Rattle.std.specs.Prelude.{◌≡◌, ◌+◌, ◌<◌, ◌≤◌, ◌^◌, List, [], Some, None, length, slice_get, All, IsTrue, IsSome, IfOk, IfNone, IfSome, OnOk, option_copied};
+//! The flights and work parties in force, and the free windows that they leave.
+ghost use Rattle.std.specs.Prelude.{◌≡◌, ◌+◌, ◌<◌, ◌≤◌, ◌^◌, false, List, Some, None, length, slice_get, All, IsTrue, IsSome, IfOk, IfNone, IfSome, OnOk, option_copied};
 ghost use Rattle.std.specs.Option.{ForSome};
 ghost use Rattle.taxi_base.specs.declared.rows.Step.{Step as StepRow};
 ghost use Rattle.taxi_base.specs.Airport.{arc_exists, layout_of};
 ghost use Rattle.taxi_base.specs.Walks.{IsFeasibleWalk};
-ghost use Rattle.taxi_base.specs.State.{flight_named, flights_with, flights_without, flight_holds, conditions_of, with_route};
+ghost use Rattle.taxi_base.specs.State.{no_holder, holder_count, has_holder, flight_named, without, with_flight, flight_holds, conditions_of, with_route};
 ghost use Rattle.taxi_base.specs.Faults.{conditions_in};
 ghost use Rattle.window_store.specs.Stands.{HasRoomFor};
 ghost use Rattle.window_store.specs.Kept.{IsApartFrom, IsClearOf, KeepsWindows, KeepsNodes, GainsRoom};
-ghost use Rattle.commitments.specs.Book.{Book, Fits, IsPrepared, IsBook, state_of, lifted_flight};
+ghost use Rattle.commitments.specs.Book.{Book, Fits, IsPrepared, IsBook, lifted_flight};
 
-use crate::flight_list::FlightList;
-use crate::holds::{free_flight, hold_flight, ruled_conflicts};
+use crate::holders::Holders;
+use crate::holds::{free_holder, hold_flight, ruled_conflicts};
 use airport_file::Airport;
 use std::alloc::Global;
 use std::marker::Model;
 use taxi_base::{Flight, List, Memory, Name, Request, Step};
 use window_store::WindowStore;
 
-/// The flights in force, by rising names, each with at least one step, and the free windows of each segment. One of the
-/// flights may be lifted: it is in force still, and the windows are those that the others leave.
+/// The flights in force, by rising names, each with at least one step, the work parties by rising names, and the free windows
+/// of each segment. One of the flights may be lifted: it is in force still, and the windows are those that the others leave.
 #[derive(Drop)]
 pub struct Ledger {
-    pub(crate) flights: FlightList,
+    pub(crate) holders: Holders,
     pub(crate) lifted: Option<Name>,
     pub(crate) store: WindowStore,
 }
 
 impl Model for Ledger {
     ghost use Rattle.commitments.specs.Book.{Book};
+    ghost use Rattle.commitments.specs.Holders.{state_of};
 
     ghost Value = { Book };
 
-    ghost view = { λ l. record { flights = l.flights.flights; lifted = l.lifted; room = l.flights.room; store = l.store } };
+    ghost view = { λ l. record {
+      state = state_of l.holders;
+      lifted = l.lifted;
+      room = l.holders.flights.room;
+      party_room = l.holders.parties.room;
+      store = l.store;
+    } };
 }
 
 impl Ledger {
-    /// No flight over an airport: all seconds are free.
+    /// No flight and no party over an airport: all seconds are free.
     pub fn new(alloc: Global, airport: &Airport) -> Result<Ledger, Memory>
-        ensures flights { IfOk result (λ l. l.flights ≡ []) }
+        ensures state { IfOk result (λ l. l.state ≡ no_holder) }
         ensures unlifted { IfOk result (λ l. l.lifted ≡ None) }
         ensures fits { IfOk result (Fits airport.now) }
     {
         let segments = airport.graph().segments();
         let store = WindowStore::new(alloc, segments, airport.horizon())?;
         Ok(Ledger {
-            flights: FlightList::new(alloc),
+            holders: Holders::new(alloc),
             lifted: None,
             store,
         })
@@ -53,25 +60,25 @@ impl Ledger {
 
     /// How many flights are in force.
     pub fn count(&self) -> usize
-        ensures count { result ≡ length self.now.flights }
-        ensures book { IsBook self.now.flights }
+        ensures count { result ≡ length self.now.state.flights }
+        ensures book { IsBook self.now.state.flights }
     {
-        self.flights.count()
+        self.holders.flights.count()
     }
 
     /// The flight at a place, by rising names.
     pub fn at(&self, place: usize) -> &Flight
-        requires { place < length self.now.flights }
-        ensures { slice_get self.now.flights place ≡ Some result.now }
+        requires { place < length self.now.state.flights }
+        ensures { slice_get self.now.state.flights place ≡ Some result.now }
     {
-        self.flights.at(place)
+        self.holders.flights.at(place)
     }
 
     /// The flight of a name.
     pub fn flight(&self, name: &Name) -> Option<&Flight>
-        ensures { option_copied result ≡ flight_named name.now self.now.flights }
+        ensures { option_copied result ≡ flight_named name.now self.now.state.flights }
     {
-        self.flights.flight(name)
+        self.holders.flights.flight(name)
     }
 
     /// The free windows of each segment.
@@ -81,19 +88,20 @@ impl Ledger {
         &self.store
     }
 
-    /// Makes room for one more flight with these steps. The flights and all windows stay, also where memory runs out.
+    /// Makes room for one more flight with these steps. All holders and windows stay, also where memory runs out.
     pub fn prepare(&mut self, airport: &Airport, steps: &[Step]) -> Result<(), Memory>
         requires fits { Fits airport.now self.old }
         requires arcs { All (λ s. IsTrue (arc_exists (layout_of airport.now) s.arc)) steps.now }
         requires few { length steps.now < 2 ^ 32 }
         ensures room { OnOk result (IsPrepared airport.now steps.now self.new) }
-        ensures flights { self.new.flights ≡ self.old.flights }
+        ensures state { self.new.state ≡ self.old.state }
         ensures lifted { self.new.lifted ≡ self.old.lifted }
         ensures kept { self.old.room ≤ self.new.room }
+        ensures party_room { self.new.party_room ≡ self.old.party_room }
         ensures windows { GainsRoom self.old.store self.new.store }
         ensures fits { Fits airport.now self.new }
     {
-        self.flights.prepare()?;
+        self.holders.flights.prepare()?;
         self.store.reserve(ruled_conflicts(airport), steps)?;
         Ok(())
     }
@@ -103,18 +111,19 @@ impl Ledger {
         requires fits { Fits airport.now self.old }
         requires unlifted { self.old.lifted ≡ None }
         requires prepared { IsPrepared airport.now flight.steps self.old }
-        requires absent { flight_named flight.name self.old.flights ≡ None }
-        requires few { length self.old.flights < 4096 }
-        requires feasible { IsFeasibleWalk (conditions_in airport.now flight.class (state_of self.old)) flight.steps }
-        ensures flights { self.new.flights ≡ flights_with flight self.old.flights }
+        requires absent { has_holder flight.name self.old.state ≡ false }
+        requires few { holder_count self.old.state < 4096 }
+        requires feasible { IsFeasibleWalk (conditions_in airport.now flight.class self.old.state) flight.steps }
+        ensures state { self.new.state ≡ with_flight flight self.old.state }
         ensures unlifted { self.new.lifted ≡ None }
         ensures room { self.new.room + 1 ≡ self.old.room }
+        ensures party_room { self.new.party_room ≡ self.old.party_room }
         ensures kept { KeepsWindows IsApartFrom airport.now.conflicts (flight_holds airport.now flight) self.old.store self.new.store }
         ensures nodes { KeepsNodes self.old.store self.new.store }
         ensures fits { Fits airport.now self.new }
     {
         hold_flight(&mut self.store, airport, &flight);
-        self.flights.insert(flight);
+        self.holders.flights.insert(flight);
     }
 
     /// Takes the flight of a name out of force. It needs no memory, and there is room for it afterwards. A window that
@@ -122,19 +131,21 @@ impl Ledger {
     pub fn cancel(&mut self, airport: &Airport, name: &Name) -> Option<Flight>
         requires fits { Fits airport.now self.old }
         requires unlifted { self.old.lifted ≡ None }
-        ensures flight { result ≡ flight_named name.now self.old.flights }
-        ensures flights { self.new.flights ≡ flights_without name.now self.old.flights }
+        ensures flight { result ≡ flight_named name.now self.old.state.flights }
+        ensures state { IfSome result (λ _. self.new.state ≡ without name.now self.old.state) }
         ensures unlifted { self.new.lifted ≡ None }
         ensures unchanged { IfNone result (self.new ≡ self.old) }
         ensures prepared { IfSome result (λ flight. IsPrepared airport.now flight.steps self.new) }
         ensures room { self.old.room ≤ self.new.room }
+        ensures party_room { self.new.party_room ≡ self.old.party_room }
         ensures kept { IfSome result (λ flight. KeepsWindows IsClearOf airport.now.conflicts (flight_holds airport.now flight) self.old.store self.new.store) }
         ensures nodes { KeepsNodes self.old.store self.new.store }
         ensures fits { Fits airport.now self.new }
     {
-        let place = self.flights.place(name)?;
-        free_flight(&mut self.store, airport, &self.flights, place);
-        Some(self.flights.remove(place))
+        let place = self.holders.flights.place(name)?;
+        let number = self.holders.parties.count() + place;
+        free_holder(&mut self.store, airport, &self.holders, number);
+        Some(self.holders.flights.remove(place))
     }
 
     /// Lifts the flight of a name: the windows are from now on those that the others leave, and there is room for its
@@ -142,32 +153,35 @@ impl Ledger {
     pub fn lift(&mut self, airport: &Airport, name: &Name)
         requires fits { Fits airport.now self.old }
         requires unlifted { self.old.lifted ≡ None }
-        requires in_force { IsSome (flight_named name.now self.old.flights) }
-        ensures flights { self.new.flights ≡ self.old.flights }
+        requires in_force { IsSome (flight_named name.now self.old.state.flights) }
+        ensures state { self.new.state ≡ self.old.state }
         ensures lifted { self.new.lifted ≡ Some name.now }
         ensures prepared { (steps : List StepRow) → IsPrepared airport.now steps self.old → IsPrepared airport.now steps self.new }
         ensures room { self.new.room ≡ self.old.room }
+        ensures party_room { self.new.party_room ≡ self.old.party_room }
         ensures nodes { KeepsNodes self.old.store self.new.store }
         ensures fits { Fits airport.now self.new }
     {
-        let place = self.flights.place(name).unwrap();
-        free_flight(&mut self.store, airport, &self.flights, place);
+        let place = self.holders.flights.place(name).unwrap();
+        let number = self.holders.parties.count() + place;
+        free_holder(&mut self.store, airport, &self.holders, number);
         self.lifted = Some(*name);
     }
 
-    /// Puts the lifted flight back: the windows are again those that all flights leave. It needs no memory.
+    /// Puts the lifted flight back: the windows are again those that all holders leave. It needs no memory.
     pub fn lower(&mut self, airport: &Airport)
         requires fits { Fits airport.now self.old }
         requires lifted { IsSome self.old.lifted }
-        ensures flights { self.new.flights ≡ self.old.flights }
+        ensures state { self.new.state ≡ self.old.state }
         ensures unlifted { self.new.lifted ≡ None }
         ensures room { self.new.room ≡ self.old.room }
+        ensures party_room { self.new.party_room ≡ self.old.party_room }
         ensures nodes { KeepsNodes self.old.store self.new.store }
         ensures fits { Fits airport.now self.new }
     {
         let name = self.lifted.take().unwrap();
-        let place = self.flights.place(&name).unwrap();
-        let flight = self.flights.at(place);
+        let place = self.holders.flights.place(&name).unwrap();
+        let flight = self.holders.flights.at(place);
         hold_flight(&mut self.store, airport, flight);
     }
 
@@ -176,19 +190,20 @@ impl Ledger {
         requires fits { Fits airport.now self.old }
         requires lifted { IsSome self.old.lifted }
         requires prepared { HasRoomFor airport.now.conflicts steps self.old.store }
-        requires feasible { ForSome (lifted_flight self.old) (λ flight. IsFeasibleWalk (conditions_of airport.now (state_of self.old) flight) steps) }
-        ensures flights { IfSome (lifted_flight self.old) (λ flight. state_of self.new ≡ with_route flight request steps (state_of self.old)) }
+        requires feasible { ForSome (lifted_flight self.old) (λ flight. IsFeasibleWalk (conditions_of airport.now self.old.state flight) steps) }
+        ensures state { IfSome (lifted_flight self.old) (λ flight. self.new.state ≡ with_route flight request steps self.old.state) }
         ensures unlifted { self.new.lifted ≡ None }
         ensures room { self.new.room ≡ self.old.room }
+        ensures party_room { self.new.party_room ≡ self.old.party_room }
         ensures nodes { KeepsNodes self.old.store self.new.store }
         ensures fits { Fits airport.now self.new }
     {
         let name = self.lifted.take().unwrap();
-        let place = self.flights.place(&name).unwrap();
-        let mut flight = self.flights.remove(place);
+        let place = self.holders.flights.place(&name).unwrap();
+        let mut flight = self.holders.flights.remove(place);
         flight.request = request;
         flight.steps = steps;
         hold_flight(&mut self.store, airport, &flight);
-        self.flights.insert(flight);
+        self.holders.flights.insert(flight);
     }
 }

@@ -1,15 +1,19 @@
-//! The flights in force, by name, with the free windows that they leave, and the check of a route that is given by hand.
+//! The flights and work parties in force, by name, with the free windows that they leave, and the check of a route that is
+//! given by hand.
 #![tactic(auto)]
 
 mod flight_list;
+mod holders;
 mod holds;
 mod laws;
 mod ledger;
+mod party_list;
 mod route;
+mod shutting;
 mod taken;
 #[cfg(test)]
 mod tests;
 
-pub use laws::windows_follow_from_flights;
+pub use laws::windows_follow_from_holders;
 pub use ledger::Ledger;
-pub use taxi_base::Flight;
+pub use taxi_base::{Flight, Party};

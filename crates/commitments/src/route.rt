@@ -2,7 +2,7 @@
 ghost use Rattle.std.specs.Prelude.{◌≡◌, ◌↔◌, ◌+◌, ◌<◌, ◌≤◌, ◌^◌, ℕ, None, IsTrue, All, length, nat_lt};
 ghost use Rattle.taxi_base.specs.Airport.{arc_exists, layout_of};
 ghost use Rattle.taxi_base.specs.Walks.{AreJoined, IsFeasibleWalk};
-ghost use Rattle.commitments.specs.Book.{Fits, state_of};
+ghost use Rattle.commitments.specs.Book.{Fits};
 ghost use Rattle.taxi_base.specs.Faults.{conditions_in, may_follow, taken_by, taken_cause, cause_of, route_fault};
 
 use crate::Ledger;
@@ -11,14 +11,14 @@ use segment_graph::segment_of;
 use taxi_base::{Arc, Class, Segment, Span, Step, StepCause, StepFault, Time};
 
 impl Ledger {
-    /// The first step of a route that fails among the flights in force, and the first of its causes. It needs no memory.
+    /// The first step of a route that fails among the holders in force, and the first of its causes. It needs no memory.
     pub fn check_route(&self, airport: &Airport, class: Class, steps: &[Step]) -> Option<StepFault>
         requires fits { Fits airport.now self.now }
         requires unlifted { self.now.lifted ≡ None }
         requires arcs { All (λ s. IsTrue (arc_exists (layout_of airport.now) s.arc)) steps.now }
         requires few { length steps.now < 2 ^ 32 }
-        ensures fault { result ≡ route_fault airport.now class (state_of self.now) steps.now }
-        ensures feasible { 0 < length steps.now → AreJoined steps.now → (result ≡ None) ↔ IsFeasibleWalk (conditions_in airport.now class (state_of self.now)) steps.now }
+        ensures fault { result ≡ route_fault airport.now class self.now.state steps.now }
+        ensures feasible { 0 < length steps.now → AreJoined steps.now → (result ≡ None) ↔ IsFeasibleWalk (conditions_in airport.now class self.now.state) steps.now }
     {
         let mut before = None;
         for (place, step) in steps.iter().enumerate() {
@@ -42,7 +42,7 @@ impl Ledger {
         requires fits { Fits airport.now self.now }
         requires unlifted { self.now.lifted ≡ None }
         requires arc { IsTrue (arc_exists (layout_of airport.now) step.now.arc) }
-        ensures { result ≡ cause_of airport.now class (state_of self.now) before step.now }
+        ensures { result ≡ cause_of airport.now class self.now.state before step.now }
     {
         let Some(seconds) = airport.classes().seconds(class, segment_of(step.arc)) else {
             return Some(StepCause::ClassBarred);
@@ -65,22 +65,27 @@ impl Ledger {
         requires arc { IsTrue (arc_exists (layout_of airport.now) step.now.arc) }
         requires some { step.now.enter < step.now.leave }
         requires in_time { step.now.leave ≤ airport.now.horizon }
-        ensures { result ≡ taken_cause airport.now class (state_of self.now) step.now }
+        ensures { result ≡ taken_cause airport.now class self.now.state step.now }
     {
         let held = step.held(airport.horizon(), airport.clearance(class));
         self.taken_by(airport, segment_of(step.arc), held)
     }
 
     // The first second of a span at which a segment is taken, and by whom.
-    fn taken_by(&self, airport: &Airport, segment: Segment, span: Span) -> Option<StepCause>
+    pub(crate) fn taken_by(
+        &self,
+        airport: &Airport,
+        segment: Segment,
+        span: Span,
+    ) -> Option<StepCause>
         requires fits { Fits airport.now self.now }
         requires unlifted { self.now.lifted ≡ None }
         requires segment { segment.0 < length airport.now.segments }
         requires some { span.from < span.until }
         requires in_time { span.until ≤ airport.now.horizon }
-        ensures { result ≡ taken_by airport.now (state_of self.now) (record { segment = segment; span = span }) }
+        ensures { result ≡ taken_by airport.now self.now.state (record { segment = segment; span = span }) }
     {
-        // Where the span lies in a free window, no flight needs to be looked at.
+        // Where the span lies in a free window, no holder needs to be looked at.
         if self
             .store
             .window_at(segment, span.from, span.until)
@@ -88,7 +93,7 @@ impl Ledger {
         {
             return None;
         }
-        let (at, by) = self.flights.first_taken(airport, segment, span)?;
+        let (at, by) = self.holders.first_taken(airport, segment, span)?;
         Some(StepCause::Taken { at, by })
     }
 }

@@ -1,17 +1,20 @@
 //! When, and by whom, a segment is taken first.
 ghost use Rattle.std.specs.Prelude.{◌≡◌, ◌<◌, length};
 ghost use Rattle.taxi_base.specs.Windows.{blocks};
-ghost use Rattle.taxi_base.specs.State.{flight_holds};
-ghost use Rattle.commitments.specs.Taken.{IsFirst, earlier, sooner, takes, IsFirstTaken};
+ghost use Rattle.taxi_base.specs.Faults.{holder_at};
+ghost use Rattle.commitments.specs.Taken.{IsFirst, earlier, sooner, first_of, flight_takes, first_flight, first_party, IsFirstTaken};
+ghost use Rattle.commitments.specs.Holders.{state_of};
 
 use crate::flight_list::FlightList;
+use crate::holders::Holders;
+use crate::party_list::PartyList;
 use airport_file::Airport;
 use conflict_sets::Conflicts;
 use segment_graph::segment_of;
 use taxi_base::{Flight, Name, Segment, Span, Time};
 
-impl FlightList {
-    // The first second of a span at which a flight holds a segment in conflict with this one, and the first such flight.
+impl Holders {
+    // The first second of a span at which a segment in conflict with this one is held, and the first holder by name.
     pub(crate) fn first_taken(
         &self,
         airport: &Airport,
@@ -19,7 +22,44 @@ impl FlightList {
         span: Span,
     ) -> Option<(Time, Name)>
         requires { segment.0 < length airport.now.segments }
-        ensures { IsFirstTaken airport.now segment span self.now.flights result }
+        ensures { IsFirstTaken (holder_at airport.now (state_of self.now) segment) span result }
+    {
+        let party = self.parties.first_taken(airport.conflicts(), segment, span);
+        let flight = self.flights.first_taken(airport, segment, span);
+        first_of(party, flight)
+    }
+}
+
+impl PartyList {
+    // The first second of a span at which a party shuts a segment in conflict with this one, and the first such party.
+    fn first_taken(
+        &self,
+        conflicts: &Conflicts,
+        segment: Segment,
+        span: Span,
+    ) -> Option<(Time, Name)>
+        requires { segment.0 < conflicts.now.segments }
+        ensures { IsFirstTaken (first_party conflicts.now.sets segment self.now.parties) span result }
+    {
+        let mut first = None;
+        for place in 0..self.count() {
+            let party = self.at(place);
+            let shut = Span {
+                from: party.from,
+                until: party.until,
+            };
+            let at = first_second(conflicts, segment, span, party.segment, shut);
+            first = sooner(first, at, party.name);
+        }
+        first
+    }
+}
+
+impl FlightList {
+    // The first second of a span at which a flight holds a segment in conflict with this one, and the first such flight.
+    fn first_taken(&self, airport: &Airport, segment: Segment, span: Span) -> Option<(Time, Name)>
+        requires { segment.0 < length airport.now.segments }
+        ensures { IsFirstTaken (first_flight airport.now segment self.now.flights) span result }
     {
         let mut first = None;
         for place in 0..self.count() {
@@ -31,7 +71,7 @@ impl FlightList {
     }
 }
 
-// What is found so far, or a further flight's second where that is sooner. In a tie the flight found first stays.
+// What is found so far, or the second of a further one where that is sooner. In a tie the one found first stays.
 fn sooner(first: Option<(Time, Name)>, at: Option<Time>, name: Name) -> Option<(Time, Name)>
     ensures { result ≡ sooner first at name }
 {
@@ -42,10 +82,21 @@ fn sooner(first: Option<(Time, Name)>, at: Option<Time>, name: Name) -> Option<(
     }
 }
 
+// Of what is found among the parties and among the flights that which comes first: the sooner, or at one second the first by
+// name.
+fn first_of(party: Option<(Time, Name)>, flight: Option<(Time, Name)>) -> Option<(Time, Name)>
+    ensures { result ≡ first_of party flight }
+{
+    let (Some(sooner), Some(other)) = (party, flight) else {
+        return party.or(flight);
+    };
+    Some(if other < sooner { other } else { sooner })
+}
+
 // The first second of a span at which a flight holds a segment in conflict with this one.
 fn first_second_of(airport: &Airport, segment: Segment, span: Span, flight: &Flight) -> Option<Time>
     requires { segment.0 < length airport.now.segments }
-    ensures { IsFirst (takes airport.now.conflicts segment (flight_holds airport.now flight.now)) span result }
+    ensures { IsFirst (flight_takes airport.now segment flight.now) span result }
 {
     let horizon = airport.horizon();
     let clearance = airport.clearance(flight.class);

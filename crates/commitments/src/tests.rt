@@ -1,13 +1,13 @@
-//! Flights over a small airport, filed, looked up, lifted and cancelled.
-ghost use Rattle.std.specs.Prelude.{◌≡◌, ◌<◌, ◌^◌, [], ◌∷◌, None, length, All, IsTrue, IfOk};
+//! Flights and a work party over a small airport, put in force, looked up, lifted and taken out.
+ghost use Rattle.std.specs.Prelude.{◌≡◌, ◌<◌, ◌^◌, false, [], ◌∷◌, None, length, All, IsTrue, IfOk};
 ghost use Rattle.taxi_base.specs.declared.answers.Flight.{Flight as FlightRow};
 ghost use Rattle.taxi_base.specs.Airport.{arc_exists, layout_of};
 ghost use Rattle.taxi_base.specs.Walks.{IsFeasibleWalk};
-ghost use Rattle.taxi_base.specs.State.{no_holder, flights_with};
+ghost use Rattle.taxi_base.specs.State.{no_holder, holder_count, has_holder, with_flight};
 ghost use Rattle.taxi_base.specs.Faults.{conditions_in};
 ghost use Rattle.commitments.specs.Book.{Fits};
 
-use crate::{Flight, Ledger};
+use crate::{Flight, Ledger, Party};
 use airport_file::{Airport, read_airport};
 use std::alloc::Global;
 use std::process::Abort;
@@ -52,6 +52,21 @@ fn fault_on(
     Ok(ledger.check_route(airport, Class(0), steps.as_slice()))
 }
 
+// There are few holders, and none of them has the name.
+fn may_come_in(ledger: &Ledger, airport: &Airport, name: &Name) -> Result<(), Fail>
+    requires { Fits airport.now ledger.now }
+    ensures absent { IfOk result (λ _. has_holder name.now ledger.now.state ≡ false) }
+    ensures few { IfOk result (λ _. holder_count ledger.now.state < 4096) }
+{
+    if ledger.parties() + ledger.count() >= 4096 {
+        return Err(Fail::from("there are few holders"));
+    }
+    if ledger.party(name).is_some() || ledger.flight(name).is_some() {
+        return Err(Fail::from("no holder has the name"));
+    }
+    Ok(())
+}
+
 // Puts a flight in force that makes that step.
 fn file(
     alloc: Global,
@@ -62,13 +77,14 @@ fn file(
 ) -> Result<(), Fail>
     requires fits { Fits airport.now ledger.old }
     requires unlifted { ledger.old.lifted ≡ None }
-    ensures flights { IfOk result (λ _. (flight : FlightRow) × (flight.class ≡ record { 0 = 0 }) × (ledger.new.flights ≡ flights_with flight ledger.old.flights)) }
+    ensures state { IfOk result (λ _. (flight : FlightRow) × (flight.class ≡ record { 0 = 0 }) × (ledger.new.state ≡ with_flight flight ledger.old.state)) }
     ensures unlifted { ledger.new.lifted ≡ None }
     ensures fits { Fits airport.now ledger.new }
 {
-    if ledger.count() >= 4096 || ledger.flight(&name).is_some() || !airport.graph().exists(arc) {
-        return Err(Fail::from("there is no such arc, or no room for the flight"));
+    if !airport.graph().exists(arc) {
+        return Err(Fail::from("there is no such arc"));
     }
+    may_come_in(ledger, airport, &name)?;
     let steps = step_on(alloc, arc, 100, 130)?;
     if ledger
         .check_route(airport, Class(0), steps.as_slice())
@@ -161,7 +177,7 @@ fn lift_and_lower(
 ) -> Result<(), Fail>
     requires fits { Fits airport.now ledger.old }
     requires unlifted { ledger.old.lifted ≡ None }
-    ensures flights { ledger.new.flights ≡ ledger.old.flights }
+    ensures state { ledger.new.state ≡ ledger.old.state }
     ensures unlifted { IfOk result (λ _. ledger.new.lifted ≡ None) }
     ensures fits { Fits airport.now ledger.new }
 {
@@ -182,7 +198,7 @@ fn lift_and_lower(
 fn alone(alloc: Global, airport: &Airport, name: Name) -> Result<Ledger, Fail>
     ensures fits { IfOk result (Fits airport.now) }
     ensures unlifted { IfOk result (λ ledger. ledger.lifted ≡ None) }
-    ensures alone { IfOk result (λ ledger. (flight : FlightRow) × (flight.class ≡ record { 0 = 0 }) × (ledger.flights ≡ flight ∷ [])) }
+    ensures alone { IfOk result (λ ledger. (flight : FlightRow) × (flight.class ≡ record { 0 = 0 }) × (ledger.state ≡ with_flight flight no_holder)) }
 {
     let mut ledger = Ledger::new(alloc, airport)?;
     file(alloc, &mut ledger, airport, name, Arc(0))?;
@@ -219,7 +235,7 @@ fn replace(
 ) -> Result<(), Fail>
     requires fits { Fits airport.now ledger.old }
     requires unlifted { ledger.old.lifted ≡ None }
-    requires alone { (flight : FlightRow) × (flight.class ≡ record { 0 = 0 }) × (ledger.old.flights ≡ flight ∷ []) }
+    requires alone { (flight : FlightRow) × (flight.class ≡ record { 0 = 0 }) × (ledger.old.state ≡ with_flight flight no_holder) }
     requires arcs { All (λ s. IsTrue (arc_exists (layout_of airport.now) s.arc)) steps }
     requires few { length steps < 2 ^ 32 }
     requires feasible { IsFeasibleWalk (conditions_in airport.now (record { 0 = 0 }) no_holder) steps }
@@ -244,7 +260,7 @@ fn lift_and_replace(
 ) -> Result<(), Fail>
     requires fits { Fits airport.now ledger.old }
     requires unlifted { ledger.old.lifted ≡ None }
-    requires alone { (flight : FlightRow) × (flight.class ≡ record { 0 = 0 }) × (ledger.old.flights ≡ flight ∷ []) }
+    requires alone { (flight : FlightRow) × (flight.class ≡ record { 0 = 0 }) × (ledger.old.state ≡ with_flight flight no_holder) }
 {
     let steps = later_step(alloc, airport)?;
     let request = Request::Arrival {
@@ -259,6 +275,54 @@ fn lift_and_replace(
         Some(flight) => assert_eq!(rt; flight.request, request),
         None => return Err(Fail::from("the flight is in force still")),
     }
+    Ok(())
+}
+
+// Shuts the segment of a party.
+fn shut(ledger: &mut Ledger, airport: &Airport, party: Party) -> Result<(), Fail>
+    requires fits { Fits airport.now ledger.old }
+    requires unlifted { ledger.old.lifted ≡ None }
+    ensures fits { Fits airport.now ledger.new }
+    ensures unlifted { ledger.new.lifted ≡ None }
+{
+    let name = party.name;
+    let segment = party.segment;
+    if segment.0 as usize >= airport.graph().segments() {
+        return Err(Fail::from("there is no such segment"));
+    }
+    may_come_in(ledger, airport, &name)?;
+    if ledger
+        .check_hold(airport, segment, party.from, party.until)
+        .is_some()
+    {
+        return Err(Fail::from("something is in its way"));
+    }
+    ledger.prepare_party(airport, segment)?;
+    ledger.place(airport, party);
+    Ok(())
+}
+
+// A party is on segment C, with which A is in conflict.
+fn shut_until_removed(
+    rt: &impl Abort,
+    alloc: Global,
+    ledger: &mut Ledger,
+    airport: &Airport,
+    name: &Name,
+) -> Result<(), Fail>
+    requires fits { Fits airport.now ledger.old }
+    requires unlifted { ledger.old.lifted ≡ None }
+{
+    let cause = StepCause::Taken { at: 110, by: *name };
+    assert_eq!(rt; ledger.parties(), 1);
+    assert!(rt; are_free(alloc, ledger, airport, Segment(0), &[(0, 110), (120, 3600)])?);
+    assert_eq!(rt;
+        fault_on(alloc, ledger, airport, Arc(0))?,
+        Some(StepFault { number: 1, cause })
+    );
+    assert!(rt; ledger.remove(airport, name).is_some());
+    assert!(rt; are_free(alloc, ledger, airport, Segment(0), &[(0, 3600)])?);
+    assert!(rt; ledger.remove(airport, name).is_none());
     Ok(())
 }
 
@@ -288,6 +352,26 @@ fn lift_and_put_back(rt: &impl Abort, alloc: Global, airport: &Airport) -> Resul
 fn flights_stand_by_name_and_give_their_windows_back(rt: HostRuntime) -> Result<(), Fail> {
     let airport = small_airport(rt.alloc())?;
     file_and_cancel(&rt, rt.alloc(), &airport)
+}
+
+// One party, put in force and removed.
+fn shut_and_open(rt: &impl Abort, alloc: Global, airport: &Airport) -> Result<(), Fail> {
+    let (name, _) = names()?;
+    let mut ledger = Ledger::new(alloc, airport)?;
+    let party = Party {
+        name,
+        segment: Segment(2),
+        from: 110,
+        until: 120,
+    };
+    shut(&mut ledger, airport, party)?;
+    shut_until_removed(rt, alloc, &mut ledger, airport, &name)
+}
+
+#[test]
+fn a_segment_is_shut_until_the_party_is_removed(rt: HostRuntime) -> Result<(), Fail> {
+    let airport = small_airport(rt.alloc())?;
+    shut_and_open(&rt, rt.alloc(), &airport)
 }
 
 #[test]

@@ -1,5 +1,6 @@
 //! The search for an arrival's route.
-ghost use Rattle.std.specs.Prelude.{◌≡◌, ℕ, ◌≤◌, length, All, IfOk};
+ghost use Rattle.std.specs.Prelude.{◌≡◌, ℕ, ◌≤◌, [], ◌∷◌, length, All, IfOk};
+ghost use Rattle.taxi_base.specs.declared.numbers.Node.{Node as NodeNumber};
 ghost use Rattle.taxi_base.specs.Airport.{layout_of, IsWellFormed};
 ghost use Rattle.taxi_base.specs.Walks.{conditions_in_windows};
 ghost use Rattle.taxi_base.specs.Labels.{AnswersArrival};
@@ -7,6 +8,7 @@ ghost use Rattle.walk_labels.specs.Requests.{BeginsBy};
 ghost use Rattle.walk_labels.specs.PlacesInWindows.{AreWindowLists};
 ghost use Rattle.place_cells.specs.Laid.{windows_of, HaveNumbers};
 ghost use Rattle.forward_search.specs.Arrivals.{beginning_of};
+ghost use Rattle.forward_search.specs.OneOf.{AnswersArrivalToOneOf};
 
 use crate::cells::ArrivalCells;
 use crate::starting::Start;
@@ -54,6 +56,26 @@ pub fn arrive_in(
     requires horizon { All (All (λ w. w.until ≤ airport.now.horizon)) (windows_of store.now) }
     ensures { (leave : ℕ) → IfOk result (AnswersArrival (conditions_in_windows airport.now class clearance (windows_of store.now)) (BeginsBy (layout_of airport.now) (beginning_of start leave)) to) }
 {
+    arrive_to_one_of(alloc, room, airport, store, start, class, &[to], clearance)
+}
+
+/// The same where walks may reach any of some nodes: one that reaches any of them soonest, and where there is one node alone, the
+/// picked one. A label is short of the end of the best of all of them.
+pub fn arrive_to_one_of(
+    alloc: Global,
+    room: &mut SearchRoom,
+    airport: &Airport,
+    store: &WindowStore,
+    start: Start,
+    class: Class,
+    to: &[Node],
+    clearance: Time,
+) -> Result<Found, Memory>
+    requires segments { length store.now.lists ≡ length airport.now.segments }
+    requires horizon { All (All (λ w. w.until ≤ airport.now.horizon)) (windows_of store.now) }
+    ensures any { (leave : ℕ) → IfOk result (AnswersArrivalToOneOf (conditions_in_windows airport.now class clearance (windows_of store.now)) (BeginsBy (layout_of airport.now) (beginning_of start leave)) to.now) }
+    ensures one { (leave : ℕ) (node : NodeNumber) → to.now ≡ node ∷ [] → IfOk result (AnswersArrival (conditions_in_windows airport.now class clearance (windows_of store.now)) (BeginsBy (layout_of airport.now) (beginning_of start leave)) node) }
+{
     // With the horizon comes that the airport keeps the rules.
     let _horizon = airport.horizon();
     room.numbers.fit(airport.graph().segments(), store)?;
@@ -79,13 +101,14 @@ fn search_among<'x>(
     numbers: &'x CellNumbers,
     start: Start,
     class: Class,
-    to: Node,
+    to: &'x [Node],
     clearance: Time,
 ) -> Result<Found, Memory>
     requires lists { AreWindowLists airport.now (windows_of store.now) }
     requires room { HaveNumbers (windows_of store.now) numbers.now.first.items }
     requires rules { IsWellFormed airport.now }
-    ensures { (leave : ℕ) → IfOk result (AnswersArrival (conditions_in_windows airport.now class clearance (windows_of store.now)) (BeginsBy (layout_of airport.now) (beginning_of start leave)) to) }
+    ensures any { (leave : ℕ) → IfOk result (AnswersArrivalToOneOf (conditions_in_windows airport.now class clearance (windows_of store.now)) (BeginsBy (layout_of airport.now) (beginning_of start leave)) to.now) }
+    ensures one { (leave : ℕ) (node : NodeNumber) → to.now ≡ node ∷ [] → IfOk result (AnswersArrival (conditions_in_windows airport.now class clearance (windows_of store.now)) (BeginsBy (layout_of airport.now) (beginning_of start leave)) node) }
 {
     let ground = SearchGround {
         graph: airport.graph(),
@@ -96,11 +119,10 @@ fn search_among<'x>(
         horizon: airport.horizon(),
         clearance,
     };
-    let to = [to];
     let asked = ArrivalCells {
         ground: &ground,
         start,
-        to: &to,
+        to,
     };
     let label_search::Found { values, route } = earliest_exits(alloc, labels, &asked)?;
     let labels = rows_of(alloc, &ground, &values)?;

@@ -1,9 +1,9 @@
-//! The search for an arrival's route: from a node, or on from a step that was begun, to a node.
+//! The search for an arrival's route: from a node, or on from a step that was begun, to a node, or to any of some nodes.
 #![tactic(auto)]
 
 mod arriving;
 mod cells;
 mod starting;
 
-pub use arriving::{arrive, arrive_in};
+pub use arriving::{arrive, arrive_in, arrive_to_one_of};
 pub use starting::Start;

@@ -9,6 +9,9 @@ use std::alloc::Global;
 use std::marker::Model;
 use taxi_base::Memory;
 
+/// Labels are below this, so that an entry of the heap takes eight bytes.
+const LABELS: usize = 4294967296;
+
 /// A map from labels to keys with its least. All its room is made at the start.
 #[derive(Drop)]
 pub struct LabelQueue {
@@ -22,20 +25,23 @@ impl Model for LabelQueue {
 
     ghost Value = { List (Option ℕ) };
 
-    ghost use Rattle.std.specs.Prelude.{◌≤◌, length, vec_capacity};
+    ghost use Rattle.std.specs.Prelude.{◌≤◌, ◌^◌, length, vec_capacity};
     ghost use Rattle.label_queue.specs.Places.{keys_of, IsIndexedHeap};
 
     ghost view = { λ q. keys_of q.heap.items q.places.items };
 
     ghost invariant = { λ q.
-        IsIndexedHeap q.heap.items q.places.items × (length q.places.items ≤ vec_capacity q.heap) };
+        IsIndexedHeap q.heap.items q.places.items × (length q.places.items ≤ vec_capacity q.heap) × (length q.places.items ≤ 2 ^ 32) };
 }
 
 impl LabelQueue {
-    /// An empty queue for the labels below `limit`, with room for all of them.
+    /// An empty queue for the labels below `limit`, with room for all of them. There is none for more than 2^32 labels.
     pub fn new(alloc: Global, limit: usize) -> Result<LabelQueue, Memory>
         ensures { IfOk result (λ q. q ≡ replicate limit None) }
     {
+        if limit > LABELS {
+            return Err(Memory);
+        }
         let heap = Vec::with_capacity(alloc, limit)?;
         let places = Vec::from_elem(alloc, None, limit)?;
         Ok(LabelQueue { heap, places })
@@ -55,7 +61,13 @@ impl LabelQueue {
         ensures lowered { self.new ≡ lowered self.old label key }
     {
         match self.places[label] {
-            None => heap::add(&mut self.heap, &mut self.places, Entry { key, label }),
+            None => {
+                let entry = Entry {
+                    label: label as u32,
+                    key,
+                };
+                heap::add(&mut self.heap, &mut self.places, entry);
+            }
             Some(at) => {
                 if key < self.heap[at].key {
                     heap::lower(&mut self.heap, &mut self.places, at, key);
@@ -76,7 +88,7 @@ impl LabelQueue {
             return None;
         }
         let first = heap::take_first(&mut self.heap, &mut self.places);
-        Some((first.label, first.key))
+        Some((first.label as usize, first.key))
     }
 
     /// Empty again, with the same limit. It costs what the queue holds, and not the limit.

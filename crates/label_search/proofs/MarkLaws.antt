@@ -26,20 +26,20 @@ pub marked_none : (n m : ℕ) (empty : Option Label) → empty ≡ None → AreM
 marked_none n m empty is c = or_right _ _ (ap (λ o. is_none (get_or (replicate n o) c None)) is ∙ ap is_none (all_replicated n None c))
 
 -- a label is written, and its block is marked
-pub marked_write : (known : List (Option Label)) (marks : List Bool) (cell : ℕ) (label : Label) → cell / 16 < length marks → AreMarked known marks
-    → AreMarked (set known cell (Some label)) (set marks (cell / 16) true)
+pub marked_write : (known : List (Option Label)) (marks : List Bool) (cell : ℕ) (label : Label) → cell / 4 < length marks → AreMarked known marks
+    → AreMarked (set known cell (Some label)) (set marks (cell / 4) true)
 marked_write known marks cell label on marked c =
-    elim (cases_eq (c / 16) (cell / 16)) [
-      | inl same ↦ or_left _ _ (get_or-set_at marks (cell / 16) (c / 16) true false same on)
+    elim (cases_eq (c / 4) (cell / 4)) [
+      | inl same ↦ or_left _ _ (get_or-set_at marks (cell / 4) (c / 4) true false same on)
       | inr other ↦
-          let mark : get_or (set marks (cell / 16) true) (c / 16) false ≡ get_or marks (c / 16) false = get_or-set_other marks (cell / 16) (c / 16) true false other in
-          let there : get_or (set known cell (Some label)) c None ≡ get_or known c None = get_or-set_other known cell c (Some label) None (λ e. other (ap (λ x. x / 16) e)) in
+          let mark : get_or (set marks (cell / 4) true) (c / 4) false ≡ get_or marks (c / 4) false = get_or-set_other marks (cell / 4) (c / 4) true false other in
+          let there : get_or (set known cell (Some label)) c None ≡ get_or known c None = get_or-set_other known cell c (Some label) None (λ e. other (ap (λ x. x / 4) e)) in
           rw (mark, there) (marked c)
     ]
 
-pub unmarked : (known : List (Option Label)) (marks : List Bool) (block : ℕ) → AreMarked known marks → get_or marks block false ≡ false → (c : ℕ) → c / 16 ≡ block → label_of known c ≡ None
+pub unmarked : (known : List (Option Label)) (marks : List Bool) (block : ℕ) → AreMarked known marks → get_or marks block false ≡ false → (c : ℕ) → c / 4 ≡ block → label_of known c ≡ None
 unmarked known marks block marked not c same =
-    let mark : get_or marks (c / 16) false ≡ false = ap (λ k. get_or marks k false) same ∙ not in
+    let mark : get_or marks (c / 4) false ≡ false = ap (λ k. get_or marks k false) same ∙ not in
     let here : IsTrue (false || is_none (get_or known c None)) = rw mark at (marked c) in
     is_none-true (get_or known c None) here
 
@@ -50,9 +50,10 @@ pub record IsClearedTo (old now : List (Option Label)) (first i : ℕ) : Type 0 
   pub same_length : length now ≡ length old
   pub cleared : (c : ℕ) → first ≤ c → c < i → label_of now c ≡ None
   pub others : (c : ℕ) → label_of old c ≡ None → label_of now c ≡ None
+  pub rest : (c : ℕ) → i ≤ c → label_of now c ≡ label_of old c
 
 pub cleared_none : (old : List (Option Label)) (first : ℕ) → IsClearedTo old old first first
-cleared_none old first = record { same_length = refl; cleared = λ c from before. absurd (omega arith); others = λ c h. h }
+cleared_none old first = record { same_length = refl; cleared = λ c from before. absurd (omega arith); others = λ c h. h; rest = λ c from. refl }
 
 pub cleared_more : (old now : List (Option Label)) (first i : ℕ) → i < length now → IsClearedTo old now first i → IsClearedTo old (set now i None) first (i + 1)
 cleared_more old now first i on so_far = record {
@@ -65,6 +66,7 @@ cleared_more old now first i on so_far = record {
     | inl same ↦ get_or-set_at now i c None None same on
     | inr other ↦ get_or-set_other now i c None None other ∙ so_far.others c empty
   ];
+  rest = λ c from. get_or-set_other now i c None None (omega arith) ∙ so_far.rest c (omega arith);
 }
 
 -- of the blocks from the first on, those before one are not marked; what is not marked is empty, and no mark has come
@@ -88,14 +90,14 @@ module _ (old now : List (Option Label)) (before marks : List Bool) (first block
     others = so_far.others;
   }
 
-  pub blocks_more : (new : List (Option Label)) → block < length marks → length new ≡ length now → ((c : ℕ) → block * 16 ≤ c → c < block * 16 + 16 → c < length now → label_of new c ≡ None)
+  pub blocks_more : (new : List (Option Label)) → block < length marks → length new ≡ length now → ((c : ℕ) → block * 4 ≤ c → c < block * 4 + 4 → c < length now → label_of new c ≡ None)
       → ((c : ℕ) → label_of now c ≡ None → label_of new c ≡ None) → AreClearedTo old new before (set marks block false) first (block + 1)
   blocks_more new on same_length cleared kept = record {
     same_length = same_length ∙ so_far.same_length;
     as_many = length-set marks block false ∙ so_far.as_many;
-    marked = λ c. elim (cases_eq (c / 16) block) [
+    marked = λ c. elim (cases_eq (c / 4) block) [
       | inl same ↦ or_right _ _ (ap is_none (gone c same))
-      | inr other ↦ rw (get_or-set_other marks block (c / 16) false false other) (still_marked (get_or marks (c / 16) false) (label_of now c) (label_of new c) (so_far.marked c) (kept c))
+      | inr other ↦ rw (get_or-set_other marks block (c / 4) false false other) (still_marked (get_or marks (c / 4) false) (label_of now c) (label_of new c) (so_far.marked c) (kept c))
     ];
     done = λ b from to. elim (cases_eq b block) [
       | inl same ↦ get_or-set_at marks block b false false same on
@@ -107,7 +109,7 @@ module _ (old now : List (Option Label)) (before marks : List Bool) (first block
     ];
   }
     where
-      gone : (c : ℕ) → c / 16 ≡ block → label_of new c ≡ None
+      gone : (c : ℕ) → c / 4 ≡ block → label_of new c ≡ None
       gone c same = elim (cases_lt c (length now)) [
         | inl here ↦ cleared c (omega arith) (omega arith) here
         | inr past ↦ get_or_past new c None (omega arith)
@@ -187,11 +189,11 @@ module _ (known₀ known : List (Option Label)) (marks₀ marks groups₀ groups
       still true b h = refl
       still false b h = ap not (kept b (not-true (mark_of marks b) h))
 
-  pub groups_all : length groups ≤ group → length groups₀ ≡ length marks₀ / 16 + 1 → length marks₀ ≡ length known₀ / 16 + 1 → (c : ℕ) → label_of known c ≡ None
+  pub groups_all : length groups ≤ group → length groups₀ ≡ length marks₀ / 16 + 1 → length marks₀ ≡ length known₀ / 4 + 1 → (c : ℕ) → label_of known c ≡ None
   groups_all over gathered counted c =
       elim (cases_lt c (length known)) [
         | inl on ↦
-            let mark = ungrouped marks groups (c / 16 / 16) so_far.grouped (so_far.done (c / 16 / 16) (omega (arith, on, over, gathered, counted, so_far.same_length, so_far.as_many, so_far.as_many_groups))) (c / 16) refl in
-            unmarked known marks (c / 16) so_far.marked mark c refl
+            let mark = ungrouped marks groups (c / 4 / 16) so_far.grouped (so_far.done (c / 4 / 16) (omega (arith, on, over, gathered, counted, so_far.same_length, so_far.as_many, so_far.as_many_groups))) (c / 4) refl in
+            unmarked known marks (c / 4) so_far.marked mark c refl
         | inr past ↦ get_or_past known c None past
       ]

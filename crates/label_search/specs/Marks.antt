@@ -7,7 +7,7 @@ mark_of marks b = slice_index_or marks b false
 
 -- a cell of a block that isn't marked has nothing
 abbrev pub AreMarked : {A : Type 0} → List (Option A) → List Bool → Type 0
-AreMarked known marks = (c : ℕ) → IsTrue (slice_index_or marks (c / 16) false || is_none (slice_index_or known c None))
+AreMarked known marks = (c : ℕ) → IsTrue (slice_index_or marks (c / 4) false || is_none (slice_index_or known c None))
 
 -- a block of a group that isn't marked isn't marked
 abbrev pub AreGrouped : List Bool → List Bool → Type 0

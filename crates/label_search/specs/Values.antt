@@ -1,5 +1,5 @@
 -- Which values does a search hand out?
-use Rattle.std.specs.Prelude.{◌≡◌, ℕ, suc, ◌↔◌, nat_lt, if◌then◌else◌, List, [], ◌∷◌, length, map, Option, Some, None, slice_index_or}
+use Rattle.std.specs.Prelude.{◌≡◌, ℕ, suc, ◌↔◌, ◌≤◌, nat_lt, if◌then◌else◌, List, [], ◌∷◌, length, map, take, Option, Some, None, slice_index_or}
 use Rattle.label_core.specs.Walks.{Network, Start, IsEarliestExit}
 use Rattle.label_core.specs.BackwardWalks.{Finish, IsLatestEntry}
 use Rattle.label_core.specs.Tables.{IsBelow}
@@ -38,3 +38,13 @@ value_kept (Some b) (Some l) = if nat_lt l.value b then Some l.value else None
 
 abbrev pub values_kept : Option ℕ → List (Option Label) → List (Option ℕ)
 values_kept bound known = map (value_kept bound) known
+
+-- ---- handing values out while labels are taken away
+
+-- from one cell on the labels are as before
+abbrev pub AreAsBeforeFrom : ℕ → List (Option Label) → List (Option Label) → Type 0
+AreAsBeforeFrom first old now = (c : ℕ) → first ≤ c → slice_index_or now c None ≡ slice_index_or old c None
+
+-- the rows are those of the values that are kept of the first n labels
+abbrev pub AreRowsTo : Option ℕ → List (Option Label) → ℕ → List CellValue → Type 0
+AreRowsTo bound all n rows = rows ≡ rows_from 0 (take n (values_kept bound all))

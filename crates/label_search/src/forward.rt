@@ -68,7 +68,7 @@ pub fn earliest_exits<C: ForwardCells>(
     begin(cells, labels);
     let goal = settle(cells, labels);
     let route = route_to(alloc, cells, labels, goal)?;
-    let values = labels.values_below(alloc, end_of_goal(goal))?;
+    let values = labels.take_values(alloc, end_of_goal(goal))?;
     Ok(Found { values, route })
 }
 

@@ -20,7 +20,7 @@ pub(crate) struct Labels {
     pub(crate) queue: LabelQueue,
     pub(crate) marks: Vec<bool>,
     pub(crate) groups: Vec<bool>,
-    ghost blocks: { length marks.items ≡ length known.items / 16 + 1 },
+    ghost blocks: { length marks.items ≡ length known.items / 4 + 1 },
     ghost marked: { AreMarked known.items marks.items },
     ghost gathered: { length groups.items ≡ length marks.items / 16 + 1 },
     ghost grouped: { AreGrouped marks.items groups.items },

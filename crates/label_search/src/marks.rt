@@ -4,11 +4,11 @@ ghost use Rattle.label_search.specs.Labels.{label_of};
 ghost use Rattle.label_search.specs.Marks.{mark_of, AreMarked, AreGrouped};
 
 use crate::labels::Label;
-use crate::offering::BLOCK;
+use crate::offering::{BLOCK, GROUP};
 
 /// Takes all labels away. Each is in a block that is marked, and that in a group that is marked.
 pub(crate) fn clear_marked(known: &mut [Option<Label>], marks: &mut [bool], groups: &mut [bool])
-    requires blocks { length marks.old ≡ length known.old / 16 + 1 }
+    requires blocks { length marks.old ≡ length known.old / 4 + 1 }
     requires gathered { length groups.old ≡ length marks.old / 16 + 1 }
     requires marked { AreMarked known.old marks.old }
     requires grouped { AreGrouped marks.old groups.old }
@@ -22,8 +22,8 @@ pub(crate) fn clear_marked(known: &mut [Option<Label>], marks: &mut [bool], grou
     let count = marks.len();
     for group in 0..groups.len() {
         if groups[group] {
-            let first = group * BLOCK;
-            clear_blocks(known, marks, first, count.min(first + BLOCK));
+            let first = group * GROUP;
+            clear_blocks(known, marks, first, count.min(first + GROUP));
             groups[group] = false;
         }
     }
@@ -32,7 +32,7 @@ pub(crate) fn clear_marked(known: &mut [Option<Label>], marks: &mut [bool], grou
 /// Takes the labels of some blocks away.
 fn clear_blocks(known: &mut [Option<Label>], marks: &mut [bool], first: usize, until: usize)
     requires inside { until ≤ length marks.old }
-    requires blocks { length marks.old ≡ length known.old / 16 + 1 }
+    requires blocks { length marks.old ≡ length known.old / 4 + 1 }
     requires marked { AreMarked known.old marks.old }
     ensures known { length known.new ≡ length known.old }
     ensures marks { length marks.new ≡ length marks.old }
@@ -51,12 +51,13 @@ fn clear_blocks(known: &mut [Option<Label>], marks: &mut [bool], first: usize, u
 }
 
 /// Takes the labels of some cells away.
-fn clear_run(known: &mut [Option<Label>], first: usize, until: usize)
+pub(crate) fn clear_run(known: &mut [Option<Label>], first: usize, until: usize)
     requires order { first ≤ until }
     requires inside { until ≤ length known.old }
     ensures length { length known.new ≡ length known.old }
     ensures cleared { (c : ℕ) → first ≤ c → c < until → label_of known.new c ≡ None }
     ensures others { (c : ℕ) → label_of known.old c ≡ None → label_of known.new c ≡ None }
+    ensures rest { (c : ℕ) → until ≤ c → label_of known.new c ≡ label_of known.old c }
 {
     for cell in first..until {
         known[cell] = None;

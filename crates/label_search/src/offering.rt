@@ -7,13 +7,16 @@ ghost use Rattle.label_search.specs.Values.{rows_from, values_kept};
 
 use crate::labels::{Label, Labels};
 use crate::marks::clear_marked;
-use crate::values::{CellValue, push_blocks};
+use crate::values::{CellValue, take_marked};
 use label_queue::LabelQueue;
 use std::alloc::Global;
 use taxi_base::Memory;
 
-/// How many cells share a mark, and how many blocks that of a group.
-pub(crate) const BLOCK: usize = 16;
+/// How many cells share a mark. Few, since most blocks have one label.
+pub(crate) const BLOCK: usize = 4;
+
+/// How many blocks share the mark of a group.
+pub(crate) const GROUP: usize = 16;
 
 impl Labels {
     /// No label yet, with room for so many cells.
@@ -25,7 +28,7 @@ impl Labels {
             known: Vec::from_elem(alloc, None, count)?,
             queue: LabelQueue::new(alloc, count)?,
             marks: Vec::from_elem(alloc, false, count / BLOCK + 1)?,
-            groups: Vec::from_elem(alloc, false, (count / BLOCK + 1) / BLOCK + 1)?,
+            groups: Vec::from_elem(alloc, false, (count / BLOCK + 1) / GROUP + 1)?,
         })
     }
 
@@ -75,34 +78,28 @@ impl Labels {
         ensures queue { self.new.queue ≡ self.old.queue }
     {
         let block = cell / BLOCK;
-        self.groups[block / BLOCK] = true;
+        self.groups[block / GROUP] = true;
         self.marks[block] = true;
         self.known[cell] = Some(label);
     }
 
-    /// The values below the bound, or all where there is none, by cell.
-    pub(crate) fn values_below(
-        &self,
+    /// The values below the bound, or all where there is none, by cell. All labels are taken away with them, so that the next
+    /// search finds none.
+    pub(crate) fn take_values(
+        &mut self,
         alloc: Global,
         bound: Option<u32>,
     ) -> Result<Vec<CellValue>, Memory>
-        ensures { IfOk result (λ values. values.items ≡ rows_from 0 (values_kept bound self.now.known.items)) }
+        ensures { IfOk result (λ values. values.items ≡ rows_from 0 (values_kept bound self.old.known.items)) }
     {
         let mut values = Vec::new(alloc);
-        let count = self.marks.len();
-        for group in 0..self.groups.len() {
-            if self.groups[group] {
-                let first = group * BLOCK;
-                push_blocks(
-                    &mut values,
-                    &self.known,
-                    &self.marks,
-                    bound,
-                    first,
-                    count.min(first + BLOCK),
-                )?;
-            }
-        }
+        take_marked(
+            &mut values,
+            &mut self.known,
+            &mut self.marks,
+            &mut self.groups,
+            bound,
+        )?;
         Ok(values)
     }
 }

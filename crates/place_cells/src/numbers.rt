@@ -54,9 +54,15 @@ impl CellNumbers {
         if self.first.len() != arcs + 1 {
             return false;
         }
-        for arc in 0..arcs {
-            let windows = store.spans(Segment((arc / 2) as u32)).len();
-            if self.first[arc + 1] - self.first[arc] < windows {
+        for segment in 0..arcs / 2 {
+            let windows = store.spans(Segment(segment as u32)).len();
+            let there = self.first[2 * segment];
+            let back = self.first[2 * segment + 1];
+            let end = self.first[2 * segment + 2];
+            if back - there < windows {
+                return false;
+            }
+            if end - back < windows {
                 return false;
             }
         }

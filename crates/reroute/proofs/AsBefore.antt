@@ -16,21 +16,22 @@ KeepsNodes-again a b d first second = record {
 }
 
 module _ (airport : Airport) (old new : Book) (fits : Fits airport old) (unlifted : old.lifted ≡ None) where
-  pub as-before : new.flights ≡ old.flights → new.lifted ≡ None → new.room ≡ old.room → KeepsNodes old.store new.store → Fits airport new → IsAsBefore airport old new
-  as-before flights lowered room kept fits_new =
+  pub as-before : new.state ≡ old.state → new.lifted ≡ None → new.room ≡ old.room → new.party_room ≡ old.party_room → KeepsNodes old.store new.store → Fits airport new → IsAsBefore airport old new
+  as-before state lowered room party_room kept fits_new =
       let lifted : new.lifted ≡ old.lifted = lowered ∙ sym unlifted in
       record {
-        flights = flights;
+        state = state;
         unlifted = lowered;
-        windows = same-windows airport new old fits_new fits flights lifted;
+        windows = same-windows airport new old fits_new fits state lifted;
         room = room;
+        party_room = party_room;
         nodes = kept;
         prepared = λ steps prepared. record {
           flight = omega (arith, prepared.flight, room);
           windows = λ segment on.
               let was : segment.0 < length old.store.lists = subst (λ n. segment.0 < n) kept.lists on in
               let known : segment.0 < length airport.segments = subst (λ n. segment.0 < n) fits.lists was in
-              omega (arith, prepared.windows segment was, kept.nodes segment was, same-numbers airport new old fits_new fits flights lifted segment known);
+              omega (arith, prepared.windows segment was, kept.nodes segment was, same-numbers airport new old fits_new fits state lifted segment known);
         };
         fits = fits_new;
       }

@@ -36,13 +36,14 @@ pub record IsFoundAnew (c : Conditions) (flight : Flight) (time : ℕ) (to : Opt
   pub best : IsBestAgain c flight.steps time target flight.request found
   pub no_worse : to ≡ None → IsNoWorse flight.request flight.steps found
 
--- A ledger is as before: its flights, none of them lifted, and its windows as lists of from and until. It fits, and what there
--- was room for there is room for still.
+-- A ledger is as before: its flights and parties, none of them lifted, and its windows as lists of from and until. It fits, and
+-- what there was room for there is room for still.
 pub record IsAsBefore (airport : Airport) (old new : Book) : Type 0 where
-  pub flights : new.flights ≡ old.flights
+  pub state : new.state ≡ old.state
   pub unlifted : new.lifted ≡ None
   pub windows : (segment : Segment) → segment.0 < length airport.segments → spans_at new.store segment ≡ spans_at old.store segment
   pub room : new.room ≡ old.room
+  pub party_room : new.party_room ≡ old.party_room
   pub nodes : KeepsNodes old.store new.store
   pub prepared : (steps : List Step) → IsPrepared airport steps old → IsPrepared airport steps new
   pub fits : Fits airport new

@@ -3,7 +3,7 @@ ghost use Rattle.std.specs.Prelude.{◌≡◌, Some, None, MatchOption, IfOk, Is
 ghost use Rattle.std.specs.Option.{ForSome};
 ghost use Rattle.taxi_base.specs.Walks.{Meets};
 ghost use Rattle.taxi_base.specs.State.{flight_named, conditions_of};
-ghost use Rattle.commitments.specs.Book.{Fits, state_of};
+ghost use Rattle.commitments.specs.Book.{Fits};
 ghost use Rattle.reroute.specs.declared.refused.RerouteRefused.TheVariants as refused;
 ghost use Rattle.reroute.specs.Refused.{flight_refusal, again_refusal};
 ghost use Rattle.reroute.specs.Anew.{IsFoundAnew, IsAsBefore};
@@ -28,9 +28,9 @@ pub fn again(
 ) -> Result<Found, RerouteRefused>
     requires fits { Fits airport.now ledger.old }
     requires unlifted { ledger.old.lifted ≡ None }
-    requires meets { ForSome (flight_named name.now ledger.old.flights) (λ flight. Meets (conditions_of airport.now (state_of ledger.old) flight) flight.request flight.steps) }
-    ensures refused { MatchOption (again_refusal ledger.old.flights name.now time to) (IsOkUnless result refused.Memory) (λ why. result ≡ Err why) }
-    ensures found { IfOk result (λ found. IsSomeAnd (flight_named name.now ledger.old.flights) (λ flight. IsFoundAnew (conditions_of airport.now (state_of ledger.old) flight) flight time to found)) }
+    requires meets { ForSome (flight_named name.now ledger.old.state.flights) (λ flight. Meets (conditions_of airport.now ledger.old.state flight) flight.request flight.steps) }
+    ensures refused { MatchOption (again_refusal ledger.old.state.flights name.now time to) (IsOkUnless result refused.Memory) (λ why. result ≡ Err why) }
+    ensures found { IfOk result (λ found. IsSomeAnd (flight_named name.now ledger.old.state.flights) (λ flight. IsFoundAnew (conditions_of airport.now ledger.old.state flight) flight time to found)) }
     ensures as_before { IsAsBefore airport.now ledger.old ledger.new }
 {
     check_again(ledger, name, time, to)?;
@@ -50,9 +50,9 @@ pub fn again_in(
 ) -> Result<Found, RerouteRefused>
     requires fits { Fits airport.now ledger.old }
     requires unlifted { ledger.old.lifted ≡ None }
-    requires meets { ForSome (flight_named name.now ledger.old.flights) (λ flight. Meets (conditions_of airport.now (state_of ledger.old) flight) flight.request flight.steps) }
-    ensures refused { MatchOption (again_refusal ledger.old.flights name.now time to) (IsOkUnless result refused.Memory) (λ why. result ≡ Err why) }
-    ensures found { IfOk result (λ found. IsSomeAnd (flight_named name.now ledger.old.flights) (λ flight. IsFoundAnew (conditions_of airport.now (state_of ledger.old) flight) flight time to found)) }
+    requires meets { ForSome (flight_named name.now ledger.old.state.flights) (λ flight. Meets (conditions_of airport.now ledger.old.state flight) flight.request flight.steps) }
+    ensures refused { MatchOption (again_refusal ledger.old.state.flights name.now time to) (IsOkUnless result refused.Memory) (λ why. result ≡ Err why) }
+    ensures found { IfOk result (λ found. IsSomeAnd (flight_named name.now ledger.old.state.flights) (λ flight. IsFoundAnew (conditions_of airport.now ledger.old.state flight) flight time to found)) }
     ensures as_before { IsAsBefore airport.now ledger.old ledger.new }
 {
     check_again(ledger, name, time, to)?;
@@ -66,7 +66,7 @@ fn check_again(
     time: Time,
     to: Option<Node>,
 ) -> Result<(), RerouteRefused>
-    ensures { MatchOption (again_refusal ledger.now.flights name.now time to) (IsOk result) (λ why. result ≡ Err why) }
+    ensures { MatchOption (again_refusal ledger.now.state.flights name.now time to) (IsOk result) (λ why. result ≡ Err why) }
 {
     // The ledger keeps that each flight has a step.
     let _flights = ledger.count();
@@ -91,9 +91,9 @@ fn find_lifted(
 ) -> Result<Found, Memory>
     requires fits { Fits airport.now ledger.old }
     requires unlifted { ledger.old.lifted ≡ None }
-    requires may { IsSomeAnd (flight_named name.now ledger.old.flights) (λ flight. flight_refusal time (is_some to) flight ≡ None) }
-    requires meets { ForSome (flight_named name.now ledger.old.flights) (λ flight. Meets (conditions_of airport.now (state_of ledger.old) flight) flight.request flight.steps) }
-    ensures found { IfOk result (λ found. IsSomeAnd (flight_named name.now ledger.old.flights) (λ flight. IsFoundAnew (conditions_of airport.now (state_of ledger.old) flight) flight time to found)) }
+    requires may { IsSomeAnd (flight_named name.now ledger.old.state.flights) (λ flight. flight_refusal time (is_some to) flight ≡ None) }
+    requires meets { ForSome (flight_named name.now ledger.old.state.flights) (λ flight. Meets (conditions_of airport.now ledger.old.state flight) flight.request flight.steps) }
+    ensures found { IfOk result (λ found. IsSomeAnd (flight_named name.now ledger.old.state.flights) (λ flight. IsFoundAnew (conditions_of airport.now ledger.old.state flight) flight time to found)) }
     ensures as_before { IsAsBefore airport.now ledger.old ledger.new }
 {
     ledger.lift(airport, name);

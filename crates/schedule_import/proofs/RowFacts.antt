@@ -46,7 +46,7 @@ named word name e = go (cases_Bool (is_name word))
     go (inl it_is) = let same : word ≡ name = cc (rw it_is at e) in subst (λ w. is_name w ≡ true) same it_is
     go (inr fails) = absurd (cc (rw fails at e))
 
-number_of-short : (word : List ℕ) (n : ℕ) → number_of word ≡ Some n → n < 10 ^ 7
+pub number_of-short : (word : List ℕ) (n : ℕ) → number_of word ≡ Some n → n < 10 ^ 7
 number_of-short word n e = go (cases_Bool (is_number word))
   where
     go : (is_number word ≡ true) ⊎ (is_number word ≡ false) → n < 10 ^ 7

@@ -6,24 +6,29 @@ use Rattle.taxi_io.specs.Counts.{Rose}
 use Rattle.taxi_io.specs.declared.trouble.Trouble.{Trouble}
 use Rattle.taxi_io.specs.declared.trouble.Trouble.TheVariants as trouble
 use Rattle.taxi_cli.specs.declared.status.Status.{Status}
-use Rattle.taxi_cli.specs.declared.status.Status.TheVariants.{Done, AirportRefused, ReadFault, TooLarge, Wrong}
+use Rattle.taxi_cli.specs.declared.status.Status.TheVariants.{Done, AirportRefused, ReadFault, TooLarge, Wrong, ScheduleRefused}
 use Rattle.taxi_io.proofs.Pieces.{grew-nothing}
-use Rattle.taxi_cli.specs.Lines.{refusal_line, read_fault_line, too_large_line, ok_line, wrong_line}
-use Rattle.taxi_cli.specs.Runs.{transcript}
+use Rattle.taxi_cli.specs.Lines.{refusal_line, read_fault_line, too_large_line, ok_line, wrong_line, first_row_line, bad_start_line}
+use Rattle.transcripts.specs.Runs.{transcript}
 use Rattle.taxi_io.specs.Files.{Files}
-use Rattle.taxi_cli.specs.Stops.{IsCauseOfAirport, IsCause, StopsWith}
+use Rattle.taxi_cli.specs.Stops.{IsCauseOfAirport, IsCause, StopsWith, RefusesWith}
 use Rattle.taxi_cli.specs.declared.words.Asked.{Asked as LentAsked}
 use Rattle.taxi_cli.specs.LentWords.{asked_for, asked_as}
 use Rattle.taxi_cli.specs.declared.inputs.Stop.{Stop}
 use Rattle.taxi_cli.specs.declared.inputs.Stop.TheVariants as stop
-use Rattle.taxi_cli.specs.Asked.{FileNames, Asked, Route, Check, Migrate, asked_by}
-use Rattle.taxi_cli.specs.declared.failure.Failure.{Failure}
-use Rattle.taxi_cli.specs.declared.checking.Verdict.TheVariants as verdict
-use Rattle.taxi_cli.specs.Verdicts.{IsVerdict}
-use Rattle.taxi_cli.specs.Outcomes.{AreAccepted, AreToCheck}
+use Rattle.taxi_cli.specs.Asked.{FileNames, Traffic, Asked, Route, Check, Generate, Migrate, Import, asked_by}
+use Rattle.schedule_import.specs.declared.import.ScheduleRefused.{ScheduleRefused as WhyRefused}
+use Rattle.schedule_import.specs.declared.import.ScheduleRefused.TheVariants as why
+use Rattle.generated_run.specs.declared.summary.Summary.{Summary}
+use Rattle.generated_run.specs.Summaries.{IsSummary, six_lines}
+use Rattle.schedule_import.specs.Schedule.{import_of}
+use Rattle.transcript_check.specs.declared.failure.Failure.{Failure}
+use Rattle.transcript_check.specs.declared.checking.Verdict.TheVariants as verdict
+use Rattle.transcript_check.specs.Verdicts.{IsVerdict}
+use Rattle.taxi_cli.specs.Outcomes.{AreAccepted, AreToCheck, IsTooLarge}
+use Rattle.taxi_cli.specs.Halts.{IsFaultText, IsLargeText}
 use Rattle.taxi_cli.specs.Endings.{Call, IsDueText, IsWhole, Ends}
 use Rattle.taxi_cli.specs.LastLine.{status_after, IsWriting, EndsWith}
-use Rattle.taxi_cli.specs.WrittenRuns.{IsWrittenRun}
 
 -- the writing of the text that is due ends the call
 pub writing-ends : (call : Call) (asked : Option Asked) (whole : Status) (text : List ℕ) (written : Result (Unit {0}) Trouble)
@@ -39,15 +44,6 @@ pub last-ends : (call : Call) (asked : Option Asked) (whole : Status) (text line
     → Ends call asked status
 last-ends call asked whole text line status due same ends as_whole =
     rw ends.2 (writing-ends call asked whole line ends.0 (rw same due) ends.1 as_whole)
-
--- the writing of a run's transcript, at an airport and of commands that are accepted, ends the call
-pub run-ends : (call : Call) (names : FileNames) (at airport : Airport) (text commands : List ℕ) (written : Result (Unit {0}) Trouble) (status : Status)
-    → AreAccepted call.files names airport commands → at ≡ airport → text ≡ commands → IsWrittenRun at (commands_of text) call.taken written
-    → (IsErrOf written trouble.Failed → Rose call.writes.0 call.writes.1) → status ≡ status_after written Done → Ends call (Some (Route names)) status
-run-ends call names at airport text commands written status accepted same_airport same_text run failed ends =
-    rw ends (writing-ends call (Some (Route names)) Done (transcript at run.blocks) written
-    (record { airport = at; commands = text; accepted = rw (same_airport, same_text) accepted; blocks = run.blocks; after = run.after; run = run.run; whole = refl })
-    (record { whole = run.whole; front = run.front; failed = failed }) (λ whole. whole))
 
 -- the writing of what a check finds ends the call
 pub right-ends : (call : Call) (names : FileNames) (transcript : List ℕ) (airport : Airport) (commands bytes : List ℕ) (count : ℕ) (line : List ℕ) (status : Status)
@@ -75,14 +71,64 @@ wrong-ends call names transcript airport commands bytes number why line status f
     (record { airport = airport; commands = commands; bytes = bytes; files = files; number = number; why = why; wrong = wrong; whole = refl })
     same ends (λ whole. whole)
 
+-- the writing of what comes of made traffic ends the call
+pub generate-ends : (call : Call) (traffic : Traffic) (summary : Summary) (line : List ℕ) (status : Status)
+    → IsSummary traffic.number traffic.side traffic.flights summary → line ≡ six_lines summary → EndsWith line Done call.writes call.taken status
+    → Ends call (Some (Generate traffic)) status
+generate-ends call traffic summary line status comes_to same ends =
+    last-ends call (Some (Generate traffic)) Done (six_lines summary) line status
+    (record { summary = summary; comes_to = comes_to; whole = refl }) same ends (λ whole. whole)
+
+-- the writing of what a schedule comes to ends the call
+pub import-ends : (call : Call) (names : FileNames) (airport : Airport) (schedule text line : List ℕ) (status : Status)
+    → AreAccepted call.files names airport schedule → import_of airport schedule ≡ Ok text → line ≡ text → EndsWith line Done call.writes call.taken status
+    → Ends call (Some (Import names)) status
+import-ends call names airport schedule text line status accepted comes_to same ends =
+    last-ends call (Some (Import names)) Done text line status
+    (record { airport = airport; schedule = schedule; accepted = accepted; comes_to = comes_to }) same ends (λ whole. whole)
+
+-- and so does that of the line that says why it is refused
+pub schedule-ends : (call : Call) (names : FileNames) (airport : Airport) (schedule : List ℕ) (refused : WhyRefused) (status : Status)
+    → AreAccepted call.files names airport schedule → (refused ≡ why.FirstRow → import_of airport schedule ≡ Err why.FirstRow)
+    → (refused ≡ why.BadStart → import_of airport schedule ≡ Err why.BadStart) → RefusesWith refused call.writes call.taken status
+    → Ends call (Some (Import names)) status
+schedule-ends call names airport schedule why.FirstRow status accepted first second refuses =
+    last-ends call (Some (Import names)) ScheduleRefused first_row_line _ status
+    (inl (record { airport = airport; schedule = schedule; accepted = accepted; comes_to = first refl }, refl)) refl refuses (λ whole. whole)
+schedule-ends call names airport schedule why.BadStart status accepted first second refuses =
+    last-ends call (Some (Import names)) ScheduleRefused bad_start_line _ status
+    (inr (record { airport = airport; schedule = schedule; accepted = accepted; comes_to = second refl }, refl)) refl refuses (λ whole. whole)
+schedule-ends call names airport schedule why.Memory status accepted first second refuses = rw refuses.0 (inl (rw refuses.1 (grew-nothing call.taken.0)))
+
+-- a verb whose files are read whole before anything is written
+abbrev pub ReadsWhole : Asked → Type 0
+ReadsWhole (Route names) = ⊥
+ReadsWhole asked = Unit {0}
+
+fault-line : (told : Option Files) (asked : Asked) → IsFaultText told asked read_fault_line
+fault-line told (Route names) = inl refl
+fault-line told (Check names transcript) = refl
+fault-line told (Generate traffic) = refl
+fault-line told (Migrate airport) = refl
+fault-line told (Import names) = refl
+
+large-line : (told : Option Files) (asked : Asked) → ReadsWhole asked → IsTooLarge told asked → IsLargeText told asked too_large_line
+large-line told (Route names) whole large = absurd whole
+large-line told (Check names transcript) whole large = (large, refl)
+large-line told (Generate traffic) whole large = absurd large
+large-line told (Migrate airport) whole large = (large, refl)
+large-line told (Import names) whole large = (large, refl)
+
 -- what stopped the reading ends the call
-pub stop-ends : (call : Call) (asked : Asked) (why : Stop) (status : Status)
+pub stop-ends : (call : Call) (asked : Asked) (why : Stop) (status : Status) → ReadsWhole asked
     → IsCause call.files asked call.reads why → StopsWith why call.writes call.taken status → Ends call (Some asked) status
-stop-ends call asked (stop.Refused at why) status cause stops =
+stop-ends call asked (stop.Refused at why) status whole cause stops =
     last-ends call (Some asked) AirportRefused (refusal_line (record { at = at; why = why })) _ status (record { at = at; why = why }, cause, refl) refl stops (λ whole. whole)
-stop-ends call asked stop.ReadFault status cause stops = last-ends call (Some asked) ReadFault read_fault_line _ status (cause, refl) refl stops (λ whole. whole)
-stop-ends call asked stop.TooLarge status cause stops = last-ends call (Some asked) TooLarge too_large_line _ status (cause, refl) refl stops (λ whole. whole)
-stop-ends call asked stop.Memory status cause stops = rw stops.0 (inl (rw stops.1 (grew-nothing call.taken.0)))
+stop-ends call asked stop.ReadFault status whole cause stops =
+    last-ends call (Some asked) ReadFault read_fault_line _ status (cause, fault-line call.files asked) refl stops (λ whole. whole)
+stop-ends call asked stop.TooLarge status whole cause stops =
+    last-ends call (Some asked) TooLarge too_large_line _ status (large-line call.files asked whole cause) refl stops (λ whole. whole)
+stop-ends call asked stop.Memory status whole cause stops = rw stops.0 (inl (rw stops.1 (grew-nothing call.taken.0)))
 
 -- what stops the reading of an airport file that is to be written anew stops the call
 pub cause-of_airport : (told : Option Files) (name : List ℕ) (faults : ℕ × ℕ) (why : Stop) → IsCauseOfAirport told name faults why → IsCause told (Migrate name) faults why
@@ -96,3 +142,11 @@ pub asked-ends : (call : Call) (words : List (List ℕ)) (lent : LentAsked) (ask
     → asked_as (Some lent) ≡ asked_by words → asked_for lent ≡ asked → Ends call (Some asked) status → Ends call (asked_by words) status
 asked-ends call words lent asked status by same ends =
     subst (λ (o : Option Asked). Ends call o status) (ap (λ (a : Asked). Some a) (sym same) ∙ by) ends
+
+-- the words ask for one thing
+pub one-asked : (words : List (List ℕ)) (lent : LentAsked) (asked other : Asked) → asked_as (Some lent) ≡ asked_by words → asked_for lent ≡ asked
+    → asked_by words ≡ Some other → asked ≡ other
+one-asked words lent asked other by same is =
+    let one : Some (asked_for lent) ≡ Some other = by ∙ is in
+    let two : asked_for lent ≡ other = cc one in
+    sym same ∙ two

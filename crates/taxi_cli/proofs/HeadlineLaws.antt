@@ -33,12 +33,13 @@ use Rattle.certificate.proofs.BestLaws.{passed-best}
 use Rattle.taxi_cli.specs.declared.status.Status.{Status}
 use Rattle.taxi_cli.specs.declared.status.Status.TheVariants as status
 use Rattle.taxi_cli.specs.Asked.{FileNames, Asked, Route}
-use Rattle.taxi_cli.specs.Runs.{InTurn, IsRun, blocks_text, done_line, transcript}
-use Rattle.taxi_cli.specs.Checks.{IsPassedRun}
+use Rattle.transcripts.specs.Runs.{InTurn, IsRun, blocks_text, done_line, transcript}
+use Rattle.transcript_check.specs.Checks.{IsPassedRun}
+use Rattle.taxi_cli.proofs.DueLaws.{large-is}
 use Rattle.taxi_cli.specs.Outcomes.{airport_limit, commands_limit, IsJudged, AreAccepted, IsTranscript, IsRunTooLarge}
 use Rattle.taxi_cli.specs.Endings.{Call, IsDueText, IsCutShort, Ends}
 use Rattle.taxi_cli.specs.Headline.{TellsNoRoute, IsBestWalk, AnswersCommand, AnswersAll, IsWholeAnswer, Headline}
-use Rattle.taxi_cli.proofs.RunLaws.{none-sound, run-over}
+use Rattle.transcripts.proofs.RunLaws.{none-sound, run-over}
 
 -- ---- one command
 
@@ -200,8 +201,9 @@ due-transcript call names files airport commands told accepted no_rise status.Re
 due-transcript call names files airport commands told accepted no_rise status.WriteFault text due = absurd due
 due-transcript call names files airport commands told accepted no_rise status.Memory text due = absurd due
 due-transcript call names files airport commands told accepted no_rise status.TooLarge text due =
-    absurd (not-large files names airport commands accepted (subst (λ t. IsRunTooLarge t names) told due.0))
+    absurd (not-large files names airport commands accepted (subst (λ t. IsRunTooLarge t names) told (large-is call.files (Route names) text due)))
 due-transcript call names files airport commands told accepted no_rise status.Wrong text due = absurd due
+due-transcript call names files airport commands told accepted no_rise status.ScheduleRefused text due = absurd due
 
 cut-answer : (call : Call) (names : FileNames) (files : Files) (airport : Airport) (commands : List ℕ) → call.files ≡ Some files
     → AreAccepted (Some files) names airport commands → (Rose call.reads.0 call.reads.1 → ⊥) → IsCutShort call (Some (Route names))
@@ -246,6 +248,7 @@ told-ends call names files airport commands told accepted as_told no_rise status
 told-ends call names files airport commands told accepted as_told no_rise status.TooLarge ends =
     inl (due-transcript call names files airport commands told accepted no_rise status.TooLarge ends.0 ends.1).0
 told-ends call names files airport commands told accepted as_told no_rise status.Wrong ends = absurd ends.1
+told-ends call names files airport commands told accepted as_told no_rise status.ScheduleRefused ends = absurd ends.1
 
 pub headline-is : (call : Call) (names : FileNames) (ended : Status) → Ends call (Some (Route names)) ended → Headline call names ended
 headline-is call names ended ends = record {

@@ -7,7 +7,7 @@ use Rattle.taxi_io.specs.declared.trouble.ReadRefused.{ReadRefused}
 use Rattle.taxi_io.specs.declared.trouble.ReadRefused.TheVariants as refused
 use Rattle.taxi_cli.specs.declared.inputs.Stop.{Stop}
 use Rattle.taxi_cli.specs.declared.inputs.Stop.TheVariants as stop
-use Rattle.taxi_cli.specs.Asked.{FileNames, Route, Check, Migrate}
+use Rattle.taxi_cli.specs.Asked.{FileNames, Route, Check, Migrate, Import}
 use Rattle.taxi_cli.specs.Outcomes.{commands_limit, transcript_limit, IsJudged, AreAccepted}
 use Rattle.taxi_cli.specs.Stops.{stop_for, IsCause, IsCauseOfAirport}
 
@@ -31,6 +31,13 @@ run_cause told names transcript faults (stop.Refused at why) cause = cause
 run_cause told names transcript faults stop.ReadFault cause = cause
 run_cause told names transcript faults stop.TooLarge cause = inl cause
 run_cause told names transcript faults stop.Memory cause = cause
+
+-- and that of an import
+pub import_cause : (told : Option Files) (names : FileNames) (faults : ℕ × ℕ) (why : Stop) → IsCause told (Route names) faults why → IsCause told (Import names) faults why
+import_cause told names faults (stop.Refused at why) cause = cause
+import_cause told names faults stop.ReadFault cause = cause
+import_cause told names faults stop.TooLarge cause = cause
+import_cause told names faults stop.Memory cause = cause
 
 pub transcript_cause : (told : Option Files) (names : FileNames) (transcript : List ℕ) (airport : Airport) (commands : List ℕ) (why : ReadRefused) (before between after : ℕ)
     → AreAccepted told names airport commands → (why ≡ refused.TooLarge → IsLonger told transcript transcript_limit)

@@ -1,8 +1,5 @@
-pub mod RunLaws
-pub mod SoFar
-pub mod CheckLaws
 pub mod EndingLaws
 pub mod InputLaws
 pub mod DueLaws
 pub mod HeadlineLaws
-pub mod OneVerdict
+pub mod RunEndings

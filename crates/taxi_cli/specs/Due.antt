@@ -5,11 +5,13 @@ use Rattle.taxi_text.specs.Lines.{commands_of}
 use Rattle.taxi_io.specs.Files.{Files, file_of}
 use Rattle.airport_file.specs.Reading.{RecordFault, airport_of}
 use Rattle.certificate.specs.declared.block.Block.{Block}
-use Rattle.taxi_cli.specs.declared.failure.Failure.{Failure}
+use Rattle.schedule_import.specs.declared.import.ScheduleRefused.{ScheduleRefused as WhyRefused}
+use Rattle.schedule_import.specs.Schedule.{import_of}
+use Rattle.transcript_check.specs.declared.failure.Failure.{Failure}
 use Rattle.taxi_cli.specs.declared.status.Status.{Status}
-use Rattle.taxi_cli.specs.declared.status.Status.TheVariants.{Done, Usage, AirportRefused, TooLarge, Wrong}
-use Rattle.taxi_cli.specs.Asked.{FileNames, Asked, Route, Check, Migrate}
-use Rattle.taxi_cli.specs.Checks.{IsRight, IsWrongAt}
+use Rattle.taxi_cli.specs.declared.status.Status.TheVariants.{Done, Usage, AirportRefused, TooLarge, Wrong, ScheduleRefused}
+use Rattle.taxi_cli.specs.Asked.{FileNames, Asked, Route, Check, Generate, Migrate, Import}
+use Rattle.transcript_check.specs.Checks.{IsRight, IsWrongAt}
 use Rattle.taxi_cli.specs.Outcomes.{airport_limit, commands_limit, transcript_limit}
 
 -- What is due of a file, by its limit and by what is due of its bytes within it: a file of more bytes is too large. Nothing is due
@@ -32,16 +34,22 @@ IsDueOfTranscript airport commands text due =
     (((blocks : List Block) × IsRight airport commands text blocks) × (due ≡ Done))
     ⊎ (((number : ℕ) × (why : Failure) × IsWrongAt airport commands text number why) × (due ≡ Wrong))
 
--- of the two files of a run, by what is due where both are accepted
-abbrev pub IsDueOfRun : Files → FileNames → (Airport → List (List ℕ) → Type 0) → Status → Type 0
+-- what is due of a schedule, by what it comes to
+abbrev pub IsDueOfImport : Result (List ℕ) WhyRefused → Status → Type 0
+IsDueOfImport (Ok text) due = due ≡ Done
+IsDueOfImport (Err why) due = due ≡ ScheduleRefused
+
+-- of the two files of a run or an import, by what is due where the airport is accepted, of the bytes of the other within its limit
+abbrev pub IsDueOfRun : Files → FileNames → (Airport → List ℕ → Type 0) → Status → Type 0
 IsDueOfRun files names Accepted due =
-    IsDueOfAirport (file_of files names.airport)
-    (λ airport. IsDueOfFile (file_of files names.commands) commands_limit (λ commands. Accepted airport (commands_of commands)) due) due
+    IsDueOfAirport (file_of files names.airport) (λ airport. IsDueOfFile (file_of files names.commands) commands_limit (Accepted airport) due) due
 
 abbrev pub IsDueOf : Files → Option Asked → Status → Type 0
 IsDueOf files None due = due ≡ Usage
 IsDueOf files (Some (Route names)) due = IsDueOfRun files names (λ airport commands. due ≡ Done) due
 IsDueOf files (Some (Check names transcript)) due =
     IsDueOfRun files names
-    (λ airport commands. IsDueOfFile (file_of files transcript) transcript_limit (λ text. IsDueOfTranscript airport commands text due) due) due
+    (λ airport commands. IsDueOfFile (file_of files transcript) transcript_limit (λ text. IsDueOfTranscript airport (commands_of commands) text due) due) due
+IsDueOf files (Some (Generate traffic)) due = due ≡ Done
 IsDueOf files (Some (Migrate airport)) due = IsDueOfAirport (file_of files airport) (λ airport. due ≡ Done) due
+IsDueOf files (Some (Import names)) due = IsDueOfRun files names (λ airport schedule. IsDueOfImport (import_of airport schedule) due) due

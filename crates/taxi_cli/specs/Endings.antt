@@ -5,10 +5,11 @@ use Rattle.taxi_io.specs.Files.{Files}
 use Rattle.taxi_io.specs.Written.{Grew, GrewInPart}
 use Rattle.airport_file.specs.Reading.{RecordFault}
 use Rattle.taxi_cli.specs.declared.status.Status.{Status}
-use Rattle.taxi_cli.specs.declared.status.Status.TheVariants.{Done, Usage, AirportRefused, ReadFault, WriteFault, Memory, TooLarge, Wrong}
-use Rattle.taxi_cli.specs.Lines.{usage_line, refusal_line, read_fault_line, too_large_line}
+use Rattle.taxi_cli.specs.declared.status.Status.TheVariants.{Done, Usage, AirportRefused, ReadFault, WriteFault, Memory, TooLarge, Wrong, ScheduleRefused}
+use Rattle.taxi_cli.specs.Lines.{usage_line, refusal_line}
 use Rattle.taxi_cli.specs.Asked.{Asked}
-use Rattle.taxi_cli.specs.Outcomes.{IsDoneText, IsWrongText, IsRefused, IsTooLarge}
+use Rattle.taxi_cli.specs.Outcomes.{IsDoneText, IsWrongText, IsScheduleRefusedText, IsRefused, IsReadFault}
+use Rattle.taxi_cli.specs.Halts.{IsFaultText, IsLargeText}
 
 -- what a call finds, and what it leaves: each pair is of before and after
 pub record Call : Type 0 where
@@ -25,9 +26,10 @@ abbrev pub IsDueText : Call → Option Asked → Status → List ℕ → Type 0
 IsDueText call None Usage text = text ≡ usage_line
 IsDueText call (Some asked) Done text = IsDoneText call.files asked text
 IsDueText call (Some asked) AirportRefused text = (fault : RecordFault) × IsRefused call.files asked fault × (text ≡ refusal_line fault)
-IsDueText call (Some asked) ReadFault text = Rose call.reads.0 call.reads.1 × (text ≡ read_fault_line)
-IsDueText call (Some asked) TooLarge text = IsTooLarge call.files asked × (text ≡ too_large_line)
+IsDueText call (Some asked) ReadFault text = IsReadFault asked call.reads × IsFaultText call.files asked text
+IsDueText call (Some asked) TooLarge text = IsLargeText call.files asked text
 IsDueText call (Some asked) Wrong text = IsWrongText call.files asked text
+IsDueText call (Some asked) ScheduleRefused text = IsScheduleRefusedText call.files asked text
 IsDueText call _ _ text = ⊥
 
 -- the sink took the whole text that goes with the status
@@ -50,3 +52,4 @@ Ends call asked AirportRefused = IsWhole call asked AirportRefused
 Ends call asked ReadFault = IsWhole call asked ReadFault
 Ends call asked TooLarge = IsWhole call asked TooLarge
 Ends call asked Wrong = IsWhole call asked Wrong
+Ends call asked ScheduleRefused = IsWhole call asked ScheduleRefused

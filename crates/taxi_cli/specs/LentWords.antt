@@ -2,12 +2,22 @@
 use Rattle.std.specs.Prelude.{Option, Some, None}
 use Rattle.taxi_cli.specs.declared.words.Asked.{Asked as LentAsked}
 use Rattle.taxi_cli.specs.declared.words.Asked.TheVariants as lent
-use Rattle.taxi_cli.specs.Asked.{Asked, Route, Check, Migrate}
+use Rattle.taxi_cli.specs.declared.traffic.Traffic.{Traffic as LentTraffic}
+use Rattle.taxi_cli.specs.Asked.{Traffic, Asked, Route, Check, Generate, Migrate, Import}
+
+abbrev pub traffic_for : LentTraffic → Traffic
+traffic_for traffic = record { number = traffic.number; side = traffic.side; flights = traffic.flights }
+
+abbrev pub traffic_as : Option LentTraffic → Option Traffic
+traffic_as None = None
+traffic_as (Some traffic) = Some (traffic_for traffic)
 
 abbrev pub asked_for : LentAsked → Asked
 asked_for (lent.Route airport commands) = Route (record { airport = airport.now; commands = commands.now })
 asked_for (lent.Check airport commands transcript) = Check (record { airport = airport.now; commands = commands.now }) transcript.now
+asked_for (lent.Generate traffic) = Generate (traffic_for traffic)
 asked_for (lent.Migrate airport) = Migrate airport.now
+asked_for (lent.Import airport schedule) = Import (record { airport = airport.now; commands = schedule.now })
 
 abbrev pub asked_as : Option LentAsked → Option Asked
 asked_as None = None

@@ -1,14 +1,13 @@
-pub mod Runs
 pub mod Lines
 pub mod Asked
-pub mod Checks
 pub mod Outcomes
 pub mod Due
 pub mod Endings
 pub mod Headline
 pub mod Stops
-pub mod WrittenRuns
 pub mod LastLine
 pub mod Exit
 pub mod LentWords
-pub mod Verdicts
+pub mod Halts
+pub mod Pace
+pub mod RunEnds

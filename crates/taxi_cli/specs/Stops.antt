@@ -4,14 +4,16 @@ use Rattle.taxi_io.specs.Counts.{Rose}
 use Rattle.taxi_io.specs.Files.{Files, IsLonger}
 use Rattle.taxi_io.specs.declared.trouble.ReadRefused.{ReadRefused}
 use Rattle.taxi_io.specs.declared.trouble.ReadRefused.TheVariants as refused
+use Rattle.schedule_import.specs.declared.import.ScheduleRefused.{ScheduleRefused}
+use Rattle.schedule_import.specs.declared.import.ScheduleRefused.TheVariants as schedule
 use Rattle.taxi_cli.specs.declared.inputs.Stop.{Stop}
 use Rattle.taxi_cli.specs.declared.inputs.Stop.TheVariants.{Refused, ReadFault, TooLarge, Memory}
 use Rattle.taxi_cli.specs.declared.status.Status.{Status}
 use Rattle.taxi_cli.specs.declared.status.Status.TheVariants as status
 use Rattle.taxi_cli.specs.Asked.{Asked}
 use Rattle.taxi_cli.specs.LastLine.{EndsWith}
-use Rattle.taxi_cli.specs.Lines.{refusal_line, read_fault_line, too_large_line}
-use Rattle.taxi_cli.specs.Outcomes.{airport_limit, IsJudged, IsRefused, IsTooLarge}
+use Rattle.taxi_cli.specs.Lines.{refusal_line, read_fault_line, too_large_line, first_row_line, bad_start_line}
+use Rattle.taxi_cli.specs.Outcomes.{airport_limit, IsJudged, IsRefused, IsReadFault, IsTooLarge}
 
 -- how a file that isn't read whole ends the call
 abbrev pub stop_for : ReadRefused → Stop
@@ -29,7 +31,7 @@ IsCauseOfAirport told name faults Memory = ⊤
 -- the same where a file that is named ends what is asked for
 abbrev pub IsCause : Option Files → Asked → ℕ × ℕ → Stop → Type 0
 IsCause told asked faults (Refused at why) = IsRefused told asked (record { at = at; why = why })
-IsCause told asked faults ReadFault = Rose faults.0 faults.1
+IsCause told asked faults ReadFault = IsReadFault asked faults
 IsCause told asked faults TooLarge = IsTooLarge told asked
 IsCause told asked faults Memory = ⊤
 
@@ -39,3 +41,9 @@ StopsWith (Refused at why) faults taken ended = EndsWith (refusal_line (record {
 StopsWith ReadFault faults taken ended = EndsWith read_fault_line status.ReadFault faults taken ended
 StopsWith TooLarge faults taken ended = EndsWith too_large_line status.TooLarge faults taken ended
 StopsWith Memory faults taken ended = (ended ≡ status.Memory) × (taken.1 ≡ taken.0)
+
+-- how an import ends whose schedule gave no text: by the writing of the line that says why; want of memory writes none
+abbrev pub RefusesWith : ScheduleRefused → ℕ × ℕ → Option (List ℕ) × Option (List ℕ) → Status → Type 0
+RefusesWith schedule.FirstRow faults taken ended = EndsWith first_row_line status.ScheduleRefused faults taken ended
+RefusesWith schedule.BadStart faults taken ended = EndsWith bad_start_line status.ScheduleRefused faults taken ended
+RefusesWith schedule.Memory faults taken ended = (ended ≡ status.Memory) × (taken.1 ≡ taken.0)

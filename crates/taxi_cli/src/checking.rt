@@ -1,97 +1,53 @@
-//! The check of a transcript.
-ghost use Rattle.std.specs.Prelude.{◌≡◌, ◌≤◌, length, IfOk};
-ghost use Rattle.taxi_base.specs.Airport.{IsWellFormed};
-ghost use Rattle.taxi_text.specs.Lines.{commands_of};
-ghost use Rattle.taxi_cli.specs.Verdicts.{IsBlockVerdict, IsVerdict};
+//! The verb `check`.
+ghost use Rattle.std.specs.Prelude.{◌≤◌, Some};
+ghost use Rattle.taxi_cli.specs.Asked.{Check};
+ghost use Rattle.taxi_cli.specs.Outcomes.{IsInOrder};
+ghost use Rattle.taxi_cli.specs.Endings.{Ends};
 
-use crate::failure::Failure;
-use crate::last_line::done_line;
-use airport_file::Airport;
-use block_reader::{BlockRefused, read_block};
-use certificate_check::{CheckRefused, Checker};
+use crate::ending::{write_last, write_stop};
+use crate::inputs::read_check;
+use crate::last_line::{ok_line, wrong_line};
+use crate::status::Status;
 use std::alloc::Global;
-use taxi_base::Memory;
-use taxi_text::{lines, skipped};
+use taxi_io::{Shelf, Sink};
+use transcript_check::{Verdict, check_transcript};
 
-/// What the check of a transcript finds.
-#[derive(Clone, Copy, Debug, Drop)]
-pub(crate) enum Verdict {
-    /// Each command has its block, all pass, and there are so many.
-    Right { count: u64 },
-    /// The first block that fails, by its number from 1, and why.
-    Wrong { number: u64, why: Failure },
-}
-
-/// What the check of the block that is due finds.
-#[derive(Clone, Copy, Debug, Drop)]
-pub(crate) enum BlockVerdict {
-    /// A block passes whose text has so many bytes.
-    Passed { length: usize },
-    Failed { why: Failure },
-}
-
-/// Checks the block of each command where it is due, and that the last line stands behind them.
-pub(crate) fn check_transcript(
+/// Checks the transcript of one file against the commands of another, at the airport of a third.
+pub(crate) fn check<S: Shelf, K: Sink>(
     alloc: Global,
-    airport: &Airport,
-    commands: &[u8],
-    transcript: &[u8],
-) -> Result<Verdict, Memory>
-    requires within { length commands.now ≤ 16777216 }
-    ensures { IfOk result (IsVerdict airport.now (commands_of commands.now) transcript.now) }
+    airport: &str,
+    commands: &str,
+    transcript: &str,
+    shelf: &mut S,
+    out: &mut K,
+) -> Status
+    requires airport { S.knows shelf.old airport.now }
+    requires commands { S.knows shelf.old commands.now }
+    requires transcript { S.knows shelf.old transcript.now }
+    ensures ends { Ends (record {
+      files = S.files shelf.old;
+      reads = (S.faults shelf.old, S.faults shelf.new);
+      writes = (K.faults out.old, K.faults out.new);
+      taken = (K.written out.old, K.written out.new);
+    }) (Some (Check (record { airport = airport.now; commands = commands.now }) transcript.now)) result }
+    ensures order { IsInOrder (S.files shelf.old) (Some (Check (record { airport = airport.now; commands = commands.now }) transcript.now)) (S.tried shelf.old) (S.tried shelf.new) }
+    ensures reads_later { S.faults shelf.old ≤ S.faults shelf.new }
+    ensures writes_later { K.faults out.old ≤ K.faults out.new }
 {
-    // The airport keeps its rules, so what passes is best.
-    let _ = airport.horizon();
-    let mut checker = Checker::new(alloc, airport)?;
-    let mut rest = transcript;
-    let mut count: u64 = 0;
-    for line in lines(commands) {
-        if !skipped(line) {
-            match check_block(alloc, airport, &mut checker, line, rest)? {
-                BlockVerdict::Passed { length } => rest = &rest[length..],
-                BlockVerdict::Failed { why } => {
-                    return Ok(Verdict::Wrong {
-                        number: count + 1,
-                        why,
-                    });
+    match read_check(alloc, shelf, airport, commands, transcript) {
+        Ok(read) => {
+            let commands = read.commands.as_slice();
+            let transcript = read.transcript.as_slice();
+            let Ok(verdict) = check_transcript(alloc, &read.airport, commands, transcript) else {
+                return Status::Memory;
+            };
+            match verdict {
+                Verdict::Right { count } => write_last(out, ok_line(count).bytes(), Status::Done),
+                Verdict::Wrong { number, why } => {
+                    write_last(out, wrong_line(number, why).bytes(), Status::Wrong)
                 }
             }
-            count += 1;
         }
-    }
-    if rest == done_line(count).bytes() {
-        return Ok(Verdict::Right { count });
-    }
-    Ok(Verdict::Wrong {
-        number: count + 1,
-        why: Failure::Form,
-    })
-}
-
-// Reads the block that is due for a line, and has it checked.
-fn check_block(
-    alloc: Global,
-    airport: &Airport,
-    checker: &mut Checker<'_>,
-    line: &[u8],
-    rest: &[u8],
-) -> Result<BlockVerdict, Memory>
-    requires same { checker.old.airport ≡ airport.now }
-    ensures verdict { IfOk result (IsBlockVerdict airport.now checker.old.state line.now rest.now checker.new.state) }
-    ensures airport { checker.new.airport ≡ airport.now }
-{
-    let (block, length) = match read_block(alloc, airport, rest) {
-        Ok(read) => read,
-        Err(BlockRefused::NotABlock) => {
-            return Ok(BlockVerdict::Failed { why: Failure::Form });
-        }
-        Err(BlockRefused::Memory) => return Err(Memory),
-    };
-    match checker.check_next(line, &block) {
-        Ok(()) => Ok(BlockVerdict::Passed { length }),
-        Err(CheckRefused::Wrong { rule }) => Ok(BlockVerdict::Failed {
-            why: Failure::Rule(rule),
-        }),
-        Err(CheckRefused::Memory) => Err(Memory),
+        Err(stop) => write_stop(out, stop),
     }
 }

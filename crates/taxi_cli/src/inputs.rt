@@ -1,24 +1,25 @@
-//! The airport and the commands of a run, read before the first command is answered.
-ghost use Rattle.std.specs.Prelude.{◌≡◌, ◌≤◌, ◌∷◌, [], length, Some, Ok, Err, IfOk, OnOk, IfErr};
-ghost use Rattle.taxi_io.specs.Files.{SameNames, BeganMore};
+//! The files of a call, read whole before anything is done with them, but for the command file of a run.
+ghost use Rattle.std.specs.Prelude.{◌≡◌, ◌≤◌, ◌∷◌, [], length, Some, Ok, Err, is_ok, IfOk, OnOk, IfErr};
+ghost use Rattle.taxi_io.specs.Files.{SameNames, BeganMore, Begins};
 ghost use Rattle.taxi_cli.specs.Asked.{Route, Check};
 ghost use Rattle.taxi_cli.specs.Outcomes.{IsJudged, AreAccepted, AreToCheck, IsRunInOrder, IsInOrder};
+ghost use Rattle.taxi_cli.specs.RunEnds.{IsCauseOfBegin};
 ghost use Rattle.taxi_cli.specs.Stops.{IsCause, IsCauseOfAirport};
 
 use airport_file::{Airport, AirportFault, AirportRefused, read_airport};
 use std::alloc::Global;
-use taxi_io::{ReadRefused, Shelf, read_all};
+use taxi_io::{ReadRefused, Shelf, Trouble, read_all};
 
 /// The most bytes of an airport file.
 const AIRPORT_LIMIT: usize = 4_194_304;
 
-/// The most bytes of a command file.
-const COMMANDS_LIMIT: usize = 16_777_216;
+/// The most bytes of a command file, or of a schedule.
+pub(crate) const COMMANDS_LIMIT: usize = 16_777_216;
 
 /// The most bytes of a transcript.
 const TRANSCRIPT_LIMIT: usize = 268_435_456;
 
-/// Why a call ends before the first command is answered.
+/// Why a call ends before anything is done with its files.
 #[derive(Drop)]
 pub(crate) enum Stop {
     Refused { at: u32, why: AirportFault },
@@ -38,6 +39,21 @@ impl From<ReadRefused> for Stop {
             ReadRefused::Fault => Stop::ReadFault,
             ReadRefused::TooLarge => Stop::TooLarge,
             ReadRefused::Memory => Stop::Memory,
+        }
+    }
+}
+
+/// A trouble of a file that is to be begun.
+impl From<Trouble> for Stop {
+    ghost use Rattle.std.specs.Prelude.{◌≡◌};
+    ghost use Rattle.taxi_cli.specs.RunEnds.{stop_for_begin};
+
+    ghost from_gives = { λ trouble stop. stop ≡ stop_for_begin trouble };
+
+    fn from(trouble: Trouble) -> Stop {
+        match trouble {
+            Trouble::Failed => Stop::ReadFault,
+            Trouble::Memory => Stop::Memory,
         }
     }
 }
@@ -64,7 +80,22 @@ pub(crate) fn read_airport_file<S: Shelf>(
     }
 }
 
-/// The airport of a run, and the bytes of its command file, which is begun once the airport is accepted.
+/// Begins a command file, of which then all is left. Where that fails nothing is begun.
+pub(crate) fn begin_commands<S: Shelf>(shelf: &mut S, name: &str) -> Result<(), Stop>
+    requires { S.knows shelf.old name.now }
+    ensures begun { S.begun shelf.new ≡ is_ok result }
+    ensures whole { OnOk result (Begins (S.files shelf.old) name.now (S.rest shelf.new)) }
+    ensures stop { IfErr result (IsCauseOfBegin (S.faults shelf.old, S.faults shelf.new)) }
+    ensures tried { BeganMore (S.tried shelf.old) (S.tried shelf.new) (name.now ∷ []) }
+    ensures later { S.faults shelf.old ≤ S.faults shelf.new }
+    ensures files { S.files shelf.new ≡ S.files shelf.old }
+{
+    shelf.begin(name)?;
+    Ok(())
+}
+
+/// The airport of a run or an import, and the bytes of its command file or its schedule, which is begun once the airport is
+/// accepted.
 pub(crate) fn read_inputs<S: Shelf>(
     alloc: Global,
     shelf: &mut S,

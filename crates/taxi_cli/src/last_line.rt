@@ -1,18 +1,17 @@
 //! The line that ends what a call writes.
 ghost use Rattle.std.specs.Prelude.{◌≡◌, ◌+◌, ◌≤◌, length, decimal};
 ghost use Rattle.airport_rules.specs.Faults.{fault_word};
-ghost use Rattle.taxi_cli.specs.Runs.{done_line};
-ghost use Rattle.taxi_cli.specs.Lines.{usage_line, refusal_line, read_fault_line, too_large_line, ok_line, wrong_line};
+ghost use Rattle.taxi_cli.specs.Lines.{usage_line, refusal_line, read_fault_line, too_large_line, ok_line, wrong_line, first_row_line, bad_start_line};
 
-use crate::failure::Failure;
 use airport_file::AirportFault;
 use itoa::Buffer;
 use taxi_text::ShortText;
+use transcript_check::Failure;
 
 pub(crate) fn usage_line() -> &'static [u8]
     ensures { result.now ≡ usage_line }
 {
-    b"usage: taxi route AIRPORT COMMANDS; taxi check AIRPORT COMMANDS TRANSCRIPT; taxi generate NUMBER SIDE FLIGHTS; taxi migrate AIRPORT\n"
+    b"usage: taxi route AIRPORT COMMANDS; taxi check AIRPORT COMMANDS TRANSCRIPT; taxi generate NUMBER SIDE FLIGHTS; taxi migrate AIRPORT; taxi import AIRPORT SCHEDULE\n"
 }
 
 pub(crate) fn read_fault_line() -> &'static [u8]
@@ -25,6 +24,20 @@ pub(crate) fn too_large_line() -> &'static [u8]
     ensures { result.now ≡ too_large_line }
 {
     b"too large\n"
+}
+
+/// The last line of an import whose first record is another than it must be.
+pub(crate) fn first_row_line() -> &'static [u8]
+    ensures { result.now ≡ first_row_line }
+{
+    b"schedule refused at record 1: first-row\n"
+}
+
+/// The last line of an import whose second record is another than it must be.
+pub(crate) fn bad_start_line() -> &'static [u8]
+    ensures { result.now ≡ bad_start_line }
+{
+    b"schedule refused at record 2: bad-start\n"
 }
 
 /// The record that breaks a rule, counted from 1, and the rule.
@@ -47,18 +60,6 @@ fn short_word(why: AirportFault) -> &'static [u8]
     ensures short { length result.now ≤ 14 }
 {
     why.word()
-}
-
-/// The last line of a transcript, with the number of commands.
-pub(crate) fn done_line(count: u64) -> ShortText
-    ensures { result ≡ done_line count }
-{
-    let mut digits = Buffer::new();
-    let mut text = ShortText::new();
-    text.push(b"done ");
-    text.push(digits.format(count).as_bytes());
-    text.push(b"\n");
-    text
 }
 
 /// The last line of a check that finds no fault, with the number of blocks.

@@ -2,17 +2,20 @@
 #![tactic(auto)]
 
 mod checking;
+mod ending;
 mod exit;
-mod failure;
+mod generating;
+mod importing;
 mod inputs;
 mod last_line;
-pub mod laws;
-mod run;
+mod migrating;
+mod routing;
 pub mod status;
 pub mod steady;
 #[cfg(test)]
 mod tests;
 pub mod top;
+mod traffic;
 mod words;
 
 use exit::exit_code;

@@ -19,4 +19,6 @@ pub enum Status {
     TooLarge,
     /// A block of a transcript fails.
     Wrong,
+    /// The first record of a schedule is another than it must be, or the second is.
+    ScheduleRefused,
 }

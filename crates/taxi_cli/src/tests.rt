@@ -1,6 +1,8 @@
 //! Calls over files and output in memory, with what they write found by hand.
 mod calls;
+mod pieces;
 mod rows;
+mod schedules;
 
 ghost use Rattle.std.specs.Prelude.{◌≤◌};
 

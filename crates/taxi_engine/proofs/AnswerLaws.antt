@@ -27,6 +27,8 @@ wants-needs airport state (command.Divert flight time node) may needs = needs
 wants-needs airport state (command.Windows segment) may needs = needs
 wants-needs airport state (command.Occupancy segment) may needs = needs
 wants-needs airport state command.Timetable may needs = needs
+wants-needs airport state (command.Work name segment from until) may needs = needs
+wants-needs airport state (command.WorkDone name) may needs = may
 
 module _ (old new : EngineState) (line : List ℕ) (well : IsWellFormed old.airport) (sound : IsSound old.airport old.state) (names : HaveNames old.state) where
   -- by what a reply says
@@ -79,6 +81,8 @@ module _ (old new : EngineState) (line : List ℕ) (well : IsWellFormed old.airp
     filing (command.Windows segment) file = absurd file
     filing (command.Occupancy segment) file = absurd file
     filing command.Timetable file = absurd file
+    filing (command.Work name segment from until) file = absurd file
+    filing (command.WorkDone name) file = absurd file
 
     go : (o : Option Command) → command_of line ≡ o → IsSomeAnd o IsFile → Answers old line new
     go None e files = absurd files

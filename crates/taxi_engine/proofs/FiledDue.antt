@@ -1,8 +1,8 @@
 -- When a filed route is due to be accepted.
-use Rattle.std.proofs.Common.{◌≡◌, ℕ, ◌<◌, false, List, Option, Some, None, is_some, refl}
-use Rattle.std.specs.Prelude.{Result, Ok, Err, OnOk, is_err, option_copied}
+use Rattle.std.proofs.Common.{◌≡◌, ℕ, ◌<◌, false, List, Option, Some, None, is_some, refl, arith}
+use Rattle.std.specs.Prelude.{Result, Ok, Err, OnOk, is_err, nat_le, option_copied}
 use Rattle.std.specs.Borrow.{Bor}
-use Rattle.std.proofs.lemmas.Bool.{lt-leb}
+use Rattle.std.proofs.lemmas.Bool.{lt-leb, leb-false}
 use Rattle.taxi_base.specs.declared.numbers.Class.{Class}
 use Rattle.taxi_base.specs.declared.rows.Step.{Step}
 use Rattle.taxi_base.specs.Airport.{Airport, class_named}
@@ -25,9 +25,9 @@ module _ (airport : Airport) (state : State) (name class_name : List ℕ) (start
       rw (absent, known, made, lt-leb most_holders (holder_count state) room, faultless)
       (record { class = class; steps = steps; class_known = known; steps_known = made; reply = (refl, refl) })
 
-pub none-where_not_some : {A : Type 0} (o : Option A) → is_some o ≡ false → o ≡ None
-none-where_not_some None e = refl
-none-where_not_some (Some x) e = absurd (cc e)
+-- there is room where the holders are not too many
+pub not-full : (state : State) → nat_le most_holders (holder_count state) ≡ false → holder_count state < most_holders
+not-full state e = omega (arith, leb-false most_holders (holder_count state) e)
 
 -- a flight that is looked up is there just where it is found
 pub copied-some : {A : Type 0} (o : Option (Bor A)) → is_some (option_copied o) ≡ is_some o

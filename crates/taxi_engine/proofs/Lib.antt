@@ -1,6 +1,7 @@
 pub mod StepsMade
 pub mod FiledDue
 pub mod DueLaws
+pub mod TakenOut
 pub mod AnswerLaws
 pub mod Told
 pub mod SearchedLaws

@@ -136,9 +136,9 @@ module _ (airport : Airport) (state : State) (reply : List ℕ) (new : EngineSta
 
 module _ (airport : Airport) (state : State) (flight : Flight) (another : IsOnAnother airport state flight) where
   -- it is the one that is lifted
-  pub lifted-old : (book : Book) → book.lifted ≡ Some flight.name → book.flights ≡ state.flights → lifted_flight book ≡ Some another.old
+  pub lifted-old : (book : Book) → book.lifted ≡ Some flight.name → book.state ≡ state → lifted_flight book ≡ Some another.old
   lifted-old book lifted same =
-      ap (option_and_then (λ (name : List ℕ). flight_named name book.flights)) lifted ∙ ap (flight_named flight.name) same ∙ another.in_force
+      ap (option_and_then (λ (name : List ℕ). flight_named name book.state.flights)) lifted ∙ ap (λ (s : State). flight_named flight.name s.flights) same ∙ another.in_force
 
   pub another-feasible : IsFeasibleWalk (conditions_of airport state another.old) flight.steps
   another-feasible = Meets-IsFeasibleWalk (conditions_of airport state another.old) flight.request flight.steps another.met

@@ -7,7 +7,7 @@ use Rattle.taxi_base.specs.Walks.{conditions_in_windows}
 use Rattle.taxi_base.specs.State.{holds_in}
 use Rattle.taxi_base.specs.Faults.{conditions_in}
 use Rattle.window_store.specs.Store.{Store}
-use Rattle.commitments.specs.Book.{Book, state_of, Fits}
+use Rattle.commitments.specs.Book.{Book, Fits}
 use Rattle.place_cells.specs.Laid.{windows_of}
 use Rattle.place_cells.proofs.StoreConditions as among
 use Rattle.taxi_engine.proofs.Told.{all_stand}
@@ -15,11 +15,11 @@ use Rattle.taxi_engine.proofs.Told.{all_stand}
 module _ (airport : Airport) (book : Book) (fits : Fits airport book) (unlifted : book.lifted ≡ None) where
   -- the windows end by the horizon
   pub windows-by : All (All (λ w. w.until ≤ airport.horizon)) (windows_of book.store)
-  windows-by = among.windows-by airport (holds_in airport (state_of book)) book.store fits.lists (all_stand airport book fits unlifted)
+  windows-by = among.windows-by airport (holds_in airport book.state) book.store fits.lists (all_stand airport book fits unlifted)
 
   -- and the conditions in them, by the clearance and the store that were asked for, are those among the flights
   pub conditions-found : (class : Class) (clearance : ℕ) (store : Store) → clearance ≡ clearance_of airport class → store ≡ book.store
-      → conditions_in_windows airport class clearance (windows_of store) ≡ conditions_in airport class (state_of book)
+      → conditions_in_windows airport class clearance (windows_of store) ≡ conditions_in airport class book.state
   conditions-found class clearance store cleared same =
       ap (λ (g : ℕ). conditions_in_windows airport class g (windows_of store)) cleared ∙ ap (λ (s : Store). conditions_in_windows airport class (clearance_of airport class) (windows_of s)) same
-      ∙ among.conditions-among airport (holds_in airport (state_of book)) book.store fits.lists (all_stand airport book fits unlifted) class
+      ∙ among.conditions-among airport (holds_in airport book.state) book.store fits.lists (all_stand airport book fits unlifted) class

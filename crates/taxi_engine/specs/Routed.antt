@@ -1,5 +1,5 @@
 -- What a part of the engine has done for a route that is searched for. No public clause cites these.
-use Rattle.std.specs.Prelude.{ℕ, ◌≡◌, ◌<◌, ◌⊎◌, Bool, false, List, length, slice_get, Some, None, Result, Ok}
+use Rattle.std.specs.Prelude.{ℕ, ◌≡◌, ◌<◌, ◌⊎◌, Bool, false, List, slice_get, Some, Result, Ok}
 use Rattle.std.specs.Option.{option_map_or}
 use Rattle.taxi_base.specs.declared.numbers.Node.{Node}
 use Rattle.taxi_base.specs.declared.rows.Kind.{Kind}
@@ -11,7 +11,7 @@ use Rattle.taxi_base.specs.declared.answers.Refusal.TheVariants as refusal
 use Rattle.taxi_base.specs.declared.collections.Memory.{Memory}
 use Rattle.taxi_base.specs.Airport.{Airport, class_named, node_named}
 use Rattle.taxi_base.specs.Walks.{Conditions, IsFeasibleWalk}
-use Rattle.taxi_base.specs.State.{State, flight_named, with_flight}
+use Rattle.taxi_base.specs.State.{State, holder_count, has_holder, with_flight}
 use Rattle.certificate.specs.CarriedOut.{Reply, found_reply, routed_flight}
 use Rattle.certificate.specs.Replies.{refused}
 use Rattle.taxi_engine.specs.declared.asking.Asked.{Asked}
@@ -28,10 +28,10 @@ pub record AreNamed (airport : Airport) (class from to : List ℕ) (asked : Aske
   pub from_known : node_named airport from ≡ Some asked.from
   pub to_known : node_named airport to ≡ Some asked.to
 
--- no flight has the name, and there is room for one more
+-- no holder has the name, and there is room for one more
 pub record IsNew (state : State) (name : List ℕ) : Type 0 where
-  pub absent : flight_named name state.flights ≡ None
-  pub few : length state.flights < 4096
+  pub absent : has_holder name state ≡ false
+  pub few : holder_count state < 4096
 
 -- steps are a feasible walk on the airport, under some conditions
 pub record IsWalkOn (airport : Airport) (steps : List Step) : Type 0 where

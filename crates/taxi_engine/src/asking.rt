@@ -3,13 +3,15 @@ ghost use Rattle.std.specs.Prelude.{◌≡◌, ◌<◌, length, ◌∷◌, [], S
 ghost use Rattle.taxi_base.specs.State.{has_holder, holder_count};
 ghost use Rattle.taxi_text.specs.declared.command.Command.TheVariants as command;
 ghost use Rattle.certificate.specs.Refusals.{is_runway, is_stand, most_holders, first_of, in_force, unknown_class, unknown_node, first_refusal};
-ghost use Rattle.commitments.specs.Book.{state_of};
+ghost use Rattle.commitments.specs.Book.{Fits};
 ghost use Rattle.taxi_engine.specs.Routed.{is_of_kind, AreNamed};
 
-use crate::filing::MOST_FLIGHTS;
 use airport_file::Airport;
 use commitments::Ledger;
 use taxi_base::{Class, Kind, Name, Node, Refusal};
+
+/// How many flights and work parties may be in force.
+const MOST_HOLDERS: usize = 4096;
 
 /// The class and the nodes that the words of an arrival or a departure name.
 #[derive(Clone, Copy)]
@@ -28,9 +30,10 @@ pub(crate) fn asked_arrival(
     from: &Name,
     to: &Name,
 ) -> Result<Asked, Refusal>
+    requires { Fits airport.now ledger.now }
     ensures named { IfOk result (AreNamed airport.now class.now from.now to.now) }
-    ensures ok { IfOk result (λ asked. first_refusal airport.now (state_of ledger.now) (command.Arrival flight.now class.now from.now to.now 0 0) ≡ None) }
-    ensures err { IfErr result (λ why. first_refusal airport.now (state_of ledger.now) (command.Arrival flight.now class.now from.now to.now 0 0) ≡ Some why) }
+    ensures ok { IfOk result (λ asked. first_refusal airport.now ledger.now.state (command.Arrival flight.now class.now from.now to.now 0 0) ≡ None) }
+    ensures err { IfErr result (λ why. first_refusal airport.now ledger.now.state (command.Arrival flight.now class.now from.now to.now 0 0) ≡ Some why) }
 {
     let asked = find_asked(airport, ledger, flight, class, from, to)?;
     if !is_runway(airport, asked.from) {
@@ -39,7 +42,7 @@ pub(crate) fn asked_arrival(
     if !is_stand(airport, asked.to) {
         return Err(Refusal::WrongKind);
     }
-    if is_full(ledger) {
+    if is_full(airport, ledger) {
         return Err(Refusal::Full);
     }
     Ok(asked)
@@ -54,9 +57,10 @@ pub(crate) fn asked_departure(
     from: &Name,
     to: &Name,
 ) -> Result<Asked, Refusal>
+    requires { Fits airport.now ledger.now }
     ensures named { IfOk result (AreNamed airport.now class.now from.now to.now) }
-    ensures ok { IfOk result (λ asked. first_refusal airport.now (state_of ledger.now) (command.Departure flight.now class.now from.now to.now 0 0) ≡ None) }
-    ensures err { IfErr result (λ why. first_refusal airport.now (state_of ledger.now) (command.Departure flight.now class.now from.now to.now 0 0) ≡ Some why) }
+    ensures ok { IfOk result (λ asked. first_refusal airport.now ledger.now.state (command.Departure flight.now class.now from.now to.now 0 0) ≡ None) }
+    ensures err { IfErr result (λ why. first_refusal airport.now ledger.now.state (command.Departure flight.now class.now from.now to.now 0 0) ≡ Some why) }
 {
     let asked = find_asked(airport, ledger, flight, class, from, to)?;
     if !is_stand(airport, asked.from) {
@@ -65,7 +69,7 @@ pub(crate) fn asked_departure(
     if !is_runway(airport, asked.to) {
         return Err(Refusal::WrongKind);
     }
-    if is_full(ledger) {
+    if is_full(airport, ledger) {
         return Err(Refusal::Full);
     }
     Ok(asked)
@@ -81,10 +85,10 @@ fn find_asked(
     to: &Name,
 ) -> Result<Asked, Refusal>
     ensures named { IfOk result (AreNamed airport.now class.now from.now to.now) }
-    ensures new { IfOk result (λ asked. has_holder flight.now (state_of ledger.now) ≡ false) }
-    ensures err { IfErr result (λ why. first_of (in_force (state_of ledger.now) flight.now ∷ unknown_class airport.now class.now ∷ unknown_node airport.now from.now ∷ unknown_node airport.now to.now ∷ []) ≡ Some why) }
+    ensures new { IfOk result (λ asked. has_holder flight.now ledger.now.state ≡ false) }
+    ensures err { IfErr result (λ why. first_of (in_force ledger.now.state flight.now ∷ unknown_class airport.now class.now ∷ unknown_node airport.now from.now ∷ unknown_node airport.now to.now ∷ []) ≡ Some why) }
 {
-    if ledger.flight(flight).is_some() {
+    if is_held(ledger, flight) {
         return Err(Refusal::InForce);
     }
     let Some(class) = airport.class_named(class) else {
@@ -113,9 +117,17 @@ pub(crate) fn is_stand(airport: &Airport, node: Node) -> bool
     matches!(airport.kind(node), Kind::Stand)
 }
 
-// No further flight may be in force.
-fn is_full(ledger: &Ledger) -> bool
-    ensures { result ≡ nat_le most_holders (holder_count (state_of ledger.now)) }
+/// Whether a flight or a work party has the name.
+pub(crate) fn is_held(ledger: &Ledger, name: &Name) -> bool
+    ensures { result ≡ has_holder name.now ledger.now.state }
 {
-    ledger.count() >= MOST_FLIGHTS
+    ledger.party(name).is_some() || ledger.flight(name).is_some()
+}
+
+/// Whether no further flight or work party may be in force.
+pub(crate) fn is_full(airport: &Airport, ledger: &Ledger) -> bool
+    requires { Fits airport.now ledger.now }
+    ensures { result ≡ nat_le most_holders (holder_count ledger.now.state) }
+{
+    ledger.parties() + ledger.count() >= MOST_HOLDERS
 }

@@ -3,7 +3,7 @@ ghost use Rattle.std.specs.Prelude.{◌≡◌, [], None, IfOk};
 ghost use Rattle.taxi_base.specs.State.{no_holder, IsSound};
 ghost use Rattle.certificate.specs.Asked.{IsInGrammar};
 ghost use Rattle.certificate.specs.Replies.{refused};
-ghost use Rattle.commitments.specs.Book.{Fits, state_of};
+ghost use Rattle.commitments.specs.Book.{Fits};
 ghost use Rattle.taxi_engine.specs.Engine.{Answers};
 ghost use Rattle.taxi_engine.specs.Accepted.{IsDone, IsDoneOrMemory};
 
@@ -17,7 +17,7 @@ use std::marker::Model;
 use taxi_base::{Memory, Refusal};
 use taxi_text::{Command, CommandRefused, read_command};
 
-/// Answers commands over an airport and the flights in force, which are always sound.
+/// Answers commands over an airport and the flights and work parties in force, which are always sound.
 #[derive(Drop)]
 pub struct Engine {
     pub(crate) alloc: Global,
@@ -31,19 +31,19 @@ pub struct Engine {
 impl Model for Engine {
     ghost use Rattle.std.specs.Prelude.{◌≡◌, None};
     ghost use Rattle.taxi_base.specs.State.{IsSound};
-    ghost use Rattle.commitments.specs.Book.{Fits, state_of};
+    ghost use Rattle.commitments.specs.Book.{Fits};
     ghost use Rattle.certificate.specs.Replies.{HaveNames};
     ghost use Rattle.taxi_engine.specs.Engine.{EngineState};
 
     ghost Value = { EngineState };
 
-    ghost view = { λ e. record { airport = e.airport; state = state_of e.ledger; reply = e.reply } };
+    ghost view = { λ e. record { airport = e.airport; state = e.ledger.state; reply = e.reply } };
 
-    ghost invariant = { λ e. IsSound e.airport (state_of e.ledger) × Fits e.airport e.ledger × HaveNames (state_of e.ledger) × (e.ledger.lifted ≡ None) };
+    ghost invariant = { λ e. IsSound e.airport e.ledger.state × Fits e.airport e.ledger × HaveNames e.ledger.state × (e.ledger.lifted ≡ None) };
 }
 
 impl Engine {
-    /// An engine over an airport, with no flight in force. After an error the airport is gone.
+    /// An engine over an airport, with no flight and no party in force. After an error the airport is gone.
     pub fn new(alloc: Global, airport: Airport) -> Result<Engine, Memory>
         ensures { IfOk result (λ e. e ≡ record { airport = airport; state = no_holder; reply = [] }) }
     {
@@ -67,7 +67,7 @@ impl Engine {
     }
 
     pub fn ledger(&self) -> &Ledger
-        ensures flights { state_of result.now ≡ self.now.state }
+        ensures state { result.now.state ≡ self.now.state }
         ensures fits { Fits self.now.airport result.now }
         ensures unlifted { result.now.lifted ≡ None }
     {
@@ -128,6 +128,13 @@ impl Engine {
             Command::Divert { flight, time, node } => self.divert(flight, *time, node),
             Command::Occupancy { segment } => self.tell_occupancy(segment),
             Command::Timetable => self.tell_timetable(),
+            Command::Work {
+                name,
+                segment,
+                from,
+                until,
+            } => self.shut(name, segment, *from, *until),
+            Command::WorkDone { name } => self.open_again(name),
         }
     }
 

@@ -5,19 +5,17 @@ ghost use Rattle.taxi_base.specs.Walks.{begin_of, end_of};
 ghost use Rattle.taxi_text.specs.declared.command.Command.TheVariants.{File};
 ghost use Rattle.certificate.specs.Printable.{IsName};
 ghost use Rattle.certificate.specs.Asked.{filed_steps};
-ghost use Rattle.commitments.specs.Book.{Fits, IsPrepared, state_of};
+ghost use Rattle.commitments.specs.Book.{Fits, IsPrepared};
 ghost use Rattle.taxi_engine.specs.Accepted.{IsAccepted, IsRefused, IsDoneOrMemory};
 
 use crate::Engine;
+use crate::asking::{is_full, is_held};
 use crate::texts::filed_text;
 use airport_file::Airport;
 use commitments::Ledger;
 use std::alloc::Global;
 use taxi_base::{Flight, List, Name, Refusal, Request, Step, Time};
 use taxi_text::FiledStep;
-
-/// How many flights may be in force.
-pub(crate) const MOST_FLIGHTS: usize = 4096;
 
 impl Engine {
     /// Files a route given by hand, or refuses it.
@@ -61,21 +59,21 @@ fn check_filed(
     requires name { IsName flight.now }
     requires few { length filed.now ≤ 256 }
     requires some { 1 ≤ length filed.now }
-    ensures ok { IfOk result (IsAccepted airport.now ledger.old.flights (File flight.now class.now start filed.now)) }
+    ensures ok { IfOk result (IsAccepted airport.now ledger.old.state (File flight.now class.now start filed.now)) }
     ensures prepared { IfOk result (λ f. IsPrepared airport.now f.steps ledger.new) }
-    ensures err { IfErr result (IsRefused airport.now (state_of ledger.old) (File flight.now class.now start filed.now)) }
-    ensures flights { ledger.new.flights ≡ ledger.old.flights }
+    ensures err { IfErr result (IsRefused airport.now ledger.old.state (File flight.now class.now start filed.now)) }
+    ensures state { ledger.new.state ≡ ledger.old.state }
     ensures unlifted { ledger.new.lifted ≡ None }
     ensures fits { Fits airport.now ledger.new }
 {
-    if ledger.flight(flight).is_some() {
+    if is_held(ledger, flight) {
         return Err(Refusal::InForce);
     }
     let Some(class) = airport.class_named(class) else {
         return Err(Refusal::UnknownClass);
     };
     let steps = route_steps(alloc, airport, start, filed)?;
-    if ledger.count() >= MOST_FLIGHTS {
+    if is_full(airport, ledger) {
         return Err(Refusal::Full);
     }
     if let Some(fault) = ledger.check_route(airport, class, steps.as_slice()) {

@@ -1,4 +1,4 @@
-//! The engine: one command in, one reply out, over the flights in force.
+//! The engine: one command in, one reply out, over the flights and work parties in force.
 #![tactic(auto)]
 
 mod asking;
@@ -9,6 +9,7 @@ mod reply;
 mod reporting;
 mod rerouting;
 mod routing;
+mod shutting;
 #[cfg(test)]
 mod tests;
 mod texts;

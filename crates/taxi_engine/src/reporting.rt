@@ -7,7 +7,6 @@ ghost use Rattle.taxi_text.specs.declared.command.Command.TheVariants as asked;
 ghost use Rattle.certificate.specs.declared.block.Block.TheVariants as block;
 ghost use Rattle.certificate.specs.Texts.{block_text};
 ghost use Rattle.certificate.specs.Replies.{HaveNames};
-ghost use Rattle.commitments.specs.Book.{state_of};
 ghost use Rattle.taxi_engine.specs.Accepted.{IsDoneOrMemory};
 
 use crate::Engine;
@@ -55,9 +54,9 @@ fn print_occupancy(
     reply: &mut ReplyText,
 ) -> Result<(), Memory>
     requires exists { segment.0 < length airport.now.segments }
-    requires sound { IsSound airport.now (state_of ledger.now) }
-    requires names { HaveNames (state_of ledger.now) }
-    ensures { OnOk result ((rows : List HeldRow) × AreHeldRows airport.now (state_of ledger.now) segment rows × (reply.new ≡ block_text airport.now (block.Occupancy segment rows))) }
+    requires sound { IsSound airport.now ledger.now.state }
+    requires names { HaveNames ledger.now.state }
+    ensures { OnOk result ((rows : List HeldRow) × AreHeldRows airport.now ledger.now.state segment rows × (reply.new ≡ block_text airport.now (block.Occupancy segment rows))) }
 {
     // The airport keeps its rules, so each row is of one of its segments.
     let _ = airport.horizon();
@@ -72,9 +71,9 @@ fn print_timetable(
     ledger: &Ledger,
     reply: &mut ReplyText,
 ) -> Result<(), Memory>
-    requires sound { IsSound airport.now (state_of ledger.now) }
-    requires names { HaveNames (state_of ledger.now) }
-    ensures { OnOk result (reply.new ≡ block_text airport.now (block.Timetable (timetable_rows (state_of ledger.now)))) }
+    requires sound { IsSound airport.now ledger.now.state }
+    requires names { HaveNames ledger.now.state }
+    ensures { OnOk result (reply.new ≡ block_text airport.now (block.Timetable (timetable_rows ledger.now.state))) }
 {
     // The airport keeps its rules, so each flight is of one of its classes.
     let _ = airport.horizon();

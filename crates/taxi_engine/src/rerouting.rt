@@ -76,8 +76,8 @@ impl Engine {
 
 // The flight of a name as it is on other steps, to another node where there is one.
 fn on_another_route(ledger: &Ledger, name: &Name, to: Option<Node>, steps: List<Step>) -> Flight
-    requires { IsSome (flight_named name.now ledger.now.flights) }
-    ensures { IfSome (flight_named name.now ledger.now.flights) (λ flight. result ≡ record flight { name = name.now; request = request_to to flight.request; steps = steps }) }
+    requires { IsSome (flight_named name.now ledger.now.state.flights) }
+    ensures { IfSome (flight_named name.now ledger.now.state.flights) (λ flight. result ≡ record flight { name = name.now; request = request_to to flight.request; steps = steps }) }
 {
     let flight = ledger.flight(name).unwrap();
     Flight {

@@ -9,7 +9,7 @@ ghost use Rattle.certificate.specs.Texts.{block_text};
 ghost use Rattle.certificate.specs.Printable.{IsShort, IsName, HasArc};
 ghost use Rattle.certificate.specs.Asked.{AnswersRequest};
 ghost use Rattle.certificate.specs.CarriedOut.{second_of};
-ghost use Rattle.commitments.specs.Book.{Fits, IsPrepared, state_of};
+ghost use Rattle.commitments.specs.Book.{Fits, IsPrepared};
 ghost use Rattle.taxi_engine.specs.Accepted.{IsDoneOrMemory};
 ghost use Rattle.taxi_engine.specs.Routed.{IsNew, IsWalkOn, IsToldOrMemory, IsFoundTold};
 
@@ -161,7 +161,7 @@ impl Engine {
     }
 }
 
-// Searches for an arrival among the flights in force.
+// Searches for an arrival among the holders in force.
 fn find_arrival(
     alloc: Global,
     room: &mut SearchRoom,
@@ -175,7 +175,7 @@ fn find_arrival(
     requires unlifted { ledger.now.lifted ≡ None }
     requires time { IsShort time }
     requires hold { IsShort hold }
-    ensures { IfOk result (AnswersRequest (conditions_in airport.now asked.now.class (state_of ledger.now)) (Request.Arrival asked.now.from asked.now.to time hold)) }
+    ensures { IfOk result (AnswersRequest (conditions_in airport.now asked.now.class ledger.now.state) (Request.Arrival asked.now.from asked.now.to time hold)) }
 {
     let start = Start::Node {
         from: asked.from,
@@ -208,7 +208,7 @@ fn find_departure(
     requires fits { Fits airport.now ledger.now }
     requires unlifted { ledger.now.lifted ≡ None }
     requires time { IsShort time }
-    ensures { IfOk result (AnswersRequest (conditions_in airport.now asked.now.class (state_of ledger.now)) (Request.Departure asked.now.from asked.now.to time queue)) }
+    ensures { IfOk result (AnswersRequest (conditions_in airport.now asked.now.class ledger.now.state) (Request.Departure asked.now.from asked.now.to time queue)) }
 {
     let earliest = time.saturating_sub(queue);
     let clearance = airport.clearance(asked.class);
@@ -233,7 +233,7 @@ pub(crate) fn prepare_route(
     requires labels { All (λ label. HasArc airport.now label.arc) labels.now }
     ensures prepared { OnOk result (IsPrepared airport.now flight.now.steps ledger.new) }
     ensures text { OnOk result (reply.new ≡ block_text airport.now (block.Route flight.now.name (second_of flight.now.request flight.now.steps) flight.now.steps labels.now)) }
-    ensures flights { ledger.new.flights ≡ ledger.old.flights }
+    ensures state { ledger.new.state ≡ ledger.old.state }
     ensures unlifted { ledger.new.lifted ≡ None }
     ensures fits { Fits airport.now ledger.new }
 {

@@ -26,7 +26,9 @@ forbid,A+,B+
 ";
 
 // Lines with their replies, in turn.
-const REPLIES: [(&[u8], &[u8]); 41] = [
+const REPLIES: [(&[u8], &[u8]); 43] = [
+    (b"work W1 A 100 200", b"filed W1 100 200\n"),
+    (b"workdone W1", b"cancelled W1\n"),
     (
         b"arrival F9 M R S1 100 0",
         b"no-route 3\nlabel A+ 0 3600 130\nlabel C+ 0 3600 155\nlabel D+ 0 3600 170\n",

@@ -7,7 +7,7 @@ ghost use Rattle.certificate.specs.CarriedOut.{second_of};
 
 use airport_file::Airport;
 use certificate::{Block, print_short};
-use taxi_base::{Flight, Name, Refusal, Request, Step, Time};
+use taxi_base::{Flight, Name, Party, Refusal, Request, Step, Time};
 use taxi_text::ShortText;
 
 /// The reply where a route is filed.
@@ -26,7 +26,21 @@ pub(crate) fn filed_text(airport: &Airport, flight: &Flight) -> ShortText
     )
 }
 
-/// The reply where a flight is cancelled.
+/// The reply where a segment is shut.
+pub(crate) fn shut_text(airport: &Airport, party: &Party) -> ShortText
+    ensures { result ≡ block_text airport.now (Filed party.now.name party.now.from party.now.until) }
+{
+    text_of(
+        airport,
+        &Block::Filed {
+            flight: party.name,
+            start: party.from,
+            end: party.until,
+        },
+    )
+}
+
+/// The reply where a flight or a work party is taken out.
 pub(crate) fn cancelled_text(airport: &Airport, flight: &Name) -> ShortText
     ensures { result ≡ block_text airport.now (Cancelled flight.now) }
 {

@@ -5,7 +5,7 @@ ghost use Rattle.certificate.specs.Texts.{block_text};
 ghost use Rattle.taxi_text.specs.declared.command.Command.TheVariants as asked;
 ghost use Rattle.certificate.specs.CarriedOut.{windows_among};
 ghost use Rattle.window_store.specs.Store.{spans_at};
-ghost use Rattle.commitments.specs.Book.{Fits, state_of};
+ghost use Rattle.commitments.specs.Book.{Fits};
 ghost use Rattle.taxi_engine.specs.Accepted.{IsDoneOrMemory};
 
 use crate::Engine;
@@ -44,7 +44,7 @@ fn print_windows(
     requires fits { Fits airport.now ledger.now }
     requires unlifted { ledger.now.lifted ≡ None }
     requires exists { segment.0 < length airport.now.segments }
-    ensures { OnOk result (reply.new ≡ block_text airport.now (Windows segment (windows_among airport.now (state_of ledger.now) segment))) }
+    ensures { OnOk result (reply.new ≡ block_text airport.now (Windows segment (windows_among airport.now ledger.now.state segment))) }
 {
     let windows = spans_of(alloc, ledger.store(), segment)?;
     reply.print(airport, &Block::Windows { segment, windows })

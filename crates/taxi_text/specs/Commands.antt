@@ -3,7 +3,7 @@ use Rattle.std.specs.Prelude.{ℕ, Bool, ◌&&◌, ◌==◌, nat_lt, nat_le, dro
 use Rattle.taxi_text.specs.declared.command.FiledStep.{FiledStep}
 use Rattle.taxi_text.specs.declared.reader.Asked.{Asked}
 use Rattle.taxi_text.specs.declared.command.Command.{Command}
-use Rattle.taxi_text.specs.declared.command.Command.TheVariants.{File, Arrival, Departure, Cancel, Reroute, Divert, Windows, Occupancy, Timetable}
+use Rattle.taxi_text.specs.declared.command.Command.TheVariants.{File, Arrival, Departure, Cancel, Reroute, Divert, Windows, Occupancy, Timetable, Work, WorkDone}
 use Rattle.taxi_text.specs.Words.{words_of}
 use Rattle.taxi_text.specs.Fields.{name_of, number_of, arc_word_of}
 
@@ -68,6 +68,14 @@ occupancy_of = a_name (λ segment. the_end (Occupancy segment))
 abbrev pub timetable_of : List (List ℕ) → Option Command
 timetable_of = the_end Timetable
 
+-- NAME SEGMENT FROM UNTIL
+abbrev pub work_of : List (List ℕ) → Option Command
+work_of = a_name (λ name. a_name (λ segment. a_number (λ from. a_number (λ until. the_end (Work name segment from until)))))
+
+-- NAME
+abbrev pub work_done_of : List (List ℕ) → Option Command
+work_done_of = a_name (λ name. the_end (WorkDone name))
+
 -- the step of a pair ARC OUT
 abbrev pub step_of : List ℕ → List ℕ → Option FiledStep
 step_of arc out = arc_word_of arc >>= (λ on. number_of out >>= (λ leave. Some (record { segment = on.0; forward = on.1; leave = leave })))
@@ -107,7 +115,9 @@ unfiled_of verb words =
     else (if bytes_eq verb (codes "windows") then windows_of words
     else (if bytes_eq verb (codes "occupancy") then occupancy_of words
     else (if bytes_eq verb (codes "timetable") then timetable_of words
-    else None)))))))
+    else (if bytes_eq verb (codes "work") then work_of words
+    else (if bytes_eq verb (codes "workdone") then work_done_of words
+    else None)))))))))
 
 -- the form that the first word says, of the words after it
 abbrev pub command_of_words : List (List ℕ) → Option Command

@@ -55,6 +55,17 @@ pub enum Command {
         segment: Name,
     },
     Timetable,
+    /// A work party shuts a segment for `[from, until)`.
+    Work {
+        name: Name,
+        segment: Name,
+        from: Time,
+        until: Time,
+    },
+    /// The party is done.
+    WorkDone {
+        name: Name,
+    },
 }
 
 /// Why no command was read.

@@ -1,6 +1,6 @@
 //! From a line to its command.
 ghost use Rattle.std.specs.Prelude.{◌≡◌, ◌↔◌, ◌==◌, Some, None, IfOk, IsSomeAnd, length, drop};
-ghost use Rattle.taxi_text.specs.Commands.{command_of, IsFile, file_of, unfiled_of, asked_of, arrival_of, departure_of, cancel_of, reroute_of, divert_of, windows_of, occupancy_of, timetable_of, first_as, the_end};
+ghost use Rattle.taxi_text.specs.Commands.{command_of, IsFile, file_of, unfiled_of, asked_of, arrival_of, departure_of, cancel_of, reroute_of, divert_of, windows_of, occupancy_of, timetable_of, work_of, work_done_of, first_as, the_end};
 ghost use Rattle.taxi_text.specs.Fields.{name_of, number_of};
 ghost use Rattle.taxi_text.specs.Reading.{IsReading};
 ghost use Rattle.taxi_text.specs.Words.{words_left};
@@ -72,6 +72,10 @@ fn read_unfiled(verb: &[u8], words: &mut WordSlices<'_>) -> Option<Command>
         read_occupancy(words)
     } else if verb == b"timetable".as_slice() {
         at_end(words, Command::Timetable)
+    } else if verb == b"work".as_slice() {
+        read_work(words)
+    } else if verb == b"workdone".as_slice() {
+        read_work_done(words)
     } else {
         None
     }
@@ -172,6 +176,29 @@ fn read_occupancy(words: &mut WordSlices<'_>) -> Option<Command>
 {
     let segment = next_name(words)?;
     at_end(words, Command::Occupancy { segment })
+}
+
+fn read_work(words: &mut WordSlices<'_>) -> Option<Command>
+    ensures { result ≡ work_of (words_left words.old) }
+{
+    let name = next_name(words)?;
+    let segment = next_name(words)?;
+    let from = next_number(words)?;
+    let until = next_number(words)?;
+    let work = Command::Work {
+        name,
+        segment,
+        from,
+        until,
+    };
+    at_end(words, work)
+}
+
+fn read_work_done(words: &mut WordSlices<'_>) -> Option<Command>
+    ensures { result ≡ work_done_of (words_left words.old) }
+{
+    let name = next_name(words)?;
+    at_end(words, Command::WorkDone { name })
 }
 
 fn next_name(words: &mut WordSlices<'_>) -> Option<Name>

@@ -108,13 +108,29 @@ fn each_form_of_command(rt: HostRuntime) -> Result<(), Fail> {
         )
     );
     assert!(rt; matches!(read_command(alloc, b"timetable")?, Command::Timetable));
+    assert!(rt;
+        matches!(
+            read_command(alloc, b"work W1 A 100 200")?,
+            Command::Work {
+                from: 100,
+                until: 200,
+                ..
+            }
+        )
+    );
+    assert!(rt;
+        matches!(
+            read_command(alloc, b"workdone W1")?,
+            Command::WorkDone { .. }
+        )
+    );
     Ok(())
 }
 
 #[test]
 fn bad_lines(rt: HostRuntime) -> Result<(), Fail> {
     let alloc = rt.alloc();
-    let refused: [&[u8]; 12] = [
+    let refused: [&[u8]; 14] = [
         b"",
         b"cancel",
         b"cancel  F1",
@@ -125,6 +141,8 @@ fn bad_lines(rt: HostRuntime) -> Result<(), Fail> {
         b"Cancel F1",
         b"timetable now",
         b"reroute F1 00000001",
+        b"work W1 A 100",
+        b"workdone",
         b"file F1 M 0",
         b"file F1 M 0 A+ 30 B+",
     ];

@@ -4,7 +4,6 @@
 ghost use Rattle.std.specs.Prelude.{◌≡◌, ◌<◌, length, IfOk};
 ghost use Rattle.taxi_base.specs.Walks.{begin_of, end_of};
 ghost use Rattle.taxi_base.specs.Reports.{kind_of_request, flight_row, timetable_rows};
-ghost use Rattle.commitments.specs.Book.{state_of};
 
 use commitments::Ledger;
 use std::alloc::Global;
@@ -12,7 +11,7 @@ use taxi_base::{Flight, FlightKind, FlightRow, List, Memory, Request, Step, Time
 
 /// One row for each flight in force, by rising names. The seconds are the first enter and the last leave of its route.
 pub fn timetable(alloc: Global, ledger: &Ledger) -> Result<List<FlightRow>, Memory>
-    ensures { IfOk result (λ rows. rows ≡ timetable_rows (state_of ledger.now)) }
+    ensures { IfOk result (λ rows. rows ≡ timetable_rows ledger.now.state) }
 {
     let mut rows = List::new(alloc);
     for place in 0..ledger.count() {

@@ -7,7 +7,7 @@ use Rattle.timetable_report.proofs.timetable.Goals as goal
 
 pub loop-place-preserved : goal.loop-place-preserved
 loop-place-preserved c =
-    let flights = c.args.ledger.now.flights in
+    let flights = c.args.ledger.now.state.flights in
     let place = c.loop-place.place in
     let flight = c.at.result.now in
     let low : place < length flights = omega (arith, c.loop-place-test.true, c.count-place-end.ensures.count) in

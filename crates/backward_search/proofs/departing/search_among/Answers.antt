@@ -21,14 +21,13 @@ use Rattle.backward_search.proofs.DepartureLaws.{departure_is_problem}
 use Rattle.backward_search.proofs.DepartureAnswers.{route_answers, no_route_answers}
 use Rattle.backward_search.proofs.departing.search_among.Goals as goal
 
-pub invariant_of-asked : goal.invariant_of-asked
-invariant_of-asked c = record {
-  nodes = subst (λ (l : Layout). (a : Arc) (n : Node) → head l a ≡ Some n → n.0 < l.nodes) (sym c.graph.ensures) (head_of_airport c.args.airport.now c.requires.rules);
-}
+pub last_arcs-requires : goal.last_arcs-requires
+last_arcs-requires c =
+    subst (λ (l : Layout). (a : Arc) (n : Node) → head l a ≡ Some n → n.0 < l.nodes) (sym c.graph.ensures) (head_of_airport c.args.airport.now c.requires.rules)
 
 pub latest_entries-requires : goal.latest_entries-requires
 latest_entries-requires c =
-    let ending : Ending = record { to = c.args.to; earliest = c.args.earliest_out; latest = c.args.latest_out } in
+    let ending : Ending = record { to = c.args.to.now; earliest = c.args.earliest_out; latest = c.args.latest_out } in
     let ground : Ground = record { layout = c.graph.result.now; table = c.classes.result.now.table; class = c.args.class; horizon = c.horizon.result; clearance = c.args.clearance; windows = windows_of c.args.store.now; numbers = numbers_of c.args.numbers.now } in
     let table = ap (λ (t : Times). t.table) c.classes.ensures in
     let same : ground ≡ ground_in c.args.airport.now c.args.class c.args.clearance (windows_of c.args.store.now) (numbers_of c.args.numbers.now) =
@@ -41,28 +40,28 @@ latest_entries-requires c =
 
 pub returns-in-None : goal.returns-in-None
 returns-in-None c =
-    let ending : Ending = record { to = c.args.to; earliest = c.args.earliest_out; latest = c.args.latest_out } in
+    let ending : Ending = record { to = c.args.to.now; earliest = c.args.earliest_out; latest = c.args.latest_out } in
     let ground : Ground = record { layout = c.graph.result.now; table = c.classes.result.now.table; class = c.args.class; horizon = c.horizon.result; clearance = c.args.clearance; windows = windows_of c.args.store.now; numbers = numbers_of c.args.numbers.now } in
     let told : Ground = ground_in c.args.airport.now c.args.class c.args.clearance (windows_of c.args.store.now) (numbers_of c.args.numbers.now) in
     let table = ap (λ (t : Times). t.table) c.classes.ensures in
     let same_ground : ground ≡ told = λ i. record { layout = c.graph.ensures i; table = table i; class = c.args.class; horizon = c.horizon.ensures.horizon i; clearance = c.args.clearance; windows = windows_of c.args.store.now; numbers = numbers_of c.args.numbers.now } in
     let same : departure_problem ground c.args.from ending ≡ departure_problem told c.args.from ending = ap (λ (g : Ground). departure_problem g c.args.from ending) same_ground in
     let values : List CellValue = c.in_ok-values.field-0.values.items in
-    let rows = c.in_ok-labels.ensures ∙ ap (λ (xs : List CellValue). map (row_in ground) xs) c.deref.ensures.value ∙ ap (λ (g : Ground). map (row_in g) values) same_ground in
+    let rows = c.in_ok-labels.ensures ∙ ap (λ (xs : List CellValue). map (row_in ground) xs) c.deref-2.ensures.value ∙ ap (λ (g : Ground). map (row_in g) values) same_ground in
     no_route_answers c.args.airport.now c.args.class c.args.clearance (windows_of c.args.store.now) c.requires.rules c.requires.lists (numbers_of c.args.numbers.now) c.args.numbers.now.numbered c.requires.room c.args.from ending c.in_ok-values.field-0.route c.in-None.is values
     (subst (λ (p : BackwardProblem). AreEntries p.network p.finishes p.count (best_of c.in_ok-values.field-0.route) values) same c.in_ok-values.ensures.table)
     (subst (λ (p : BackwardProblem). IfNone (best_of c.in_ok-values.field-0.route) (HasNoWalkFrom p.network p.finishes p.source)) same c.in_ok-values.ensures.none) c.in_ok-labels.labels rows
 
 pub returns : goal.returns
 returns c =
-    let ending : Ending = record { to = c.args.to; earliest = c.args.earliest_out; latest = c.args.latest_out } in
+    let ending : Ending = record { to = c.args.to.now; earliest = c.args.earliest_out; latest = c.args.latest_out } in
     let ground : Ground = record { layout = c.graph.result.now; table = c.classes.result.now.table; class = c.args.class; horizon = c.horizon.result; clearance = c.args.clearance; windows = windows_of c.args.store.now; numbers = numbers_of c.args.numbers.now } in
     let told : Ground = ground_in c.args.airport.now c.args.class c.args.clearance (windows_of c.args.store.now) (numbers_of c.args.numbers.now) in
     let table = ap (λ (t : Times). t.table) c.classes.ensures in
     let same_ground : ground ≡ told = λ i. record { layout = c.graph.ensures i; table = table i; class = c.args.class; horizon = c.horizon.ensures.horizon i; clearance = c.args.clearance; windows = windows_of c.args.store.now; numbers = numbers_of c.args.numbers.now } in
     let same : departure_problem ground c.args.from ending ≡ departure_problem told c.args.from ending = ap (λ (g : Ground). departure_problem g c.args.from ending) same_ground in
     let values : List CellValue = c.in_ok-values.field-0.values.items in
-    let rows = c.in_ok-labels.ensures ∙ ap (λ (xs : List CellValue). map (row_in ground) xs) c.deref.ensures.value ∙ ap (λ (g : Ground). map (row_in g) values) same_ground in
+    let rows = c.in_ok-labels.ensures ∙ ap (λ (xs : List CellValue). map (row_in ground) xs) c.deref-2.ensures.value ∙ ap (λ (g : Ground). map (row_in g) values) same_ground in
     let steps = c.in_ok-steps-in-Some.ensures ∙ ap (λ (walk : List CellStep). steps_at (place_at (cells_of ground)) (map step_of walk)) c.deref-in-Some.ensures.value ∙ ap (λ (g : Ground). steps_at (place_at (cells_of g)) (map step_of c.in-Some.route.steps.items)) same_ground in
     route_answers c.args.airport.now c.args.class c.args.clearance (windows_of c.args.store.now) c.requires.rules c.requires.lists (numbers_of c.args.numbers.now) c.args.numbers.now.numbered c.requires.room c.args.from ending c.in_ok-values.field-0.route c.in-Some.route c.in-Some.is values
     (subst (λ (p : BackwardProblem). AreEntries p.network p.finishes p.count (best_of c.in_ok-values.field-0.route) values) same c.in_ok-values.ensures.table)

@@ -8,13 +8,13 @@ use Rattle.certificate.specs.Sought.{sought_again}
 use Rattle.check_rows.specs.Known.{DifferOn}
 use Rattle.check_rows.proofs.LoopLaws.{says-no, says-yes}
 use Rattle.checked_state.specs.Flights.{state_of}
-use Rattle.checked_state.proofs.HeldLaws.{differ-none}
+use Rattle.due_refusals.proofs.HeldLaws.{differ-none}
 use Rattle.certificate_check.specs.Judged.{IsToldOf}
-use Rattle.certificate_check.proofs.StepLaws.{ok-weaker}
+use Rattle.check_walks.proofs.StepLaws.{ok-weaker}
 use Rattle.certificate_check.proofs.JudgedLaws.{told-of}
 use Rattle.certificate_check.proofs.GoOnLaws.{go_on-with, go_on-without, sought-goes_on}
 use Rattle.certificate_check.proofs.RoutedLaws.{not-told, told-walk, told-route, told-other, walk-arcs, ready-either}
-use Rattle.certificate_check.proofs.AgainLaws.{told-unpassed, told-there, none-there, some-there, lifted-arcs, again-sound, again-differ, again-after}
+use Rattle.certificate_check.proofs.AgainLaws.{told-unpassed, told-there, none-there, some-there, lifted-arcs, lifted-alone, again-sound, again-differ, again-after}
 use Rattle.certificate_check.proofs.again.check_again.Goals as goal
 
 pub returns-then-not-is_told-clause-told : goal.returns-then-not-is_told-clause-told
@@ -122,7 +122,7 @@ returns-in_err-replace-in-Some-clause-ready c =
     let walk = told-walk s block there.0 there.1 c.in-Some.steps there.2 there.3 all in
     let met = c.requires.meant flight found c.in-Some.steps walk in
     let differ = subst (λ (steps : List Step). DifferOn steps (holds_in airport (without name state)) (holds_in airport (with_route flight c.args.request c.in-Some.steps state))) (sym c.as_slice.ensures)
-    (again-differ airport state.flights name flight found c.args.request c.in-Some.steps) in
+    (again-differ airport state name flight found c.args.request c.in-Some.steps) in
     let known_after = c.forget.ensures (holds_in airport (without name state)) (holds_in airport (with_route flight c.args.request c.in-Some.steps state)) differ c.check_lifted-told.ensures.others in
     let known_same = c.forget.ensures (holds_in airport state) (holds_in airport state) (differ-none _ _) c.check_lifted-told.ensures.known in
     let sound_after = again-sound airport state (state_of c.check_lifted-told.new.held) lifted c.requires.ready.is_sound name flight found c.args.request c.in-Some.steps met in
@@ -169,7 +169,7 @@ returns-in_ok-replace-in-Some-clause-ready c =
     let walk = told-walk s block there.0 there.1 c.in-Some.steps there.2 there.3 all in
     let met = c.requires.meant flight found c.in-Some.steps walk in
     let differ = subst (λ (steps : List Step). DifferOn steps (holds_in airport (without name state)) (holds_in airport (with_route flight c.args.request c.in-Some.steps state))) (sym c.as_slice.ensures)
-    (again-differ airport state.flights name flight found c.args.request c.in-Some.steps) in
+    (again-differ airport state name flight found c.args.request c.in-Some.steps) in
     let known_after = c.forget.ensures (holds_in airport (without name state)) (holds_in airport (with_route flight c.args.request c.in-Some.steps state)) differ c.check_lifted-told.ensures.others in
     let known_same = c.forget.ensures (holds_in airport state) (holds_in airport state) (differ-none _ _) c.check_lifted-told.ensures.known in
     let sound_after = again-sound airport state (state_of c.check_lifted-told.new.held) lifted c.requires.ready.is_sound name flight found c.args.request c.in-Some.steps met in
@@ -194,3 +194,15 @@ returns-in-None-clause-told c flight found =
     let all = told-of s block form None (first flight found s refl refl refl) in
     subst (λ (new : State). IsToldOf s block state (Ok None) new) (sym (c.lower-in-None.ensures.state ∙ lifted))
     (told-other s block state (none-there block c.in_ok-steps.steps c.in_ok-steps.ensures c.in-None.is) all)
+
+pub lower-requires-clause-alone : goal.lower-requires-clause-alone
+lower-requires-clause-alone c =
+    lifted-alone c.args.airport.now (state_of c.args.held.now) (state_of c.check_lifted-told.new.held) c.check_lifted-told.ensures.state c.requires.ready.is_sound c.args.name.now c.requires.in_force
+
+pub replace-requires-clause-alone : goal.replace-requires-clause-alone
+replace-requires-clause-alone c =
+    lifted-alone c.args.airport.now (state_of c.args.held.now) (state_of c.check_lifted-told.new.held) c.check_lifted-told.ensures.state c.requires.ready.is_sound c.args.name.now c.requires.in_force
+
+pub lower-requires-in-None-clause-alone : goal.lower-requires-in-None-clause-alone
+lower-requires-in-None-clause-alone c =
+    lifted-alone c.args.airport.now (state_of c.args.held.now) (state_of c.check_lifted-told.new.held) c.check_lifted-told.ensures.state c.requires.ready.is_sound c.args.name.now c.requires.in_force

@@ -4,11 +4,13 @@ use Rattle.taxi_base.specs.declared.rows.Step.{Step}
 use Rattle.taxi_base.specs.State.{State, holds_in, without, flight_named}
 use Rattle.certificate.specs.Sought.{UnderWay}
 use Rattle.check_rows.specs.Known.{DifferOn}
-use Rattle.checked_state.specs.Spans.{AreSpansOf}
+use Rattle.held_spans.specs.Spans.{AreSpansOf}
 use Rattle.checked_state.specs.Flights.{state_of}
-use Rattle.checked_state.proofs.HeldLaws.{differ-without, differ-none, differ-back}
-use Rattle.certificate_check.proofs.DeskLaws.{copied-flight, flight-arcs, known-own, own-known}
-use Rattle.certificate_check.proofs.AgainLaws.{flight-early, lifted-first}
+use Rattle.due_refusals.proofs.HeldLaws.{differ-without, differ-none, differ-back}
+use Rattle.checked_state.proofs.FlightLaws.{copied-flight}
+use Rattle.certificate_check.proofs.DeskLaws.{flight-arcs, flight-alone}
+use Rattle.due_refusals.proofs.HeldLaws.{known-own, own-known}
+use Rattle.certificate_check.proofs.AgainLaws.{flight-early, lifted-first, lifted-alone}
 use Rattle.certificate_check.proofs.again.check_lifted.Goals as goal
 
 pub forget-requires : goal.forget-requires
@@ -44,7 +46,7 @@ check_told-told-requires-clause-known c =
     let looked = sym c.flight.ensures ∙ copied-flight c.flight.result c.unwrap-flight.result c.unwrap-flight.ensures in
     let found = subst (λ (s : State). flight_named name s.flights ≡ Some f) c.lift.ensures.state looked in
     let differ = subst (λ (steps : List Step). DifferOn steps (holds_in airport state) (holds_in airport (without name state))) (sym c.as_slice-steps.ensures)
-    (differ-without airport f state.flights name c.requires.ready.is_sound.feasible.ordered found) in
+    (differ-without airport f state name c.requires.ready.is_sound.feasible.ordered (flight-alone airport state c.requires.ready.is_sound name f found) found) in
     let has = subst (AreSpansOf (holds_in airport (without name state))) (sym c.spans.ensures) c.lift.ensures.spans.spans in
     known-own airport (without name state) c.spans.result.now has c.forget.new.self (c.forget.ensures (holds_in airport state) (holds_in airport (without name state)) differ c.requires.ready.are_known)
 
@@ -67,7 +69,7 @@ returns-clause-known c =
     let looked = sym c.flight.ensures ∙ copied-flight c.flight.result c.unwrap-flight.result c.unwrap-flight.ensures in
     let found = subst (λ (s : State). flight_named name s.flights ≡ Some f) c.lift.ensures.state looked in
     let differ = subst (λ (steps : List Step). DifferOn steps (holds_in airport state) (holds_in airport (without name state))) (sym c.as_slice-steps.ensures)
-    (differ-without airport f state.flights name c.requires.ready.is_sound.feasible.ordered found) in
+    (differ-without airport f state name c.requires.ready.is_sound.feasible.ordered (flight-alone airport state c.requires.ready.is_sound name f found) found) in
     let has = subst (AreSpansOf (holds_in airport (without name state))) (sym c.spans.ensures) c.lift.ensures.spans.spans in
     c.forget-2.ensures (holds_in airport (without name state)) (holds_in airport state) (differ-back _ _ _ differ) (own-known airport (without name state) c.spans.result.now has c.check_told-told.new.known c.check_told-told.ensures.known)
 
@@ -80,7 +82,7 @@ returns-clause-others c =
     let looked = sym c.flight.ensures ∙ copied-flight c.flight.result c.unwrap-flight.result c.unwrap-flight.ensures in
     let found = subst (λ (s : State). flight_named name s.flights ≡ Some f) c.lift.ensures.state looked in
     let differ = subst (λ (steps : List Step). DifferOn steps (holds_in airport state) (holds_in airport (without name state))) (sym c.as_slice-steps.ensures)
-    (differ-without airport f state.flights name c.requires.ready.is_sound.feasible.ordered found) in
+    (differ-without airport f state name c.requires.ready.is_sound.feasible.ordered (flight-alone airport state c.requires.ready.is_sound name f found) found) in
     let has = subst (AreSpansOf (holds_in airport (without name state))) (sym c.spans.ensures) c.lift.ensures.spans.spans in
     c.forget-2.ensures (holds_in airport (without name state)) (holds_in airport (without name state)) (differ-none _ _)
     (own-known airport (without name state) c.spans.result.now has c.check_told-told.new.known c.check_told-told.ensures.known)
@@ -94,6 +96,10 @@ returns-clause-first c =
     let looked = sym c.flight.ensures ∙ copied-flight c.flight.result c.unwrap-flight.result c.unwrap-flight.ensures in
     let found = subst (λ (s : State). flight_named name s.flights ≡ Some f) c.lift.ensures.state looked in
     let differ = subst (λ (steps : List Step). DifferOn steps (holds_in airport state) (holds_in airport (without name state))) (sym c.as_slice-steps.ensures)
-    (differ-without airport f state.flights name c.requires.ready.is_sound.feasible.ordered found) in
+    (differ-without airport f state name c.requires.ready.is_sound.feasible.ordered (flight-alone airport state c.requires.ready.is_sound name f found) found) in
     let has = subst (AreSpansOf (holds_in airport (without name state))) (sym c.spans.ensures) c.lift.ensures.spans.spans in
     lifted-first airport state name f found c.spans.result.now has c.as_slice-steps.result.now c.as_slice-steps.ensures c.args.time c.args.request c.args.block.now c.check_told-told.result c.check_told-told.ensures.first
+
+pub lift-requires-clause-alone : goal.lift-requires-clause-alone
+lift-requires-clause-alone c =
+    lifted-alone c.args.airport.now (state_of c.args.held.now) (state_of c.args.held.now) refl c.requires.ready.is_sound c.args.name.now c.requires.in_force

@@ -5,8 +5,9 @@ use Rattle.taxi_base.proofs.AirportLaws.{node_named-exists}
 use Rattle.taxi_text.specs.declared.command.Command.TheVariants as command
 use Rattle.certificate.specs.Sought.{sought_again}
 use Rattle.checked_state.specs.Flights.{state_of}
-use Rattle.certificate_check.proofs.StepLaws.{walk-some}
-use Rattle.certificate_check.proofs.DeskLaws.{copied-flight, flight-walk}
+use Rattle.check_walks.proofs.StepLaws.{walk-some}
+use Rattle.checked_state.proofs.FlightLaws.{copied-flight}
+use Rattle.certificate_check.proofs.DeskLaws.{flight-walk}
 use Rattle.certificate_check.proofs.GoOnLaws.{go_on-named}
 use Rattle.certificate_check.proofs.JudgedLaws.{told-judged}
 use Rattle.certificate_check.proofs.AnewLaws.{retargeted-sought, routed-first, arrival-second, other-meant, divert-none, divert-sought}

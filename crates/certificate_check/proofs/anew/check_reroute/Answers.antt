@@ -3,8 +3,9 @@ use Rattle.taxi_base.specs.State.{conditions_of}
 use Rattle.taxi_text.specs.declared.command.Command.TheVariants as command
 use Rattle.certificate.specs.Sought.{sought_again}
 use Rattle.checked_state.specs.Flights.{state_of}
-use Rattle.certificate_check.proofs.StepLaws.{walk-some}
-use Rattle.certificate_check.proofs.DeskLaws.{copied-flight, flight-walk}
+use Rattle.check_walks.proofs.StepLaws.{walk-some}
+use Rattle.checked_state.proofs.FlightLaws.{copied-flight}
+use Rattle.certificate_check.proofs.DeskLaws.{flight-walk}
 use Rattle.certificate_check.proofs.GoOnLaws.{go_on-named}
 use Rattle.certificate_check.proofs.JudgedLaws.{told-judged}
 use Rattle.certificate_check.proofs.AnewLaws.{goes-sought, routed-first, own-meant, reroute-none, reroute-sought}

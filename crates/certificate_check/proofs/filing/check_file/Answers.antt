@@ -4,8 +4,8 @@ use Rattle.taxi_base.specs.State.{holds_in, with_flight}
 use Rattle.check_rows.specs.Known.{DifferOn}
 use Rattle.check_rows.proofs.LoopLaws.{says-yes}
 use Rattle.checked_state.specs.Flights.{state_of}
-use Rattle.checked_state.proofs.HeldLaws.{differ-with, differ-none}
-use Rattle.certificate_check.specs.Filing.{IsDueOf}
+use Rattle.due_refusals.proofs.HeldLaws.{differ-with, differ-none}
+use Rattle.due_refusals.specs.Filing.{IsDueOf}
 use Rattle.certificate_check.specs.Desk.{CanGoOn}
 use Rattle.certificate_check.proofs.GoOnLaws.{go_on-with}
 use Rattle.certificate_check.proofs.RoutedLaws.{either-way, ready-either}
@@ -40,12 +40,12 @@ returns-in_err-put_in-in-Accepted-clause-ready c =
     let state = state_of c.args.held.now in
     let flight = c.in-Accepted.flight in
     let accepted = subst (IsDueOf airport state new.name.now new.class.now new.start new.steps.now) c.in-Accepted.is c.in_ok-why.ensures.due in
-    let differ = subst (λ (steps : List Step). DifferOn steps (holds_in airport state) (holds_in airport (with_flight flight state))) (sym c.as_slice-steps.ensures) (differ-with airport flight state.flights) in
+    let differ = subst (λ (steps : List Step). DifferOn steps (holds_in airport state) (holds_in airport (with_flight flight state))) (sym c.as_slice-steps.ensures) (differ-with airport flight state) in
     ready-either airport c.put_in.new.self c.forget.new.self (with_flight flight state) state (either-way c.put_in.result _ _ c.put_in.ensures.ok c.put_in.ensures.err)
     (accepted-sound airport state new.name.now new.class.now new.start new.steps.now c.requires.steps flight accepted c.requires.ready.is_sound) c.requires.ready.is_sound
     (go_on-with airport flight state.flights (subst (CanGoOn airport) (sym accepted.by_hand) tt) c.requires.ready.can_go_on) c.requires.ready.can_go_on
-    (c.forget.ensures (holds_in airport state) (holds_in airport (with_flight flight state)) differ c.find_due.ensures.ready.are_known)
-    (c.forget.ensures (holds_in airport state) (holds_in airport state) (differ-none _ _) c.find_due.ensures.ready.are_known)
+    (c.forget.ensures (holds_in airport state) (holds_in airport (with_flight flight state)) differ c.find_due.ensures.known)
+    (c.forget.ensures (holds_in airport state) (holds_in airport state) (differ-none _ _) c.find_due.ensures.known)
     c.put_in.ensures.spans
 
 pub returns-in_ok-put_in-in-Accepted-clause-judged : goal.returns-in_ok-put_in-in-Accepted-clause-judged
@@ -65,10 +65,10 @@ returns-in_ok-put_in-in-Accepted-clause-ready c =
     let state = state_of c.args.held.now in
     let flight = c.in-Accepted.flight in
     let accepted = subst (IsDueOf airport state new.name.now new.class.now new.start new.steps.now) c.in-Accepted.is c.in_ok-why.ensures.due in
-    let differ = subst (λ (steps : List Step). DifferOn steps (holds_in airport state) (holds_in airport (with_flight flight state))) (sym c.as_slice-steps.ensures) (differ-with airport flight state.flights) in
+    let differ = subst (λ (steps : List Step). DifferOn steps (holds_in airport state) (holds_in airport (with_flight flight state))) (sym c.as_slice-steps.ensures) (differ-with airport flight state) in
     ready-either airport c.put_in.new.self c.forget.new.self (with_flight flight state) state (either-way c.put_in.result _ _ c.put_in.ensures.ok c.put_in.ensures.err)
     (accepted-sound airport state new.name.now new.class.now new.start new.steps.now c.requires.steps flight accepted c.requires.ready.is_sound) c.requires.ready.is_sound
     (go_on-with airport flight state.flights (subst (CanGoOn airport) (sym accepted.by_hand) tt) c.requires.ready.can_go_on) c.requires.ready.can_go_on
-    (c.forget.ensures (holds_in airport state) (holds_in airport (with_flight flight state)) differ c.find_due.ensures.ready.are_known)
-    (c.forget.ensures (holds_in airport state) (holds_in airport state) (differ-none _ _) c.find_due.ensures.ready.are_known)
+    (c.forget.ensures (holds_in airport state) (holds_in airport (with_flight flight state)) differ c.find_due.ensures.known)
+    (c.forget.ensures (holds_in airport state) (holds_in airport state) (differ-none _ _) c.find_due.ensures.known)
     c.put_in.ensures.spans

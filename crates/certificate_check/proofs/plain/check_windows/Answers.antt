@@ -1,9 +1,10 @@
 use Rattle.std.proofs.Common.{sym, subst, ◌∙◌}
 use Rattle.taxi_base.specs.State.{holds_in}
 use Rattle.certificate.proofs.WindowsTold.{segment_named-exists}
-use Rattle.checked_state.specs.Spans.{AreSpansOf}
+use Rattle.held_spans.specs.Spans.{AreSpansOf}
 use Rattle.checked_state.specs.Flights.{state_of}
-use Rattle.certificate_check.proofs.DeskLaws.{known-own, own-known, windows-known, windows-judged}
+use Rattle.due_refusals.proofs.HeldLaws.{known-own, own-known}
+use Rattle.certificate_check.proofs.DeskLaws.{windows-known, windows-judged}
 use Rattle.certificate_check.proofs.plain.check_windows.Goals as goal
 
 pub make-requires-clause-on : goal.make-requires-clause-on

@@ -1,11 +1,11 @@
 use Rattle.std.proofs.Common.{◌∙◌, refl, sym, subst}
 use Rattle.taxi_base.specs.State.{holds_in}
 use Rattle.check_rows.proofs.LoopLaws.{says-no, says-yes}
-use Rattle.checked_state.specs.Spans.{AreSpansOf}
+use Rattle.held_spans.specs.Spans.{AreSpansOf}
 use Rattle.checked_state.specs.Flights.{state_of}
-use Rattle.checked_state.proofs.HeldLaws.{same-conditions}
+use Rattle.due_refusals.proofs.HeldLaws.{same-conditions}
 use Rattle.certificate.specs.Sought.{sought_new}
-use Rattle.certificate_check.proofs.DeskLaws.{known-own, own-known}
+use Rattle.due_refusals.proofs.HeldLaws.{known-own, own-known}
 use Rattle.certificate_check.proofs.JudgedLaws.{told-of}
 use Rattle.certificate_check.proofs.RoutedLaws.{not-told, told-broken, none-broken, told-walk, told-route, told-other}
 use Rattle.certificate_check.proofs.routed.check_new.Goals as goal

@@ -1,7 +1,7 @@
 use Rattle.std.proofs.Common.{◌≡◌, ◌<◌, ℕ, All, take}
 use Rattle.std.specs.List.{list_any}
 use Rattle.taxi_base.specs.Windows.{covers}
-use Rattle.check_rows.specs.Holds.{held_at}
+use Rattle.held_spans.specs.Holds.{held_at}
 use Rattle.check_rows.proofs.windows.fill_busy.Given as goal
 
 abbrev pub invariant-loop-segment : goal.invariant-loop-segment

@@ -1,5 +1,5 @@
 use Rattle.std.proofs.Common.{◌≡◌, ◌++◌, drop}
-use Rattle.check_rows.specs.Holds.{gaps}
+use Rattle.check_rows.specs.Gaps.{gaps}
 use Rattle.check_rows.proofs.windows.fill_gaps.Given as goal
 
 abbrev pub invariant-loop-span : goal.invariant-loop-span

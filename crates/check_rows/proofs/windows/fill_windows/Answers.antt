@@ -4,7 +4,7 @@ use Rattle.std.proofs.lemmas.List.Sorted.{IsNonDecreasingBy-from_sort_by_key}
 use Rattle.conflict_sets.specs.Conflicts.{ConflictSets, AreConflicts}
 use Rattle.taxi_base.specs.declared.rows.Span.{Span}
 use Rattle.taxi_base.specs.Windows.{is_free, AreWindows}
-use Rattle.check_rows.specs.Holds.{gaps}
+use Rattle.check_rows.specs.Gaps.{gaps}
 use Rattle.check_rows.proofs.GapLaws.{gaps-are}
 use Rattle.check_rows.proofs.windows.fill_windows.Goals as goal
 

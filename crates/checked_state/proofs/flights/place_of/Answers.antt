@@ -1,10 +1,11 @@
 use Rattle.std.proofs.Common.{rules}
 use Rattle.std.proofs.lemmas.List.Sorted.{answers_always}
-use Rattle.checked_state.proofs.FlightLaws.{searched}
+use Rattle.taxi_base.specs.declared.answers.Flight.{Flight}
+use Rattle.checked_state.proofs.PlaceLaws.{searched}
 use Rattle.checked_state.proofs.flights.place_of.Goals as goal
 
 pub returns : goal.returns
 returns c =
     let facts = c.binary_search_by_key.ensures in
     let by_key = facts.position (λ f. f.name) (answers_always _ _ _ (λ f a r g called. search rules)) in
-    searched c.args.flights.now c.args.name.now c.requires _ facts.bound by_key
+    searched (λ (f : Flight). f.name) c.args.flights.now c.args.name.now c.requires _ facts.bound by_key

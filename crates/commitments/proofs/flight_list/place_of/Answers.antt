@@ -1,10 +1,11 @@
 use Rattle.std.proofs.Common.{rules}
 use Rattle.std.proofs.lemmas.List.Sorted.{answers_always}
+use Rattle.commitments.specs.Places.{key_name}
 use Rattle.commitments.proofs.Names.{searched}
 use Rattle.commitments.proofs.flight_list.place_of.Goals as goal
 
 pub returns : goal.returns
 returns c =
     let facts = c.binary_search_by_key.ensures in
-    let by_key = facts.position (λ n. n.0) (answers_always _ _ _ (λ f a r g called. search rules)) in
-    searched c.args.names.now c.args.name.now c.requires _ facts.bound by_key
+    let by_key = facts.position key_name (answers_always _ _ _ (λ f a r g called. search rules)) in
+    searched key_name c.args.names.now c.args.name.now c.requires _ facts.bound by_key

@@ -1,6 +1,7 @@
-use Rattle.std.proofs.Common.{◌≡◌, ◌<◌, ◌++◌, None, Some, length, take, get_or, sym, ap, ◌∙◌, arith}
+use Rattle.std.proofs.Common.{◌≡◌, ◌+◌, ◌<◌, ◌≤◌, ◌++◌, List, Option, None, Some, length, take, get_or, sym, ap, ◌∙◌, arith}
 use Rattle.std.proofs.lemmas.List.{append-nil, length-map}
-use Rattle.label_search.specs.Values.{rows_from, value_kept, values_kept}
+use Rattle.label_search.specs.declared.labels.Label.{Label}
+use Rattle.label_search.specs.Values.{rows_from, value_kept, values_kept, AreAsBeforeFrom, AreRowsTo}
 use Rattle.label_search.proofs.ValueLaws.{row_of, rows_more, kept_at}
 use Rattle.label_search.proofs.values.push_values.Goals as goal
 use Rattle.label_search.proofs.values.push_values.Goals.{in-Some+in_ok-push, in_default}
@@ -8,15 +9,23 @@ use Rattle.label_search.proofs.values.push_values.Goals.{in-Some+in_ok-push, in_
 pub loop-cell-preserved : goal.loop-cell-preserved
 loop-cell-preserved c =
     let known = c.args.known.now in
+    let bound = c.args.bound in
     let cell = c.loop-cell.cell in
-    let on : cell < length known = omega (arith, c.loop-cell-test.true, c.requires.inside) in
-    let here : get_or (values_kept c.args.bound known) cell None ≡ c.value_below.result = kept_at c.args.bound known cell ∙ sym c.value_below.ensures in
-    let more = rows_more (values_kept c.args.bound known) cell (omega (arith, length-map known (value_kept c.args.bound))) in
-    elim c.match-value_below.branch [
-      | in-Some+in_ok-push w ↦
-          ap (λ v. v.items) w.values-is ∙ w.in_ok-push.ensures.items ∙ ap (λ rows. rows ++ row_of cell (Some w.in-Some.value)) c.loop-cell.invariant
-          ∙ ap (λ o. rows_from 0 (take cell (values_kept c.args.bound known)) ++ row_of cell o) (sym (here ∙ w.in-Some.is)) ∙ sym more
-      | in_default w ↦
-          ap (λ v. v.items) w.values-is ∙ c.loop-cell.invariant ∙ sym (append-nil (rows_from 0 (take cell (values_kept c.args.bound known))))
-          ∙ ap (λ o. rows_from 0 (take cell (values_kept c.args.bound known)) ++ row_of cell o) (sym (here ∙ w.in_default.is)) ∙ sym more
-    ]
+    let begun = c.loop-cell.invariant.begun in
+    let begun' : c.args.first ≤ cell + 1 = omega (arith, begun) in
+    record {
+      begun = begun';
+      rows = λ all same long so_far. (
+          let on : cell < length all = omega (arith, c.loop-cell-test.true, c.requires.inside, long) in
+          let here : get_or (values_kept bound all) cell None ≡ c.value_below.result = kept_at bound all cell ∙ ap (value_kept bound) (sym (same cell begun)) ∙ sym c.value_below.ensures in
+          let more = rows_more (values_kept bound all) cell (omega (arith, on, length-map all (value_kept bound))) in
+          let before = c.loop-cell.invariant.rows all same long so_far in
+          elim c.match-value_below.branch [
+            | in-Some+in_ok-push w ↦
+                ap (λ v. v.items) w.values-is ∙ w.in_ok-push.ensures.items ∙ ap (λ rows. rows ++ row_of cell (Some w.in-Some.value)) before
+                ∙ ap (λ o. rows_from 0 (take cell (values_kept bound all)) ++ row_of cell o) (sym (here ∙ w.in-Some.is)) ∙ sym more
+            | in_default w ↦
+                ap (λ v. v.items) w.values-is ∙ before ∙ sym (append-nil (rows_from 0 (take cell (values_kept bound all))))
+                ∙ ap (λ o. rows_from 0 (take cell (values_kept bound all)) ++ row_of cell o) (sym (here ∙ w.in_default.is)) ∙ sym more
+          ]);
+    }

@@ -1,6 +1,11 @@
-use Rattle.std.proofs.Common.{◌≡◌, take}
-use Rattle.label_search.specs.Values.{rows_from, values_kept}
+use Rattle.std.proofs.Common.{◌≡◌, ◌≤◌, List, length, Option}
+use Rattle.label_search.specs.declared.labels.Label.{Label}
+use Rattle.label_search.specs.Values.{AreAsBeforeFrom, AreRowsTo}
 use Rattle.label_search.proofs.values.push_values.Given as goal
 
 abbrev pub invariant-loop-cell : goal.invariant-loop-cell
-invariant-loop-cell l = l.values.items ≡ rows_from 0 (take l.cell (values_kept l.bound l.known))
+invariant-loop-cell l = record {
+  begun : l.fn.first ≤ l.cell;
+  rows : (all : List (Option Label)) → AreAsBeforeFrom l.fn.first all l.known → length all ≡ length l.known
+      → AreRowsTo l.bound all l.fn.first l.initial.values.items → AreRowsTo l.bound all l.cell l.values.items;
+}

@@ -6,6 +6,6 @@ pub flight_refusal-requires : goal.flight_refusal-requires
 flight_refusal-requires c =
     omega (
       arith,
-      found-one (λ flight. 1 ≤ length flight.steps) c.args.name.now c.args.ledger.now.flights c.in-Some.flight.now c.count-flights.ensures.book.routed
+      found-one (λ flight. 1 ≤ length flight.steps) c.args.name.now c.args.ledger.now.state.flights c.in-Some.flight.now c.count-flights.ensures.book.routed
           (sym (rw c.in-Some.is at c.flight.ensures)),
     )

@@ -1,11 +1,10 @@
-use Rattle.std.proofs.Common.{refl, length, subst, ◌≡◌, ◌∙◌, false, is_some, arith, ap, sym}
-use Rattle.taxi_base.specs.State.{flight_named}
+use Rattle.std.proofs.Common.{refl, length, subst, ◌≡◌, ◌∙◌, ◌<◌, false, arith, ap, sym}
+use Rattle.taxi_base.specs.State.{has_holder, holder_count}
 use Rattle.taxi_base.specs.Walks.{AreJoined, IsFeasibleWalk}
 use Rattle.taxi_base.specs.Faults.{conditions_in, route_fault}
-use Rattle.commitments.specs.Book.{state_of}
-use Rattle.certificate.specs.Refusals.{is_in_force}
+use Rattle.certificate.specs.Refusals.{most_holders}
 use Rattle.certificate.proofs.FiledLaws.{filed_steps-length, filed_steps-arcs, filed_steps-joined}
-use Rattle.taxi_engine.proofs.FiledDue.{file-due, none-where_not_some, copied-some}
+use Rattle.taxi_engine.proofs.FiledDue.{file-due, not-full}
 use Rattle.taxi_engine.proofs.filing.check_filed.Goals as goal
 
 pub check_route-requires-clause-arcs : goal.check_route-requires-clause-arcs
@@ -17,18 +16,18 @@ check_route-requires-clause-few c = rw c.as_slice.ensures (omega (arith, c.requi
 pub returns-clause-ok : goal.returns-clause-ok
 returns-clause-ok c =
     let airport = c.args.airport.now in
-    let state = state_of c.args.ledger.now in
+    let state = c.args.ledger.now.state in
     let made = c.in_ok-steps.ensures.ok in
-    let absent : is_in_force c.args.flight.now state ≡ false =
-    ap is_some (sym c.flight.ensures) ∙ copied-some c.flight.result ∙ sym c.is_some.ensures ∙ c.if-is_some.false in
+    let absent : has_holder c.args.flight.now state ≡ false = sym c.is_held.ensures ∙ c.if-is_held.false in
+    let few : holder_count state < most_holders = not-full state (sym c.is_full.ensures ∙ c.if-is_full.false) in
     let faultless = ap (route_fault c.args.airport.now c.in-Some.class state) (sym c.as_slice.ensures) ∙ sym c.check_route.ensures.fault ∙ c.in_default-check_route.is in
     record {
       due = file-due c.args.airport.now state c.args.flight.now c.args.class.now c.args.start c.args.filed.now c.in-Some.class c.in_ok-steps.steps
-          absent (sym c.class_named.ensures ∙ c.in-Some.is) c.in_ok-steps.ensures.ok (omega (arith, c.count.ensures.count, c.if-count-ge-MOST_FLIGHTS.false)) faultless;
-      absent = none-where_not_some (flight_named c.args.flight.now c.args.ledger.now.flights) absent;
+          absent (sym c.class_named.ensures ∙ c.in-Some.is) c.in_ok-steps.ensures.ok few faultless;
+      absent = absent;
       request = refl;
       name = c.requires.name;
-      few = omega (arith, c.count.ensures.count, c.if-count-ge-MOST_FLIGHTS.false);
+      few = few;
       feasible = subst (IsFeasibleWalk (conditions_in airport c.in-Some.class state)) c.as_slice.ensures
           ((c.check_route.ensures.feasible
           (omega (arith, ap length c.as_slice.ensures, c.requires.some, filed_steps-length airport c.args.start c.args.filed.now c.in_ok-steps.steps made))

@@ -4,7 +4,6 @@ use Rattle.taxi_base.specs.Airport.{layout_of}
 use Rattle.taxi_base.specs.Walks.{ReachesNodeWithin}
 use Rattle.taxi_base.specs.Labels.{AnswersDeparture}
 use Rattle.taxi_base.specs.Faults.{conditions_in}
-use Rattle.commitments.specs.Book.{state_of}
 use Rattle.place_cells.specs.Laid.{windows_of}
 use Rattle.taxi_engine.proofs.SearchedLaws.{windows-by, conditions-found}
 use Rattle.taxi_engine.proofs.routing.find_departure.Goals as goal
@@ -20,6 +19,6 @@ returns c =
     let class = c.args.asked.now.class in
     let same = conditions-found airport c.args.ledger.now c.requires.fits c.requires.unlifted class c.clearance-clearance.result c.store-store.result.now
     c.clearance-clearance.ensures.clearance c.store-store.ensures in
-    subst (λ (earliest : ℕ). IfOk c.depart_in.result (AnswersDeparture (conditions_in airport class (state_of c.args.ledger.now)) c.args.asked.now.from (ReachesNodeWithin (layout_of airport) c.args.asked.now.to earliest c.args.time)))
+    subst (λ (earliest : ℕ). IfOk c.depart_in.result (AnswersDeparture (conditions_in airport class c.args.ledger.now.state) c.args.asked.now.from (ReachesNodeWithin (layout_of airport) c.args.asked.now.to earliest c.args.time)))
     c.saturating_sub-earliest.ensures
     (subst (λ k. IfOk c.depart_in.result (AnswersDeparture k c.args.asked.now.from (ReachesNodeWithin (layout_of airport) c.args.asked.now.to c.saturating_sub-earliest.result c.args.time))) same c.depart_in.ensures)

@@ -1,22 +1,24 @@
 use Rattle.std.proofs.Common.{List, ◌≡◌, ◌≤◌, ◌+◌, ◌∙◌, sym, ap, subst, arith}
 use Rattle.taxi_base.specs.declared.rows.Step.{Step}
 use Rattle.taxi_base.specs.declared.answers.Flight.{Flight}
-use Rattle.taxi_base.specs.State.{flights_without, flights_hold}
-use Rattle.checked_state.specs.Spans.{steps_on, room_at}
-use Rattle.checked_state.proofs.FlightLaws.{found-at, place-there, take-apart}
+use Rattle.taxi_base.specs.State.{without, holds_in}
+use Rattle.held_spans.specs.Spans.{steps_on, room_at}
+use Rattle.checked_state.specs.Flights.{state_of}
+use Rattle.checked_state.proofs.PlaceLaws.{found-at, place-there}
+use Rattle.checked_state.proofs.FlightLaws.{take-apart}
 use Rattle.checked_state.proofs.flights.HeldFlights.lift.Goals as goal
 
 pub unwrap-place-requires : goal.unwrap-place-requires
-unwrap-place-requires c = place-there c.args.self.now.flights.items c.args.name.now c.requires.ordered c.place_of.result (rw c.deref.ensures.value at c.place_of.ensures) c.requires.in_force
+unwrap-place-requires c = place-there (λ (f : Flight). f.name) c.args.self.now.flights.items c.args.name.now c.requires.ordered c.place_of.result (rw c.deref.ensures.value at c.place_of.ensures) c.requires.in_force
 
 pub release-requires : goal.release-requires
 release-requires c =
     let flights = c.args.self.now.flights.items in
     let name = c.args.name.now in
     let flight = c.index-flight.result.now in
-    let found = found-at flights name c.requires.ordered c.place_of.result c.unwrap-place.result (rw c.deref.ensures.value at c.place_of.ensures) c.unwrap-place.ensures flight c.index-flight.ensures in (
-      flights_hold c.args.airport.now (flights_without name flights),
-      take-apart c.args.airport.now c.args.self.now.spans name flights flight c.requires.ordered found c.horizon.result c.clearance-clearance.result c.as_slice-steps.result.now
+    let found = found-at (λ (f : Flight). f.name) flights name c.requires.ordered c.place_of.result c.unwrap-place.result (rw c.deref.ensures.value at c.place_of.ensures) c.unwrap-place.ensures flight c.index-flight.ensures in (
+      holds_in c.args.airport.now (without name (state_of c.args.self.now)),
+      take-apart c.args.airport.now c.args.self.now.spans name (state_of c.args.self.now) flight c.requires.ordered c.requires.alone found c.horizon.result c.clearance-clearance.result c.as_slice-steps.result.now
           c.horizon.ensures.horizon c.clearance-clearance.ensures.clearance c.as_slice-steps.ensures c.requires.spans.spans,
     )
 
@@ -25,11 +27,11 @@ returns-clause-spans c =
     let flights = c.args.self.now.flights.items in
     let name = c.args.name.now in
     let flight = c.index-flight.result.now in
-    let found = found-at flights name c.requires.ordered c.place_of.result c.unwrap-place.result (rw c.deref.ensures.value at c.place_of.ensures) c.unwrap-place.ensures flight c.index-flight.ensures in
+    let found = found-at (λ (f : Flight). f.name) flights name c.requires.ordered c.place_of.result c.unwrap-place.result (rw c.deref.ensures.value at c.place_of.ensures) c.unwrap-place.ensures flight c.index-flight.ensures in
     record {
       lists = c.release.ensures.count ∙ c.requires.spans.lists;
-      spans = c.release.ensures.gone (flights_hold c.args.airport.now (flights_without name flights))
-          (take-apart c.args.airport.now c.args.self.now.spans name flights flight c.requires.ordered found c.horizon.result c.clearance-clearance.result c.as_slice-steps.result.now
+      spans = c.release.ensures.gone (holds_in c.args.airport.now (without name (state_of c.args.self.now)))
+          (take-apart c.args.airport.now c.args.self.now.spans name (state_of c.args.self.now) flight c.requires.ordered c.requires.alone found c.horizon.result c.clearance-clearance.result c.as_slice-steps.result.now
           c.horizon.ensures.horizon c.clearance-clearance.ensures.clearance c.as_slice-steps.ensures c.requires.spans.spans);
     }
 
@@ -38,7 +40,7 @@ returns-clause-room c other known s =
     let flights = c.args.self.now.flights.items in
     let name = c.args.name.now in
     let flight = c.index-flight.result.now in
-    let found = found-at flights name c.requires.ordered c.place_of.result c.unwrap-place.result (rw c.deref.ensures.value at c.place_of.ensures) c.unwrap-place.ensures flight c.index-flight.ensures in
+    let found = found-at (λ (f : Flight). f.name) flights name c.requires.ordered c.place_of.result c.unwrap-place.result (rw c.deref.ensures.value at c.place_of.ensures) c.unwrap-place.ensures flight c.index-flight.ensures in
     let is : flight ≡ other = cc (sym found ∙ known) in
     let steps : c.as_slice-steps.result.now ≡ other.steps = c.as_slice-steps.ensures ∙ ap (λ (f : Flight). f.steps) is in
     let gains = subst (λ (steps : List Step). room_at c.args.self.now.spans s + steps_on s steps ≤ room_at c.release.new.self s) steps (c.release.ensures.room s) in

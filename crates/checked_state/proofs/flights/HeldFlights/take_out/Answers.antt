@@ -1,23 +1,26 @@
-use Rattle.std.proofs.Common.{List, ◌∙◌, [], sym, subst}
+use Rattle.std.proofs.Common.{List, ◌≡◌, ◌∙◌, [], sym, subst}
 use Rattle.std.specs.Prelude.{Ok}
 use Rattle.taxi_base.specs.declared.answers.Flight.{Flight}
-use Rattle.taxi_base.specs.State.{flights_without, flights_hold}
-use Rattle.checked_state.specs.Spans.{AreSpansOf}
-use Rattle.checked_state.proofs.FlightLaws.{flight-at, place-at, place-there, take-apart, without-at}
+use Rattle.taxi_base.specs.declared.answers.Party.{Party}
+use Rattle.taxi_base.specs.State.{State, without, holds_in}
+use Rattle.held_spans.specs.Spans.{AreSpansOf}
+use Rattle.checked_state.specs.Flights.{state_of}
+use Rattle.checked_state.proofs.PlaceLaws.{named-at, place-at, place-there, without-at, left-none}
+use Rattle.checked_state.proofs.FlightLaws.{take-apart}
 use Rattle.checked_state.proofs.flights.HeldFlights.take_out.Goals as goal
 
 pub unwrap-place-requires : goal.unwrap-place-requires
-unwrap-place-requires c = place-there c.args.self.now.flights.items c.args.name.now c.requires.ordered c.place_of.result (rw c.deref.ensures.value at c.place_of.ensures) c.requires.in_force
+unwrap-place-requires c = place-there (λ (f : Flight). f.name) c.args.self.now.flights.items c.args.name.now c.requires.ordered c.place_of.result (rw c.deref.ensures.value at c.place_of.ensures) c.requires.in_force
 
 pub release-requires : goal.release-requires
 release-requires c =
     let flights = c.args.self.now.flights.items in
     let name = c.args.name.now in
     let flight = c.remove-flight.result in
-    let place = place-at flights name c.place_of.result (Ok c.unwrap-place.result) (rw c.deref.ensures.value at c.place_of.ensures) c.unwrap-place.ensures in
-    let found = flight-at flights name c.requires.ordered c.unwrap-place.result place flight c.remove-flight.ensures.value in (
-      flights_hold c.args.airport.now (flights_without name flights),
-      take-apart c.args.airport.now c.args.self.now.spans name flights flight c.requires.ordered found c.horizon.result c.clearance-clearance.result c.as_slice-steps.result.now
+    let place = place-at (λ (f : Flight). f.name) flights name c.place_of.result (Ok c.unwrap-place.result) (rw c.deref.ensures.value at c.place_of.ensures) c.unwrap-place.ensures in
+    let found = named-at (λ (f : Flight). f.name) flights name c.requires.ordered c.unwrap-place.result place flight c.remove-flight.ensures.value in (
+      holds_in c.args.airport.now (without name (state_of c.args.self.now)),
+      take-apart c.args.airport.now c.args.self.now.spans name (state_of c.args.self.now) flight c.requires.ordered c.requires.alone found c.horizon.result c.clearance-clearance.result c.as_slice-steps.result.now
           c.horizon.ensures.horizon c.clearance-clearance.ensures.clearance c.as_slice-steps.ensures c.requires.spans.spans,
     )
 
@@ -26,23 +29,26 @@ returns-clause-state c =
     let flights = c.args.self.now.flights.items in
     let name = c.args.name.now in
     let flight = c.remove-flight.result in
-    let place = place-at flights name c.place_of.result (Ok c.unwrap-place.result) (rw c.deref.ensures.value at c.place_of.ensures) c.unwrap-place.ensures in
-    let found = flight-at flights name c.requires.ordered c.unwrap-place.result place flight c.remove-flight.ensures.value in
-    let left = c.remove-flight.ensures.items ∙ without-at flights name c.requires.ordered c.unwrap-place.result place flight in
-    λ i. record { flights = left i; parties = [] }
+    let place = place-at (λ (f : Flight). f.name) flights name c.place_of.result (Ok c.unwrap-place.result) (rw c.deref.ensures.value at c.place_of.ensures) c.unwrap-place.ensures in
+    let found = named-at (λ (f : Flight). f.name) flights name c.requires.ordered c.unwrap-place.result place flight c.remove-flight.ensures.value in
+    let left = c.remove-flight.ensures.items ∙ without-at (λ (f : Flight). f.name) flights name c.requires.ordered c.unwrap-place.result place flight in
+    let parties = left-none (λ (p : Party). p.name) name c.args.self.now.parties.items c.requires.alone in
+    λ i. record { flights = left i; parties = sym parties i }
 
 pub returns-clause-spans : goal.returns-clause-spans
 returns-clause-spans c =
     let flights = c.args.self.now.flights.items in
     let name = c.args.name.now in
     let flight = c.remove-flight.result in
-    let place = place-at flights name c.place_of.result (Ok c.unwrap-place.result) (rw c.deref.ensures.value at c.place_of.ensures) c.unwrap-place.ensures in
-    let found = flight-at flights name c.requires.ordered c.unwrap-place.result place flight c.remove-flight.ensures.value in
-    let left = c.remove-flight.ensures.items ∙ without-at flights name c.requires.ordered c.unwrap-place.result place flight in
+    let place = place-at (λ (f : Flight). f.name) flights name c.place_of.result (Ok c.unwrap-place.result) (rw c.deref.ensures.value at c.place_of.ensures) c.unwrap-place.ensures in
+    let found = named-at (λ (f : Flight). f.name) flights name c.requires.ordered c.unwrap-place.result place flight c.remove-flight.ensures.value in
+    let left = c.remove-flight.ensures.items ∙ without-at (λ (f : Flight). f.name) flights name c.requires.ordered c.unwrap-place.result place flight in
+    let parties = left-none (λ (p : Party). p.name) name c.args.self.now.parties.items c.requires.alone in
+    let after : without name (state_of c.args.self.now) ≡ record { flights = c.remove-flight.new.self.items; parties = c.args.self.now.parties.items } = λ i. record { flights = sym left i; parties = parties i } in
     record {
       lists = c.release.ensures.count ∙ c.requires.spans.lists;
-      spans = subst (λ (flights : List Flight). AreSpansOf (flights_hold c.args.airport.now flights) c.release.new.self) (sym left)
-          (c.release.ensures.gone (flights_hold c.args.airport.now (flights_without name flights))
-          (take-apart c.args.airport.now c.args.self.now.spans name flights flight c.requires.ordered found c.horizon.result c.clearance-clearance.result c.as_slice-steps.result.now
+      spans = subst (λ (s : State). AreSpansOf (holds_in c.args.airport.now s) c.release.new.self) after
+          (c.release.ensures.gone (holds_in c.args.airport.now (without name (state_of c.args.self.now)))
+          (take-apart c.args.airport.now c.args.self.now.spans name (state_of c.args.self.now) flight c.requires.ordered c.requires.alone found c.horizon.result c.clearance-clearance.result c.as_slice-steps.result.now
           c.horizon.ensures.horizon c.clearance-clearance.ensures.clearance c.as_slice-steps.ensures c.requires.spans.spans));
     }

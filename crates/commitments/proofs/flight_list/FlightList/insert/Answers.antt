@@ -2,7 +2,7 @@ use Rattle.std.proofs.Common.{◌≡◌, ◌∙◌, ap, true, rules}
 use Rattle.std.specs.Result.{is_ok}
 use Rattle.taxi_base.specs.State.{flights_with, flight_named}
 use Rattle.commitments.specs.Book.{Listing}
-use Rattle.commitments.proofs.Edits.{in_order, is-gap, committed}
+use Rattle.commitments.proofs.Edits.{in_order, no-flight, committed}
 use Rattle.commitments.proofs.flight_list.FlightList.insert.Goals as goal
 
 pub place_of-requires : goal.place_of-requires
@@ -10,7 +10,7 @@ place_of-requires c = rw c.deref.ensures.value (in_order c.self.inside.flights c
 
 pub unwrap_err-place-requires : goal.unwrap_err-place-requires
 unwrap_err-place-requires c =
-    is-gap c.self.inside.flights c.self.inside.names.items c.self.invariant c.args.flight.name c.place_of.result (rw c.deref.ensures.value at c.place_of.ensures)
+    no-flight c.self.inside.flights c.self.inside.names.items c.self.invariant c.args.flight.name c.place_of.result (rw c.deref.ensures.value at c.place_of.ensures)
     (ap (λ (b : Listing). flight_named c.args.flight.name b.flights) c.self.view_is ∙ c.requires.absent)
 
 pub invariant_of-self : goal.invariant_of-self

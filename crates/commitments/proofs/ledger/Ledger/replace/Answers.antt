@@ -1,9 +1,11 @@
 use Rattle.std.proofs.Common.{sym, subst, ap, ◌∙◌}
 use Rattle.std.specs.Option.{ForSome}
+use Rattle.taxi_base.specs.declared.answers.Flight.{Flight}
 use Rattle.taxi_base.specs.Walks.{IsFeasibleWalk}
-use Rattle.taxi_base.specs.State.{flights_hold, flights_without, conditions_of}
-use Rattle.commitments.specs.Book.{Book, Fits, state_of, lifted_flight}
-use Rattle.taxi_base.proofs.FlightNames.{absent-left, find-named}
+use Rattle.taxi_base.specs.State.{holds_in, without, conditions_of}
+use Rattle.commitments.specs.Book.{Book, Fits, lifted_flight}
+use Rattle.commitments.specs.Holders.{state_of}
+use Rattle.taxi_base.proofs.NamedLists.{absent-left, find-named}
 use Rattle.commitments.proofs.Fitting.{lifted-in_force, lifted-flight, lifted-stands, lifted-walk, place-some, replaced, fits-replace}
 use Rattle.commitments.proofs.ledger.Ledger.replace.Goals as goal
 
@@ -15,7 +17,7 @@ unwrap-name-requires c =
 pub unwrap-place-requires : goal.unwrap-place-requires
 unwrap-place-requires c =
     let fits = subst (Fits c.args.airport.now) (sym c.self.view_is) c.requires.fits in
-    place-some c.self.inside.flights.flights c.unwrap-name.result c.place.result c.place.ensures
+    place-some c.self.inside.holders.flights.flights c.unwrap-name.result c.place.result c.place.ensures
     (lifted-in_force c.args.airport.now _ c.unwrap-name.result fits (sym c.take.ensures.value ∙ c.unwrap-name.ensures))
 
 pub hold_flight-requires-clause-feasible : goal.hold_flight-requires-clause-feasible
@@ -23,36 +25,37 @@ hold_flight-requires-clause-feasible c =
     let fits = subst (Fits c.args.airport.now) (sym c.self.view_is) c.requires.fits in
     let at = rw c.unwrap-place.ensures at c.place.ensures in
     let lifted = sym c.take.ensures.value ∙ c.unwrap-name.ensures in
-    let found = sym at.named ∙ c.remove-flight.ensures.flight in
-    let feasible = subst (λ (b : Book). ForSome (lifted_flight b) (λ flight. IsFeasibleWalk (conditions_of c.args.airport.now (state_of b) flight) c.args.steps)) (sym c.self.view_is) c.requires.feasible in
+    let found = sym at.found ∙ c.remove-flight.ensures.flight in
+    let feasible = subst (λ (b : Book). ForSome (lifted_flight b) (λ flight. IsFeasibleWalk (conditions_of c.args.airport.now b.state flight) c.args.steps)) (sym c.self.view_is) c.requires.feasible in
     (lifted-walk c.args.airport.now _ c.unwrap-name.result fits lifted c.remove-flight.result found c.args.steps
     (feasible c.remove-flight.result (lifted-flight c.args.airport.now _ c.unwrap-name.result fits lifted c.remove-flight.result found)))
 
 pub insert-requires-clause-absent : goal.insert-requires-clause-absent
 insert-requires-clause-absent c =
     let at = rw c.unwrap-place.ensures at c.place.ensures in
-    let found = sym at.named ∙ c.remove-flight.ensures.flight in
-    rw (c.remove-flight.ensures.flights, at.others, find-named c.unwrap-name.result c.self.inside.flights.flights c.remove-flight.result found)
-    (absent-left c.unwrap-name.result c.self.inside.flights.flights)
+    let found = sym at.found ∙ c.remove-flight.ensures.flight in
+    rw (c.remove-flight.ensures.flights, at.others, find-named (λ (f : Flight). f.name) c.unwrap-name.result c.self.inside.holders.flights.flights c.remove-flight.result found)
+    (absent-left (λ (f : Flight). f.name) c.unwrap-name.result c.self.inside.holders.flights.flights)
 
-pub returns-clause-flights : goal.returns-clause-flights
-returns-clause-flights c =
+pub returns-clause-state : goal.returns-clause-state
+returns-clause-state c =
     let fits = subst (Fits c.args.airport.now) (sym c.self.view_is) c.requires.fits in
     let at = rw c.unwrap-place.ensures at c.place.ensures in
     let lifted = sym c.take.ensures.value ∙ c.unwrap-name.ensures in
-    let found = sym at.named ∙ c.remove-flight.ensures.flight in
+    let found = sym at.found ∙ c.remove-flight.ensures.flight in
     rw (← c.self.view_is, lifted-flight c.args.airport.now _ c.unwrap-name.result fits lifted c.remove-flight.result found, c.insert.ensures.flights, c.remove-flight.ensures.flights)
-    (replaced c.unwrap-name.result c.self.inside.flights.flights c.unwrap-place.result at c.remove-flight.result found c.args.request c.args.steps)
+    (replaced c.args.airport.now _ fits c.hold_flight.new.store c.hold_flight.ensures.nodes c.insert.new.self.room c.self.inside.holders.parties.room c.unwrap-name.result c.unwrap-place.result at
+    c.remove-flight.result found c.args.request c.args.steps)
 
 pub returns-clause-fits : goal.returns-clause-fits
 returns-clause-fits c =
     let fits = subst (Fits c.args.airport.now) (sym c.self.view_is) c.requires.fits in
     let at = rw c.unwrap-place.ensures at c.place.ensures in
     let lifted = sym c.take.ensures.value ∙ c.unwrap-name.ensures in
-    let found = sym at.named ∙ c.remove-flight.ensures.flight in
-    let feasible = subst (λ (b : Book). ForSome (lifted_flight b) (λ flight. IsFeasibleWalk (conditions_of c.args.airport.now (state_of b) flight) c.args.steps)) (sym c.self.view_is) c.requires.feasible in
+    let found = sym at.found ∙ c.remove-flight.ensures.flight in
+    let feasible = subst (λ (b : Book). ForSome (lifted_flight b) (λ flight. IsFeasibleWalk (conditions_of c.args.airport.now b.state flight) c.args.steps)) (sym c.self.view_is) c.requires.feasible in
     rw (c.take.ensures.after, c.insert.ensures.flights, c.remove-flight.ensures.flights)
-    (fits-replace c.args.airport.now _ fits c.hold_flight.new.store c.hold_flight.ensures.nodes c.insert.new.self.room c.unwrap-name.result c.unwrap-place.result at
-    c.remove-flight.result c.args.request c.args.steps found
+    (fits-replace c.args.airport.now _ fits c.hold_flight.new.store c.hold_flight.ensures.nodes c.insert.new.self.room c.self.inside.holders.parties.room c.unwrap-name.result c.unwrap-place.result at
+    c.remove-flight.result found c.args.request c.args.steps
     (feasible c.remove-flight.result (lifted-flight c.args.airport.now _ c.unwrap-name.result fits lifted c.remove-flight.result found))
-    (c.hold_flight.ensures.stands (flights_hold c.args.airport.now (flights_without c.unwrap-name.result c.self.inside.flights.flights)) (lifted-stands c.args.airport.now _ c.unwrap-name.result fits lifted)))
+    (c.hold_flight.ensures.stands (holds_in c.args.airport.now (without c.unwrap-name.result (state_of c.self.inside.holders))) (lifted-stands c.args.airport.now _ c.unwrap-name.result fits lifted)))

@@ -1,30 +1,32 @@
 use Rattle.std.proofs.Common.{◌≡◌, ◌∙◌, true, false, not, is_some, sym, ap, subst}
 use Rattle.taxi_base.specs.declared.answers.Refusal.TheVariants as refusal
-use Rattle.taxi_base.specs.State.{without, IsSound}
+use Rattle.taxi_base.specs.State.{IsSound}
 use Rattle.taxi_base.proofs.StateLaws.{IsSound-without}
 use Rattle.taxi_text.specs.declared.command.Command.TheVariants.{Cancel}
 use Rattle.certificate.specs.Refusals.{is_in_force}
 use Rattle.certificate.specs.CarriedOut.{cancelled_reply}
 use Rattle.certificate.specs.Replies.{refused, HaveNames}
 use Rattle.certificate.proofs.HolderNames.{without-names}
-use Rattle.commitments.specs.Book.{state_with, state_of}
 use Rattle.taxi_engine.specs.Engine.{EngineState}
 use Rattle.taxi_engine.specs.Accepted.{IsDoneAsDue}
 use Rattle.taxi_engine.proofs.DueLaws.{cancel-due, cancel-refused}
 use Rattle.taxi_engine.proofs.FiledDue.{copied-some}
+use Rattle.taxi_engine.proofs.TakenOut.{cancelled-state}
 use Rattle.taxi_engine.proofs.engine.Engine.cancel.Goals as goal
 
 pub invariant_of-self : goal.invariant_of-self
-invariant_of-self c = (
-  subst (λ flights. IsSound c.self.inside.airport (state_with flights)) (sym c.cancel.ensures.flights) (IsSound-without c.self.inside.airport c.args.flight.now (state_of c.self.inside.ledger) c.self.invariant.0),
-  c.cancel.ensures.fits,
-  subst (λ flights. HaveNames (state_with flights)) (sym c.cancel.ensures.flights) (without-names c.args.flight.now (state_of c.self.inside.ledger) c.self.invariant.2),
-  c.cancel.ensures.unlifted,
-)
+invariant_of-self c =
+    let after = cancelled-state c.args.flight.now c.self.inside.ledger c.cancel.new.self c.cancel.result c.cancel.ensures.flight c.cancel.ensures.state
+    (ap is_some (sym c.flight.ensures) ∙ copied-some c.flight.result ∙ c.is_none.ensures ∙ ap not c.if-is_none.false) in (
+      subst (IsSound c.self.inside.airport) (sym after) (IsSound-without c.self.inside.airport c.args.flight.now c.self.inside.ledger.state c.self.invariant.0),
+      c.cancel.ensures.fits,
+      subst HaveNames (sym after) (without-names c.args.flight.now c.self.inside.ledger.state c.self.invariant.2),
+      c.cancel.ensures.unlifted,
+    )
 
 pub returns-then-is_none : goal.returns-then-is_none
 returns-then-is_none c =
-    let absent : is_in_force c.args.flight.now (state_of c.self.inside.ledger) ≡ false =
+    let absent : is_in_force c.args.flight.now c.self.inside.ledger.state ≡ false =
     ap is_some (sym c.flight.ensures) ∙ copied-some c.flight.result ∙ c.is_none.ensures ∙ ap not c.if-is_none.true in
     record {
       reply = refused c.args.self.now.state refusal.NotInForce;
@@ -35,11 +37,11 @@ returns-then-is_none c =
 pub returns : goal.returns
 returns c =
     let airport = c.self.inside.airport in
-    let state = state_of c.self.inside.ledger in
+    let state = c.self.inside.ledger.state in
     let name = c.args.flight.now in
     let there : is_in_force name state ≡ true =
     ap is_some (sym c.flight.ensures) ∙ copied-some c.flight.result ∙ c.is_none.ensures ∙ ap not c.if-is_none.false in
     let text = c.set_short.ensures ∙ c.cancelled_text.ensures in
-    let after : state_of c.cancel.new.self ≡ without name state = ap state_with c.cancel.ensures.flights in
-    subst (λ (s : EngineState). IsDoneAsDue (Cancel name) s (record { airport = airport; state = state_of c.cancel.new.self; reply = c.set_short.new.self })) c.self.view_is
+    let after = cancelled-state name c.self.inside.ledger c.cancel.new.self c.cancel.result c.cancel.ensures.flight c.cancel.ensures.state there in
+    subst (λ (s : EngineState). IsDoneAsDue (Cancel name) s (record { airport = airport; state = c.cancel.new.self.state; reply = c.set_short.new.self })) c.self.view_is
     (record { reply = cancelled_reply state name; due = cancel-due airport state name there; done = λ i. record { airport = airport; state = after i; reply = text i } })

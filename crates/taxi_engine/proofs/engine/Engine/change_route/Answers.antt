@@ -6,7 +6,6 @@ use Rattle.certificate.specs.declared.block.Block.TheVariants.{Route}
 use Rattle.certificate.specs.Texts.{block_text}
 use Rattle.certificate.specs.CarriedOut.{second_of}
 use Rattle.certificate.specs.Replies.{HaveNames}
-use Rattle.commitments.specs.Book.{state_with, state_of}
 use Rattle.taxi_engine.specs.Engine.{EngineState}
 use Rattle.taxi_engine.specs.Routed.{IsToldOrMemory}
 use Rattle.taxi_engine.specs.Rerouted.{IsOnAnother}
@@ -28,22 +27,22 @@ replace-requires-clause-prepared c =
 pub replace-requires-clause-feasible : goal.replace-requires-clause-feasible
 replace-requires-clause-feasible c x lifted =
     let airport = c.self.inside.airport in
-    let another : IsOnAnother airport (state_of c.self.inside.ledger) c.args.flight = subst (λ (s : EngineState). IsOnAnother s.airport s.state c.args.flight) (sym c.self.view_is) c.requires.another in
-    let flights = c.lift.ensures.flights ∙ c.prepare_route.ensures.flights in
-    let old : another.old ≡ x = cc (lifted-old airport (state_of c.self.inside.ledger) c.args.flight another c.lift.new.self c.lift.ensures.lifted flights, lifted) in
-    subst (λ (f : Flight). IsFeasibleWalk (conditions_of airport (state_of c.lift.new.self) f) c.args.flight.steps) old
-    (subst (λ fs. IsFeasibleWalk (conditions_of airport (state_with fs) another.old) c.args.flight.steps) (sym flights)
-    (another-feasible airport (state_of c.self.inside.ledger) c.args.flight another))
+    let another : IsOnAnother airport c.self.inside.ledger.state c.args.flight = subst (λ (s : EngineState). IsOnAnother s.airport s.state c.args.flight) (sym c.self.view_is) c.requires.another in
+    let same = c.lift.ensures.state ∙ c.prepare_route.ensures.state in
+    let old : another.old ≡ x = cc (lifted-old airport c.self.inside.ledger.state c.args.flight another c.lift.new.self c.lift.ensures.lifted same, lifted) in
+    subst (λ (f : Flight). IsFeasibleWalk (conditions_of airport c.lift.new.self.state f) c.args.flight.steps) old
+    (subst (λ (s : State). IsFeasibleWalk (conditions_of airport s another.old) c.args.flight.steps) (sym same)
+    (another-feasible airport c.self.inside.ledger.state c.args.flight another))
 
 pub invariant_of-self-2 : goal.invariant_of-self-2
 invariant_of-self-2 c =
     let airport = c.self.inside.airport in
-    let state = state_of c.self.inside.ledger in
+    let state = c.self.inside.ledger.state in
     let another : IsOnAnother airport state c.args.flight = subst (λ (s : EngineState). IsOnAnother s.airport s.state c.args.flight) (sym c.self.view_is) c.requires.another in
-    let flights = c.lift.ensures.flights ∙ c.prepare_route.ensures.flights in
-    let after : state_of c.replace.new.self ≡ with_route another.old c.args.flight.request c.args.flight.steps state =
-    (rw (lifted-old airport state c.args.flight another c.lift.new.self c.lift.ensures.lifted flights) at c.replace.ensures.flights)
-    ∙ ap (λ fs. with_route another.old c.args.flight.request c.args.flight.steps (state_with fs)) flights in (
+    let same = c.lift.ensures.state ∙ c.prepare_route.ensures.state in
+    let after : c.replace.new.self.state ≡ with_route another.old c.args.flight.request c.args.flight.steps state =
+    (rw (lifted-old airport state c.args.flight another c.lift.new.self c.lift.ensures.lifted same) at c.replace.ensures.state)
+    ∙ ap (with_route another.old c.args.flight.request c.args.flight.steps) same in (
       subst (λ (s : State). IsSound airport s) (sym after) (another-sound airport state c.args.flight another c.self.invariant.0),
       c.replace.ensures.fits,
       subst (λ (s : State). HaveNames s) (sym after) (another-names airport state c.args.flight another c.self.invariant.2),
@@ -53,16 +52,16 @@ invariant_of-self-2 c =
 pub returns : goal.returns
 returns c =
     let airport = c.self.inside.airport in
-    let state = state_of c.self.inside.ledger in
+    let state = c.self.inside.ledger.state in
     let flight = c.args.flight in
     let another : IsOnAnother airport state flight = subst (λ (s : EngineState). IsOnAnother s.airport s.state flight) (sym c.self.view_is) c.requires.another in
-    let flights = c.lift.ensures.flights ∙ c.prepare_route.ensures.flights in
-    let after : state_of c.replace.new.self ≡ with_flight flight (without flight.name state) =
-    (rw (lifted-old airport state flight another c.lift.new.self c.lift.ensures.lifted flights) at c.replace.ensures.flights)
-    ∙ ap (λ fs. with_route another.old flight.request flight.steps (state_with fs)) flights ∙ another-after airport state flight another in
+    let same = c.lift.ensures.state ∙ c.prepare_route.ensures.state in
+    let after : c.replace.new.self.state ≡ with_flight flight (without flight.name state) =
+    (rw (lifted-old airport state flight another c.lift.new.self c.lift.ensures.lifted same) at c.replace.ensures.state)
+    ∙ ap (with_route another.old flight.request flight.steps) same ∙ another-after airport state flight another in
     let text = done_ok c.prepare_route.result _ c.prepare_route.ensures.text (sym c.if-is_err.ensures.value) ∙
     ap (λ labels. block_text airport (Route flight.name (second_of flight.request flight.steps) flight.steps labels)) c.as_slice-labels.ensures in
     subst
     (λ (s : EngineState). IsToldOrMemory (record { block = Route flight.name (second_of flight.request flight.steps) flight.steps c.args.labels.now; after = with_flight flight (without flight.name s.state) }) s
-    (record { airport = airport; state = state_of c.replace.new.self; reply = c.prepare_route.new.reply }))
+    (record { airport = airport; state = c.replace.new.self.state; reply = c.prepare_route.new.reply }))
     c.self.view_is (inl (λ i. record { airport = airport; state = after i; reply = text i }))

@@ -1,10 +1,9 @@
 use Rattle.std.proofs.Common.{◌≡◌, sym, subst}
 use Rattle.std.specs.Prelude.{IfSome}
 use Rattle.taxi_base.specs.declared.answers.Found.TheVariants as found
-use Rattle.taxi_base.specs.State.{flight_named, with_flight, without, IsSound}
+use Rattle.taxi_base.specs.State.{State, flight_named, with_flight, without, IsSound}
 use Rattle.certificate.specs.declared.block.Block.TheVariants.{Route, NoRoute}
 use Rattle.certificate.specs.CarriedOut.{second_of}
-use Rattle.commitments.specs.Book.{state_with, state_of}
 use Rattle.reroute.specs.Refused.{again_refusal}
 use Rattle.taxi_engine.specs.Engine.{EngineState}
 use Rattle.taxi_engine.specs.Routed.{IsToldOrMemory}
@@ -13,26 +12,26 @@ use Rattle.taxi_engine.proofs.ReroutedTold.{flight-meets, IsFoundFor, found-unre
 use Rattle.taxi_engine.proofs.engine.Engine.route_again.Goals as goal
 
 pub again_in-requires-clause-meets : goal.again_in-requires-clause-meets
-again_in-requires-clause-meets c x there = flight-meets c.self.inside.airport (state_of c.self.inside.ledger) c.self.invariant.0 c.args.name.now x there
+again_in-requires-clause-meets c x there = flight-meets c.self.inside.airport c.self.inside.ledger.state c.self.invariant.0 c.args.name.now x there
 
 pub change_route-requires-clause-another : goal.change_route-requires-clause-another
 change_route-requires-clause-another c =
     let airport = c.self.inside.airport in
-    let flights = c.again_in.ensures.as_before.flights in
+    let same = c.again_in.ensures.as_before.state in
     let told = rw c.in-Ok-Route.field-0-is at c.in-Ok-Route.ensures.found in
-    made-another airport (state_of c.again_in.new.ledger) c.args.name.now c.args.time c.args.to
-    (subst (λ fs. IsSound airport (state_with fs)) (sym flights) c.self.invariant.0) c.in-Ok-Route.steps c.in-Ok-Route.labels
-    (subst (λ fs. IsFoundFor airport (state_with fs) c.args.name.now c.args.time c.args.to (found.Route c.in-Ok-Route.steps c.in-Ok-Route.labels)) (sym flights) told)
+    made-another airport c.again_in.new.ledger.state c.args.name.now c.args.time c.args.to
+    (subst (IsSound airport) (sym same) c.self.invariant.0) c.in-Ok-Route.steps c.in-Ok-Route.labels
+    (subst (λ (s : State). IsFoundFor airport s c.args.name.now c.args.time c.args.to (found.Route c.in-Ok-Route.steps c.in-Ok-Route.labels)) (sym same) told)
     c.on_another_route-flight.result c.on_another_route-flight.ensures
 
 pub change_route-requires-clause-labels : goal.change_route-requires-clause-labels
 change_route-requires-clause-labels c =
-    found-arcs c.self.inside.airport (state_of c.self.inside.ledger) c.args.name.now c.args.time c.args.to c.horizon.ensures.rules (found.Route c.in-Ok-Route.steps c.in-Ok-Route.labels)
+    found-arcs c.self.inside.airport c.self.inside.ledger.state c.args.name.now c.args.time c.args.to c.horizon.ensures.rules (found.Route c.in-Ok-Route.steps c.in-Ok-Route.labels)
     (rw c.in-Ok-Route.field-0-is at c.in-Ok-Route.ensures.found)
 
 pub tell_no_route-requires : goal.tell_no_route-requires
 tell_no_route-requires c =
-    found-arcs c.self.inside.airport (state_of c.self.inside.ledger) c.args.name.now c.args.time c.args.to c.horizon.ensures.rules (found.NoRoute c.in-Ok-NoRoute.labels)
+    found-arcs c.self.inside.airport c.self.inside.ledger.state c.args.name.now c.args.time c.args.to c.horizon.ensures.rules (found.NoRoute c.in-Ok-NoRoute.labels)
     (rw c.in-Ok-NoRoute.field-0-is at c.in-Ok-NoRoute.ensures.found)
 
 pub returns-in-Ok-Route : goal.returns-in-Ok-Route
@@ -42,24 +41,24 @@ returns-in-Ok-Route c =
     let flight = c.on_another_route-flight.result in
     let steps = c.in-Ok-Route.steps in
     let labels = c.in-Ok-Route.labels in
-    let flights = c.again_in.ensures.as_before.flights in
-    let none = found-unrefused (again_refusal c.self.inside.ledger.flights name c.args.time c.args.to) c.in-Ok-Route.field-0 c.in-Ok-Route.ensures.refused in
+    let same = c.again_in.ensures.as_before.state in
+    let none = found-unrefused (again_refusal c.self.inside.ledger.state.flights name c.args.time c.args.to) c.in-Ok-Route.field-0 c.in-Ok-Route.ensures.refused in
     let told = rw c.in-Ok-Route.field-0-is at c.in-Ok-Route.ensures.found in
-    let made = subst (λ fs. IfSome (flight_named name fs) (λ f. flight ≡ record f { name = name; request = request_to c.args.to f.request; steps = steps })) flights c.on_another_route-flight.ensures in
+    let made = subst (λ (s : State). IfSome (flight_named name s.flights) (λ f. flight ≡ record f { name = name; request = request_to c.args.to f.request; steps = steps })) same c.on_another_route-flight.ensures in
     subst (λ (s : EngineState). IsToldAgain name c.args.time c.args.to s c.change_route.new.self) c.self.view_is
-    (route-told airport (state_of c.self.inside.ledger) c.self.inside.reply c.change_route.new.self name c.args.time c.args.to none c.self.invariant.0 steps labels told flight made
-    (subst (λ fs. IsToldOrMemory (record { block = Route flight.name (second_of flight.request flight.steps) flight.steps labels; after = with_flight flight (without flight.name (state_with fs)) })
-    (record { airport = airport; state = state_with fs; reply = c.self.inside.reply }) c.change_route.new.self) flights c.change_route.ensures))
+    (route-told airport c.self.inside.ledger.state c.self.inside.reply c.change_route.new.self name c.args.time c.args.to none c.self.invariant.0 steps labels told flight made
+    (subst (λ (s : State). IsToldOrMemory (record { block = Route flight.name (second_of flight.request flight.steps) flight.steps labels; after = with_flight flight (without flight.name s) })
+    (record { airport = airport; state = s; reply = c.self.inside.reply }) c.change_route.new.self) same c.change_route.ensures))
 
 pub returns-in-Ok-NoRoute : goal.returns-in-Ok-NoRoute
 returns-in-Ok-NoRoute c =
     let airport = c.self.inside.airport in
     let name = c.args.name.now in
     let labels = c.in-Ok-NoRoute.labels in
-    let flights = c.again_in.ensures.as_before.flights in
-    let none = found-unrefused (again_refusal c.self.inside.ledger.flights name c.args.time c.args.to) c.in-Ok-NoRoute.field-0 c.in-Ok-NoRoute.ensures.refused in
+    let same = c.again_in.ensures.as_before.state in
+    let none = found-unrefused (again_refusal c.self.inside.ledger.state.flights name c.args.time c.args.to) c.in-Ok-NoRoute.field-0 c.in-Ok-NoRoute.ensures.refused in
     let told = rw c.in-Ok-NoRoute.field-0-is at c.in-Ok-NoRoute.ensures.found in
     subst (λ (s : EngineState). IsToldAgain name c.args.time c.args.to s c.tell_no_route.new.self) c.self.view_is
-    (no_route-told airport (state_of c.self.inside.ledger) c.self.inside.reply c.tell_no_route.new.self name c.args.time c.args.to none labels told
-    (subst (λ fs. IsToldOrMemory (record { block = NoRoute labels; after = state_with fs }) (record { airport = airport; state = state_with fs; reply = c.self.inside.reply }) c.tell_no_route.new.self)
-    flights c.tell_no_route.ensures))
+    (no_route-told airport c.self.inside.ledger.state c.self.inside.reply c.tell_no_route.new.self name c.args.time c.args.to none labels told
+    (subst (λ (s : State). IsToldOrMemory (record { block = NoRoute labels; after = s }) (record { airport = airport; state = s; reply = c.self.inside.reply }) c.tell_no_route.new.self)
+    same c.tell_no_route.ensures))

@@ -3,7 +3,6 @@ use Rattle.taxi_base.specs.declared.answers.Request.TheVariants as request
 use Rattle.taxi_text.specs.declared.command.Command.TheVariants as command
 use Rattle.certificate.specs.Refusals.{first_refusal}
 use Rattle.certificate.specs.Replies.{refused}
-use Rattle.commitments.specs.Book.{state_of}
 use Rattle.taxi_engine.specs.Engine.{EngineState}
 use Rattle.taxi_engine.specs.Accepted.{IsDoneOrMemory}
 use Rattle.taxi_engine.proofs.DueLaws.{refusal-due}
@@ -13,7 +12,7 @@ use Rattle.taxi_engine.proofs.engine.Engine.route_departure.Goals as goal
 pub returns-in-Ok : goal.returns-in-Ok
 returns-in-Ok c =
     let asked = c.in-Ok.asked in
-    let old : EngineState = record { airport = c.self.inside.airport; state = state_of c.self.inside.ledger; reply = c.self.inside.reply } in
+    let old : EngineState = record { airport = c.self.inside.airport; state = c.self.inside.ledger.state; reply = c.self.inside.reply } in
     subst (λ (s : EngineState). IsDoneOrMemory (command.Departure c.args.flight.now c.args.class.now c.args.from.now c.args.to.now c.args.time c.args.queue) s c.tell_found.new.self) c.self.view_is
     (departure-done old c.tell_found.new.self c.args.flight.now c.args.class.now c.args.from.now c.args.to.now asked c.in-Ok.ensures.named c.find_departure-found.result c.args.time c.args.queue
     c.in-Ok.ensures.ok c.find_departure-found.ensures

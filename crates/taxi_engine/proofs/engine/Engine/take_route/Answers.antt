@@ -1,10 +1,9 @@
 use Rattle.std.proofs.Common.{◌∙◌, sym, ap, subst, is_some, arith}
 use Rattle.taxi_base.specs.Walks.{IsFeasibleWalk, Meets}
-use Rattle.taxi_base.specs.State.{flights_with, IsSound}
+use Rattle.taxi_base.specs.State.{State, with_flight, IsSound}
 use Rattle.taxi_base.specs.Faults.{conditions_in}
 use Rattle.taxi_base.proofs.StateLaws.{IsSound-with_flight}
 use Rattle.taxi_base.proofs.WalkLaws.{Meets-IsFeasibleWalk}
-use Rattle.commitments.specs.Book.{state_with, state_of}
 use Rattle.certificate.specs.Replies.{HaveNames}
 use Rattle.certificate.proofs.HolderNames.{with_flight-names}
 use Rattle.taxi_engine.specs.Engine.{EngineState}
@@ -20,21 +19,21 @@ prepare_route-requires-clause-walk c = record {
 
 pub commit-requires-clause-feasible : goal.commit-requires-clause-feasible
 commit-requires-clause-feasible c =
-    subst (λ flights. IsFeasibleWalk (conditions_in c.self.inside.airport c.args.flight.class (state_with flights)) c.args.flight.steps) (sym c.prepare_route.ensures.flights)
+    subst (λ (s : State). IsFeasibleWalk (conditions_in c.self.inside.airport c.args.flight.class s) c.args.flight.steps) (sym c.prepare_route.ensures.state)
     (subst (λ (s : EngineState). IsFeasibleWalk (conditions_in s.airport c.args.flight.class s.state) c.args.flight.steps) (sym c.self.view_is)
     (Meets-IsFeasibleWalk _ c.args.flight.request c.args.flight.steps c.requires.met))
 
 pub invariant_of-self-2 : goal.invariant_of-self-2
 invariant_of-self-2 c =
     let airport = c.self.inside.airport in
-    let state = state_of c.self.inside.ledger in
+    let state = c.self.inside.ledger.state in
     let flight = c.args.flight in
     let new : IsNew state flight.name = subst (λ (s : EngineState). IsNew s.state flight.name) (sym c.self.view_is) c.requires.new in
     let met : Meets (conditions_in airport flight.class state) flight.request flight.steps =
     subst (λ (s : EngineState). Meets (conditions_in s.airport flight.class s.state) flight.request flight.steps) (sym c.self.view_is) c.requires.met in
-    let after = sym (c.commit.ensures.flights ∙ ap (flights_with flight) c.prepare_route.ensures.flights) in (
-      subst (λ flights. IsSound airport (state_with flights)) after (IsSound-with_flight airport flight state c.self.invariant.0 (omega (arith, new.few)) (ap is_some new.absent) met),
+    let after = sym (c.commit.ensures.state ∙ ap (with_flight flight) c.prepare_route.ensures.state) in (
+      subst (IsSound airport) after (IsSound-with_flight airport flight state c.self.invariant.0 new.few new.absent met),
       c.commit.ensures.fits,
-      subst (λ flights. HaveNames (state_with flights)) after (with_flight-names flight state c.requires.name c.self.invariant.2),
+      subst HaveNames after (with_flight-names flight state c.requires.name c.self.invariant.2),
       c.commit.ensures.unlifted,
     )

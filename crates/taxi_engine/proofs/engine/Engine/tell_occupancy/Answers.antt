@@ -5,7 +5,6 @@ use Rattle.taxi_text.specs.declared.command.Command.TheVariants as asked
 use Rattle.certificate.specs.CarriedOut.{occupancy_reply}
 use Rattle.certificate.specs.Replies.{refused}
 use Rattle.certificate.proofs.WindowsTold.{segment_named-exists}
-use Rattle.commitments.specs.Book.{state_of}
 use Rattle.taxi_engine.specs.Engine.{EngineState}
 use Rattle.taxi_engine.specs.Accepted.{IsDoneOrMemory}
 use Rattle.taxi_engine.proofs.FiledDue.{done_ok}
@@ -28,7 +27,7 @@ returns-in_default c =
 pub returns-else-is_err : goal.returns-else-is_err
 returns-else-is_err c =
     let airport = c.self.inside.airport in
-    let state = state_of c.self.inside.ledger in
+    let state = c.self.inside.ledger.state in
     let segment = c.in-Some.segment in
     let told = done_ok c.print_occupancy.result _ c.print_occupancy.ensures (sym c.is_err.ensures.value ∙ c.if-is_err.false) in
     subst (λ (s : EngineState). IsDoneOrMemory (asked.Occupancy c.args.segment.now) s (record { airport = airport; state = state; reply = c.print_occupancy.new.reply })) c.self.view_is

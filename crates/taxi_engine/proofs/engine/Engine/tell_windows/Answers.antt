@@ -4,7 +4,6 @@ use Rattle.taxi_base.specs.Airport.{segment_named}
 use Rattle.taxi_text.specs.declared.command.Command.TheVariants as asked
 use Rattle.certificate.specs.CarriedOut.{windows_reply}
 use Rattle.certificate.specs.Replies.{refused}
-use Rattle.commitments.specs.Book.{state_of}
 use Rattle.taxi_engine.specs.Engine.{EngineState}
 use Rattle.taxi_engine.specs.Accepted.{IsDoneOrMemory}
 use Rattle.taxi_engine.proofs.FiledDue.{done_ok}
@@ -27,7 +26,7 @@ returns-in_default c =
 pub returns-else-is_err : goal.returns-else-is_err
 returns-else-is_err c =
     let airport = c.self.inside.airport in
-    let state = state_of c.self.inside.ledger in
+    let state = c.self.inside.ledger.state in
     let segment = c.in-Some.segment in
     let text = done_ok c.print_windows.result _ c.print_windows.ensures (sym c.is_err.ensures.value ∙ c.if-is_err.false) in
     subst (λ (s : EngineState). IsDoneOrMemory (asked.Windows c.args.segment.now) s (record { airport = airport; state = state; reply = c.print_windows.new.reply })) c.self.view_is
@@ -40,7 +39,7 @@ returns-else-is_err c =
 pub returns-then-is_err : goal.returns-then-is_err
 returns-then-is_err c =
     let airport = c.self.inside.airport in
-    let state = state_of c.self.inside.ledger in
+    let state = c.self.inside.ledger.state in
     let known : segment_named airport c.args.segment.now ≡ Some c.in-Some.segment = sym c.segment_named.ensures ∙ c.in-Some.is in
     subst (λ (s : EngineState). IsDoneOrMemory (asked.Windows c.args.segment.now) s c.refuse-then-is_err.new.self) c.self.view_is
     (inr (rw known refl, c.refuse-then-is_err.ensures))

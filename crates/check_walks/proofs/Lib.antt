@@ -1,0 +1,7 @@
+pub mod InsideLaws
+pub mod StepLaws
+mod EndLaws
+pub mod CourseLaws
+pub mod ToldLaws
+mod TableLaws
+mod AskedLaws

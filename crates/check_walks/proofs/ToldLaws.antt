@@ -1,0 +1,116 @@
+-- The first rule that a block breaks, from what is known of its walk and of its table.
+use Rattle.std.proofs.Common.{◌≡◌, ℕ, ◌<◌, List, Option, Some, None, arith}
+use Rattle.std.specs.Prelude.{MatchOption}
+use Rattle.taxi_base.specs.declared.rows.Step.{Step as Leg}
+use Rattle.taxi_base.specs.declared.rows.LabelRow.{LabelRow}
+use Rattle.taxi_base.specs.declared.answers.Request.{Request}
+use Rattle.taxi_base.specs.Walks.{Conditions}
+use Rattle.certificate.specs.declared.block.Block.TheVariants.{Route, NoRoute}
+use Rattle.certificate.specs.declared.rule.Rule.{Rule}
+use Rattle.certificate.specs.declared.rule.Rule.TheVariants as rule
+use Rattle.certificate.specs.CarriedOut.{second_of}
+use Rattle.certificate.specs.Sought.{UnderWay, Sought, Search, search_of}
+use Rattle.certificate.specs.TableRules.{KeepsRows, KeepsStart, KeepsStep, KeepsTarget}
+use Rattle.certificate.specs.Passes.{KeepsSought, turn_of}
+use Rattle.check_rows.specs.declared.verdict.RowRule.{RowRule}
+use Rattle.check_rows.specs.declared.verdict.RowRule.TheVariants.{Rows, Start, Step, Target}
+use Rattle.check_rows.specs.Verdict.{IsVerdict}
+use Rattle.check_walks.specs.Course.{IsWalkIn}
+use Rattle.check_walks.specs.Told.{IsFirstOf, IsVerdictOn, rule_of}
+
+-- the rules for rows, where there is a search
+match-verdict : {X : Type 0} (o : Option X) (P Q R S : X → Type 0) (verdict : Option RowRule) → MatchOption o ⊥ (λ x. IsVerdict (P x) (Q x) (R x) (S x) verdict)
+    → IsVerdict (MatchOption o ⊥ P) (MatchOption o ⊥ Q) (MatchOption o ⊥ R) (MatchOption o ⊥ S) verdict
+match-verdict None P Q R S verdict is = absurd is
+match-verdict (Some x) P Q R S verdict is = is
+
+-- after the rules that come before them
+module _ (IsKept : Rule → Type 0) (reply : IsKept rule.Reply) where
+  pub walk-first : (IsKept rule.Walk → ⊥) → IsFirstOf IsKept (Some rule.Walk)
+  walk-first broken = (broken, before) where
+    before : (other : Rule) → turn_of other < turn_of rule.Walk → IsKept other
+    before rule.Reply low = reply
+    before rule.Walk low = absurd (omega (arith, low))
+    before rule.Rows low = absurd (omega (arith, low))
+    before rule.Start low = absurd (omega (arith, low))
+    before rule.Step low = absurd (omega (arith, low))
+    before rule.Target low = absurd (omega (arith, low))
+
+  pub rows-first : IsKept rule.Walk → (verdict : Option RowRule) → IsVerdict (IsKept rule.Rows) (IsKept rule.Start) (IsKept rule.Step) (IsKept rule.Target) verdict
+      → IsFirstOf IsKept (rule_of verdict)
+  rows-first walk None all = each where
+    each : (r : Rule) → IsKept r
+    each rule.Reply = reply
+    each rule.Walk = walk
+    each rule.Rows = all.0
+    each rule.Start = all.1
+    each rule.Step = all.2
+    each rule.Target = all.3
+  rows-first walk (Some Rows) broken = (broken, before) where
+    before : (other : Rule) → turn_of other < 2 → IsKept other
+    before rule.Reply low = reply
+    before rule.Walk low = walk
+    before rule.Rows low = absurd (omega (arith, low))
+    before rule.Start low = absurd (omega (arith, low))
+    before rule.Step low = absurd (omega (arith, low))
+    before rule.Target low = absurd (omega (arith, low))
+  rows-first walk (Some Start) broken = (broken.1, before) where
+    before : (other : Rule) → turn_of other < 3 → IsKept other
+    before rule.Reply low = reply
+    before rule.Walk low = walk
+    before rule.Rows low = broken.0
+    before rule.Start low = absurd (omega (arith, low))
+    before rule.Step low = absurd (omega (arith, low))
+    before rule.Target low = absurd (omega (arith, low))
+  rows-first walk (Some Step) broken = (broken.2, before) where
+    before : (other : Rule) → turn_of other < 4 → IsKept other
+    before rule.Reply low = reply
+    before rule.Walk low = walk
+    before rule.Rows low = broken.0
+    before rule.Start low = broken.1
+    before rule.Step low = absurd (omega (arith, low))
+    before rule.Target low = absurd (omega (arith, low))
+  rows-first walk (Some Target) broken = (broken.3, before) where
+    before : (other : Rule) → turn_of other < 5 → IsKept other
+    before rule.Reply low = reply
+    before rule.Walk low = walk
+    before rule.Rows low = broken.0
+    before rule.Start low = broken.1
+    before rule.Step low = broken.2
+    before rule.Target low = absurd (omega (arith, low))
+
+-- ---- what is sought
+
+-- the same walk with the conditions and the request that are known
+module _ (s : Sought) (c : Conditions) (request : Request) (way : Option UnderWay) (same : s.conditions ≡ c) (asked : s.request ≡ request) (by_way : s.under_way ≡ way) where
+  abbrev IsWalkOf : List Leg → ℕ → Type 0
+  IsWalkOf steps second = IsWalkIn c request way steps × (second_of request steps ≡ second)
+
+  pub route-walk : (name : List ℕ) (second : ℕ) (steps : List Leg) (labels : List LabelRow) → IsWalkOf steps second → KeepsSought rule.Walk s (Route name second steps labels)
+  route-walk name second steps labels is = rw (same, asked, by_way) is
+
+  pub walk-route : (name : List ℕ) (second : ℕ) (steps : List Leg) (labels : List LabelRow) → KeepsSought rule.Walk s (Route name second steps labels) → IsWalkOf steps second
+  walk-route name second steps labels keeps = rw (same, asked, by_way) at keeps
+
+  abbrev search : Option Search
+  search = search_of request way
+
+  on-search : (bound : Option ℕ) (labels : List LabelRow) (verdict : Option RowRule) → IsVerdictOn c request way bound labels verdict
+      → IsVerdict (MatchOption (search_of s.request s.under_way) ⊥ (λ x. KeepsRows s.conditions labels)) (MatchOption (search_of s.request s.under_way) ⊥ (λ x. KeepsStart s.conditions x bound labels))
+      (MatchOption (search_of s.request s.under_way) ⊥ (λ x. KeepsStep s.conditions x bound labels)) (MatchOption (search_of s.request s.under_way) ⊥ (λ x. KeepsTarget s.conditions x bound labels)) verdict
+  on-search bound labels verdict is =
+      rw (same, asked, by_way)
+      (match-verdict search (λ x. KeepsRows c labels) (λ x. KeepsStart c x bound labels) (λ x. KeepsStep c x bound labels) (λ x. KeepsTarget c x bound labels) verdict is)
+
+  pub route-first : (name : List ℕ) (second : ℕ) (steps : List Leg) (labels : List LabelRow) (verdict : Option RowRule) → IsWalkOf steps second
+      → IsVerdictOn c request way (Some second) labels verdict → IsFirstOf (λ r. KeepsSought r s (Route name second steps labels)) (rule_of verdict)
+  route-first name second steps labels verdict walk is =
+      rows-first (λ r. KeepsSought r s (Route name second steps labels)) tt (route-walk name second steps labels walk) verdict (on-search (Some second) labels verdict is)
+
+  pub no_route-first : (labels : List LabelRow) (verdict : Option RowRule) → IsVerdictOn c request way None labels verdict → IsFirstOf (λ r. KeepsSought r s (NoRoute labels)) (rule_of verdict)
+  no_route-first labels verdict is = rows-first (λ r. KeepsSought r s (NoRoute labels)) tt tt verdict (on-search None labels verdict is)
+
+  pub route-broken : (name : List ℕ) (second : ℕ) (steps : List Leg) (labels : List LabelRow) → (IsWalkOf steps second → ⊥)
+      → IsFirstOf (λ r. KeepsSought r s (Route name second steps labels)) (Some rule.Walk)
+  route-broken name second steps labels broken =
+      walk-first (λ r. KeepsSought r s (Route name second steps labels)) tt (λ keeps. broken (walk-route name second steps labels keeps))

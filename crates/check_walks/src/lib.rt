@@ -1,0 +1,15 @@
+//! Whether what a block tells of a search is right: its walk and its table, over a bare list of holds.
+#![tactic(auto)]
+
+mod course;
+mod feasible;
+mod inside;
+mod laws;
+mod tables;
+mod told;
+mod walk;
+
+pub use course::{Asked, OnTheWay};
+pub use feasible::is_feasible_walk;
+pub use laws::what_breaks_no_rule_is_best;
+pub use told::check_told;

@@ -1,0 +1,106 @@
+//! Rule `walk`: whether a route does what was asked for, with its second.
+ghost use Rattle.std.specs.Prelude.{◌≡◌, ◌↔◌, ◌+◌, ◌-◌, ◌<◌, ◌&&◌, ◌==◌, All, IfOk, IsTrue, length};
+ghost use Rattle.taxi_base.specs.Airport.{arc_exists, layout_of};
+ghost use Rattle.taxi_base.specs.Walks.{conditions_among, free_among};
+ghost use Rattle.certificate.specs.Printable.{IsShort};
+ghost use Rattle.certificate.specs.CarriedOut.{second_of};
+ghost use Rattle.check_rows.specs.Known.{AreKnown};
+ghost use Rattle.check_walks.specs.Told.{CanBeSought};
+ghost use Rattle.check_walks.specs.Course.{way_of, IsWalkIn};
+ghost use Rattle.check_walks.specs.Steps.{GoesAsAsked, Departs};
+
+use crate::course::{Asked, course_of, goes_by, is_within};
+use crate::feasible::is_feasible_walk;
+use airport_file::Airport;
+use check_rows::KnownWindows;
+use held_spans::HoldsOf;
+use taxi_base::{Class, Memory, Node, Request, Step, Time};
+
+/// Whether the steps are a walk that does what was asked for, and the second is that of the walk.
+pub fn keeps_walk<H: HoldsOf>(
+    airport: &Airport,
+    class: Class,
+    holds: &H,
+    known: &mut KnownWindows,
+    asked: &Asked<'_>,
+    steps: &[Step],
+    second: Time,
+) -> Result<bool, Memory>
+    requires sought { CanBeSought airport.now asked.now.request }
+    requires known { AreKnown (length airport.now.segments) (free_among airport.now (H.held holds.now)) known.old }
+    ensures known { AreKnown (length airport.now.segments) (free_among airport.now (H.held holds.now)) known.new }
+    ensures walk { IfOk result (λ yes. IsTrue yes ↔ (IsWalkIn (conditions_among airport.now class (H.held holds.now)) asked.now.request (way_of asked.now.way) steps.now × (second_of asked.now.request steps.now ≡ second))) }
+{
+    let walk = is_feasible_walk(airport, class, holds, known, steps)?;
+    if !walk {
+        return Ok(false);
+    }
+    if !goes_as_asked(airport, asked, steps) {
+        return Ok(false);
+    }
+    Ok(second_at(&asked.request, steps) == second)
+}
+
+/// Whether a walk begins and ends as was asked.
+fn goes_as_asked(airport: &Airport, asked: &Asked<'_>, steps: &[Step]) -> bool
+    requires sought { CanBeSought airport.now asked.now.request }
+    requires some { 0 < length steps.now }
+    requires arcs { All (λ step. IsTrue (arc_exists (layout_of airport.now) step.arc)) steps.now }
+    ensures { IsTrue result ↔ GoesAsAsked (layout_of airport.now) asked.now.request (way_of asked.now.way) steps.now }
+{
+    match asked.request {
+        Request::Filed => true,
+        Request::Arrival {
+            from,
+            to,
+            time,
+            hold,
+        } => {
+            let course = course_of(from, time, hold, asked);
+            goes_by(airport, &course, to, steps)
+        }
+        Request::Departure {
+            from,
+            to,
+            time,
+            queue,
+        } => departs(airport, from, to, time.saturating_sub(queue), time, steps),
+    }
+}
+
+/// Whether a walk leads from one node to another, and ends within a time.
+fn departs(
+    airport: &Airport,
+    from: Node,
+    to: Node,
+    earliest: Time,
+    latest: Time,
+    steps: &[Step],
+) -> bool
+    requires some { 0 < length steps.now }
+    requires arcs { All (λ step. IsTrue (arc_exists (layout_of airport.now) step.arc)) steps.now }
+    ensures { IsTrue result ↔ Departs (layout_of airport.now) from to earliest latest steps.now }
+{
+    let first = steps[0];
+    let last = steps[steps.len() - 1];
+    let tail = airport.graph().tail(first.arc);
+    let head = airport.graph().head(last.arc);
+    is_joined(tail, from, head, to) && is_within(last.leave, earliest, latest)
+}
+
+fn is_joined(tail: Node, from: Node, head: Node, to: Node) -> bool
+    ensures { result ≡ (tail.0 == from.0 && head.0 == to.0) }
+{
+    tail == from && head == to
+}
+
+/// The second that is told of a walk: where a departure begins, and where an arrival ends.
+fn second_at(request: &Request, steps: &[Step]) -> Time
+    requires { 0 < length steps.now }
+    ensures { result ≡ second_of request.now steps.now }
+{
+    match request {
+        Request::Departure { .. } => steps[0].enter,
+        Request::Filed | Request::Arrival { .. } => steps[steps.len() - 1].leave,
+    }
+}

@@ -1,0 +1,38 @@
+use Rattle.std.proofs.Common.{List, [], ◌∷◌, ◌∙◌, ◌++◌, sym, subst}
+use Rattle.std.specs.Prelude.{Err}
+use Rattle.taxi_base.specs.declared.answers.Party.{Party}
+use Rattle.taxi_base.specs.declared.rows.Span.{Span}
+use Rattle.taxi_base.specs.State.{State, holds_in}
+use Rattle.held_spans.specs.Spans.{AreSpansOf}
+use Rattle.checked_state.specs.Flights.{state_of}
+use Rattle.checked_state.proofs.PlaceLaws.{place-at, place-gone, with-at}
+use Rattle.checked_state.proofs.FlightLaws.{spans-with_party}
+use Rattle.checked_state.proofs.flights.HeldFlights.shut.Goals as goal
+
+pub unwrap_err-place-requires : goal.unwrap_err-place-requires
+unwrap_err-place-requires c =
+    let place = rw (c.deref.ensures.value, c.reserve.ensures.items) at c.place_of.ensures in
+    place-gone (λ (p : Party). p.name) c.args.self.now.parties.items c.args.party.name c.requires.ordered c.args.party c.place_of.result place c.requires.absent
+
+pub returns-clause-ok : goal.returns-clause-ok
+returns-clause-ok c =
+    let place = rw (c.deref.ensures.value, c.reserve.ensures.items) at c.place_of.ensures in
+    let inserted = rw (c.unwrap.ensures, c.reserve.ensures.items) at c.insert.ensures.items in
+    let with = inserted ∙ with-at (λ (p : Party). p.name) c.args.party c.args.self.now.parties.items c.unwrap_err-place.result
+    (place-at (λ (p : Party). p.name) c.args.self.now.parties.items c.args.party.name c.place_of.result (Err c.unwrap_err-place.result) place c.unwrap_err-place.ensures) in
+    λ i. record { flights = c.args.self.now.flights.items; parties = with i }
+
+pub returns-clause-spans : goal.returns-clause-spans
+returns-clause-spans c airport has =
+    let place = rw (c.deref.ensures.value, c.reserve.ensures.items) at c.place_of.ensures in
+    let inserted = rw (c.unwrap.ensures, c.reserve.ensures.items) at c.insert.ensures.items in
+    let with = inserted ∙ with-at (λ (p : Party). p.name) c.args.party c.args.self.now.parties.items c.unwrap_err-place.result
+    (place-at (λ (p : Party). p.name) c.args.self.now.parties.items c.args.party.name c.place_of.result (Err c.unwrap_err-place.result) place c.unwrap_err-place.ensures) in
+    let before : State = state_of c.args.self.now in
+    let held = c.in_ok-put.ensures.ok (holds_in airport before) has.spans in
+    let own = subst (λ (span : Span). AreSpansOf (holds_in airport before ++ record { segment = c.args.party.segment; span = span } ∷ []) c.put.new.self) c.span_of.ensures held in
+    record {
+      lists = c.put.ensures.count ∙ has.lists;
+      spans = subst (λ (parties : List Party). AreSpansOf (holds_in airport (record before { parties = parties })) c.put.new.self) (sym with)
+          (spans-with_party airport c.put.new.self c.args.party before own);
+    }

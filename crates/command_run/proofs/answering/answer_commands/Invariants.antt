@@ -1,0 +1,24 @@
+use Rattle.std.proofs.Common.{◌≡◌, ◌+◌, ◌*◌, ◌≤◌, length, true}
+use Rattle.taxi_io.specs.Files.{SameNames}
+use Rattle.command_run.proofs.SoFar.{IsSoFar}
+use Rattle.command_run.proofs.answering.answer_commands.Given as goal
+
+-- of the file a front was taken, whose lines are answered but for those that are kept
+abbrev pub invariant-loop-line : goal.invariant-loop-line
+invariant-loop-line g l =
+    let s = g.S.Shelf in
+    let k = g.K.Sink in
+    record {
+      so_far : IsSoFar l.fn.engine.airport l.fn.limit (s.rest l.fn.shelf, s.rest l.shelf) (k.written l.fn.out, k.written l.out) l.reader l.left l.count l.engine.state;
+      airport : l.engine.airport ≡ l.fn.engine.airport;
+      begun : s.begun l.shelf ≡ true;
+      tried : s.tried l.shelf ≡ s.tried l.fn.shelf;
+      reads_later : s.faults l.fn.shelf ≤ s.faults l.shelf;
+      writes_later : k.faults l.fn.out ≤ k.faults l.out;
+      files : s.files l.shelf ≡ s.files l.fn.shelf;
+      names : SameNames (s.knows l.fn.shelf) (s.knows l.shelf);
+    }
+
+-- a byte that is taken counts twice until it is kept, and then once until its line is taken off
+abbrev pub decreases-loop-line : goal.decreases-loop-line
+decreases-loop-line g l = 2 * l.left + length l.reader

@@ -1,0 +1,10 @@
+use Rattle.std.proofs.Common.{◌≡◌, ◌∙◌, sym, false}
+use Rattle.taxi_text.specs.Lines.{is_skipped}
+use Rattle.command_run.proofs.SoFar.{line-answered}
+use Rattle.command_run.proofs.answering.answer_line.Goals as goal
+
+pub returns-clause-answered : goal.returns-clause-answered
+returns-clause-answered g c =
+    let holds : is_skipped c.args.line.now ≡ false = sym c.skipped.ensures ∙ c.if-skipped.false in
+    line-answered _ _ _ _ c.answer.ensures.block _ _ holds c.answer.ensures.answered
+    (rw (c.reply.ensures ∙ c.answer.ensures.reply) at c.in_ok-write_all.ensures.ok)

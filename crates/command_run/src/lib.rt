@@ -1,0 +1,9 @@
+//! A run over the commands of a file, each of which is answered as soon as its line has ended.
+#![tactic(auto)]
+
+mod answering;
+pub mod laws;
+mod refused;
+
+pub use answering::run_commands;
+pub use refused::RunRefused;

@@ -1,0 +1,3 @@
+pub mod HeldLaws
+mod TakenLaws
+pub mod FiledLaws

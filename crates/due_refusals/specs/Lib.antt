@@ -1,0 +1,3 @@
+pub mod KnownIn
+pub mod Asked
+pub mod Filing

@@ -1,0 +1,98 @@
+//! What is due to a route that is given by hand.
+ghost use Rattle.std.specs.Prelude.{◌≡◌, IfOk, IsTrue, length};
+ghost use Rattle.taxi_text.specs.Commands.{is_step_count};
+ghost use Rattle.certificate.specs.Asked.{filed_steps};
+ghost use Rattle.taxi_base.specs.State.{IsInOrder};
+ghost use Rattle.checked_state.specs.Flights.{state_of, HasSpansOf};
+ghost use Rattle.due_refusals.specs.KnownIn.{AreKnownIn};
+ghost use Rattle.due_refusals.specs.Filing.{IsDueOf};
+
+use crate::asked::MOST_HOLDERS;
+use crate::faults::route_fault;
+use airport_file::Airport;
+use check_rows::KnownWindows;
+use checked_state::HeldFlights;
+use std::alloc::Global;
+use taxi_base::{Flight, List, Memory, Name, Refusal, Request, Step, Time};
+use taxi_text::FiledStep;
+
+/// A route that is given by hand.
+#[derive(Clone, Copy)]
+pub struct FiledRoute<'a> {
+    pub name: &'a Name,
+    pub class: &'a Name,
+    pub start: Time,
+    pub steps: &'a [FiledStep],
+}
+
+/// What is due to a filed route: its refusal, or that its flight is in force.
+#[derive(Drop)]
+pub enum Due {
+    Refused(Refusal),
+    Accepted(Flight),
+}
+
+/// What is due to a filed route. Of several refusals it is the first.
+pub fn find_due(
+    alloc: Global,
+    airport: &Airport,
+    held: &HeldFlights,
+    known: &mut KnownWindows,
+    new: &FiledRoute<'_>,
+) -> Result<Due, Memory>
+    requires ordered { IsInOrder (state_of held.now) }
+    requires spans { HasSpansOf airport.now (state_of held.now) held.now }
+    requires known { AreKnownIn airport.now (state_of held.now) known.old }
+    requires steps { IsTrue (is_step_count (length new.now.steps.now)) }
+    ensures due { IfOk result (IsDueOf airport.now (state_of held.now) new.now.name.now new.now.class.now new.now.start new.now.steps.now) }
+    ensures known { AreKnownIn airport.now (state_of held.now) known.new }
+{
+    if held.has_holder(new.name) {
+        return Ok(Due::Refused(Refusal::InForce));
+    }
+    let Some(class) = airport.class_named(new.class) else {
+        return Ok(Due::Refused(Refusal::UnknownClass));
+    };
+    let Some(steps) = filed_steps(alloc, airport, new.start, new.steps)? else {
+        return Ok(Due::Refused(Refusal::UnknownSegment));
+    };
+    if held.count() >= MOST_HOLDERS {
+        return Ok(Due::Refused(Refusal::Full));
+    }
+    let fault = route_fault(airport, class, held, known, steps.as_slice())?;
+    if let Some(fault) = fault {
+        return Ok(Due::Refused(Refusal::Step(fault)));
+    }
+    Ok(Due::Accepted(Flight {
+        name: *new.name,
+        class,
+        request: Request::Filed,
+        steps,
+    }))
+}
+
+// The steps that the words of a filed route mean, the first entered at `start`. None where one of them names no arc.
+fn filed_steps(
+    alloc: Global,
+    airport: &Airport,
+    start: Time,
+    filed: &[FiledStep],
+) -> Result<Option<List<Step>>, Memory>
+    ensures { IfOk result (λ steps. steps ≡ filed_steps airport.now start filed.now) }
+{
+    let mut steps = List::new(alloc);
+    let mut enter = start;
+    for filed in filed {
+        let Some(arc) = airport.arc_named(&filed.segment, filed.forward) else {
+            return Ok(None);
+        };
+        let step = Step {
+            arc,
+            enter,
+            leave: filed.leave,
+        };
+        steps.push(step)?;
+        enter = filed.leave;
+    }
+    Ok(Some(steps))
+}

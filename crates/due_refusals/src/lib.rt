@@ -1,0 +1,15 @@
+//! Which refusal is due to a command, over the flights and work parties in force as plain data.
+#![tactic(auto)]
+
+mod again;
+mod asked;
+mod faults;
+mod filed;
+mod holder;
+mod shut;
+mod taken;
+
+pub use again::{begin_of, divert_refused, end_of, reroute_refused};
+pub use asked::{Named, is_stand, named_arrival, named_departure};
+pub use filed::{Due, FiledRoute, find_due};
+pub use shut::{NewParty, hold_fault, named_party};

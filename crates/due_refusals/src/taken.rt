@@ -1,0 +1,166 @@
+//! When a hold is taken first, and by whom.
+ghost use Rattle.std.specs.Prelude.{◌≡◌, ◌≤◌, ◌<◌, [], IfOk, OnOk, IsTrue, true, false, length, nat_le};
+ghost use Rattle.std.specs.List.{list_any};
+ghost use Rattle.std.specs.List.Sorted.{IsPartitionPoint};
+ghost use Rattle.taxi_base.specs.Airport.{arc_exists, layout_of};
+ghost use Rattle.taxi_base.specs.Windows.{AreApart, covers, blocks};
+ghost use Rattle.taxi_base.specs.State.{flight_holds};
+ghost use Rattle.taxi_base.specs.Faults.{first_taken, flight_at, taken_by, taken_cause};
+ghost use Rattle.check_rows.specs.Known.{is_known};
+ghost use Rattle.checked_state.specs.Flights.{state_of, HasSpansOf};
+ghost use Rattle.due_refusals.specs.KnownIn.{AreKnownIn};
+ghost use Rattle.due_refusals.specs.Filing.{IsFirstOutside};
+
+use crate::holder::holder_at;
+use airport_file::Airport;
+use check_rows::KnownWindows;
+use checked_state::HeldFlights;
+use conflict_sets::Conflicts;
+use segment_graph::segment_of;
+use taxi_base::{Class, Flight, Memory, Name, Segment, Span, Step, StepCause, Time};
+
+/// The first second of what a step of a class holds at which its segment is taken, and the first holder by name that takes it.
+pub(crate) fn taken_cause(
+    airport: &Airport,
+    class: Class,
+    held: &HeldFlights,
+    known: &mut KnownWindows,
+    step: Step,
+) -> Result<Option<StepCause>, Memory>
+    requires spans { HasSpansOf airport.now (state_of held.now) held.now }
+    requires known { AreKnownIn airport.now (state_of held.now) known.old }
+    requires arc { IsTrue (arc_exists (layout_of airport.now) step.arc) }
+    ensures cause { IfOk result (λ cause. cause ≡ taken_cause airport.now class (state_of held.now) step) }
+    ensures known { AreKnownIn airport.now (state_of held.now) known.new }
+{
+    let span = step.held(airport.horizon(), airport.clearance(class));
+    taken_by(airport, held, known, segment_of(step.arc), span)
+}
+
+/// The first second of a span at which a segment is taken, and the first holder by name that takes it.
+pub(crate) fn taken_by(
+    airport: &Airport,
+    held: &HeldFlights,
+    known: &mut KnownWindows,
+    segment: Segment,
+    span: Span,
+) -> Result<Option<StepCause>, Memory>
+    requires spans { HasSpansOf airport.now (state_of held.now) held.now }
+    requires known { AreKnownIn airport.now (state_of held.now) known.old }
+    requires on { segment.0 < length airport.now.segments }
+    ensures cause { IfOk result (λ cause. cause ≡ taken_by airport.now (state_of held.now) (record { segment = segment; span = span })) }
+    ensures known { AreKnownIn airport.now (state_of held.now) known.new }
+{
+    make_windows(airport, held, known, segment)?;
+    let Some(at) = first_taken(known.of(segment), span) else {
+        return Ok(None);
+    };
+    // Only here are the holders gone through.
+    let Some(by) = holder_at(airport, held, segment, at) else {
+        return Ok(None);
+    };
+    Ok(Some(StepCause::Taken { at, by }))
+}
+
+// Makes the windows that the holders leave of a segment, unless they are known.
+fn make_windows(
+    airport: &Airport,
+    held: &HeldFlights,
+    known: &mut KnownWindows,
+    segment: Segment,
+) -> Result<(), Memory>
+    requires spans { HasSpansOf airport.now (state_of held.now) held.now }
+    requires known { AreKnownIn airport.now (state_of held.now) known.old }
+    requires on { segment.0 < length airport.now.segments }
+    ensures made { OnOk result (IsTrue (is_known known.new segment)) }
+    ensures known { AreKnownIn airport.now (state_of held.now) known.new }
+{
+    known.make(airport, held.spans(), segment)
+}
+
+// The first second of a span that lies in none of some windows.
+fn first_taken(windows: &[Span], span: Span) -> Option<Time>
+    requires { AreApart 0 windows.now }
+    ensures { result ≡ first_taken (covers windows.now) span }
+{
+    let first = first_outside(windows, span.from);
+    if first < span.until {
+        Some(first)
+    } else {
+        None
+    }
+}
+
+// The first second from one on that lies in none of some windows.
+fn first_outside(windows: &[Span], from: Time) -> Time
+    requires { AreApart 0 windows.now }
+    ensures { IsFirstOutside windows.now from result }
+{
+    let Some(window) = windows.get(windows_over(windows, from)) else {
+        return from;
+    };
+    if window.from <= from {
+        window.until
+    } else {
+        from
+    }
+}
+
+// How many windows are over by a second.
+fn windows_over(windows: &[Span], second: Time) -> usize
+    requires { AreApart 0 windows.now }
+    ensures few { result ≤ length windows.now }
+    ensures point { IsPartitionPoint (λ w. nat_le w.until second ≡ true) (λ w. nat_le w.until second ≡ false) windows.now result }
+{
+    windows.partition_point(|w| w.until <= second)
+}
+
+/// The first of some flights by rising names that holds a segment in conflict with this one at a second.
+pub(crate) fn flight_at(
+    airport: &Airport,
+    flights: &[Flight],
+    segment: Segment,
+    second: Time,
+) -> Option<Name>
+    requires { segment.0 < length airport.now.segments }
+    ensures { result ≡ flight_at airport.now (record { flights = flights.now; parties = [] }) segment second }
+{
+    for flight in flights {
+        if holds_at(airport, flight, segment, second) {
+            return Some(flight.name);
+        }
+    }
+    None
+}
+
+// Whether a flight holds a segment in conflict with this one at a second.
+fn holds_at(airport: &Airport, flight: &Flight, segment: Segment, second: Time) -> bool
+    requires { segment.0 < length airport.now.segments }
+    ensures { result ≡ list_any (blocks airport.now.conflicts segment second) (flight_holds airport.now flight.now) }
+{
+    let horizon = airport.horizon();
+    let clearance = airport.clearance(flight.class);
+    let conflicts = airport.conflicts();
+    for step in flight.steps.as_slice() {
+        let held = step.held(horizon, clearance);
+        if blocks(conflicts, segment, second, segment_of(step.arc), held) {
+            return true;
+        }
+    }
+    false
+}
+
+/// Whether a hold is of a segment in conflict with this one, and has a second.
+pub(crate) fn blocks(
+    conflicts: &Conflicts,
+    segment: Segment,
+    second: Time,
+    other: Segment,
+    held: Span,
+) -> bool
+    requires { segment.0 < conflicts.now.segments }
+    ensures { result ≡ blocks conflicts.now.sets segment second (record { segment = other; span = held }) }
+{
+    let has = held.from <= second && second < held.until;
+    conflicts.conflict(segment, other) && has
+}

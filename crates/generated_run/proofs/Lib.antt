@@ -1,0 +1,4 @@
+pub mod OneRun
+pub mod Counted
+pub mod Answered
+pub mod Made

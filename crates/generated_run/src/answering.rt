@@ -1,0 +1,58 @@
+//! One command answered, and its reply read back and checked.
+ghost use Rattle.std.specs.Prelude.{◌≡◌, IfOk};
+ghost use Rattle.certificate.specs.declared.block.Block.{Block as PlainBlock};
+ghost use Rattle.certificate.specs.Replies.{IsAnswered};
+ghost use Rattle.block_reader.specs.Read.{BeginsWith};
+ghost use Rattle.generated_run.specs.Summaries.{FoundMemory};
+
+use airport_file::Airport;
+use block_reader::{BlockRefused, read_block};
+use certificate::Block;
+use certificate_check::{CheckRefused, Checker};
+use std::alloc::Global;
+use taxi_base::{Memory, Refusal};
+use taxi_engine::Engine;
+
+/// Answers a command, reads the reply back and has it checked: the block that answers it, which passes every rule. The only
+/// error is that memory ran out, for the command too.
+pub(crate) fn answer_checked(
+    alloc: Global,
+    airport: &Airport,
+    engine: &mut Engine,
+    checker: &mut Checker<'_>,
+    line: &[u8],
+) -> Result<Block, Memory>
+    requires engine { engine.old.airport ≡ airport.now }
+    requires checker { checker.old.airport ≡ airport.now }
+    requires same { checker.old.state ≡ engine.old.state }
+    ensures answered { IfOk result (λ block. IsAnswered airport.now engine.old.state line.now block engine.new.state) }
+    ensures memory { IfOk result (λ block. FoundMemory block) }
+    ensures engine { engine.new.airport ≡ airport.now }
+    ensures checker { checker.new.airport ≡ airport.now }
+    ensures same { IfOk result (λ block. checker.new.state ≡ engine.new.state) }
+{
+    // The airport keeps its rules, so what passes leaves one state.
+    let _ = airport.horizon();
+    engine.answer(line);
+    let block = read_reply(alloc, airport, engine.reply())?;
+    if let Block::Refused(Refusal::Memory) = block {
+        return Err(Memory);
+    }
+    match checker.check_next(line, &block) {
+        Ok(()) => Ok(block),
+        Err(CheckRefused::Memory) => Err(Memory),
+        Err(CheckRefused::Wrong { .. }) => unreachable!(),
+    }
+}
+
+/// The block whose text a reply is.
+fn read_reply(alloc: Global, airport: &Airport, reply: &[u8]) -> Result<Block, Memory>
+    requires printed { (block : PlainBlock) × BeginsWith airport.now reply.now block }
+    ensures { (block : PlainBlock) → BeginsWith airport.now reply.now block → IfOk result (λ read. read ≡ block) }
+{
+    match read_block(alloc, airport, reply) {
+        Ok((block, _)) => Ok(block),
+        Err(BlockRefused::Memory) => Err(Memory),
+        Err(BlockRefused::NotABlock) => unreachable!(),
+    }
+}

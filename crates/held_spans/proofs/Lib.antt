@@ -1,0 +1,3 @@
+pub mod SumLaws
+pub mod SpanLaws
+pub mod LoopLaws

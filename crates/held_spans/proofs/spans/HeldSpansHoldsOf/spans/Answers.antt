@@ -1,0 +1,21 @@
+use Rattle.std.proofs.Common.{List, length, ◌≡◌, ◌<◌, ◌≤◌, get_or, ◌∙◌, sym, ap}
+use Rattle.taxi_base.specs.declared.rows.Span.{Span}
+use Rattle.taxi_base.specs.Windows.{covers}
+use Rattle.held_spans.specs.Spans.{holds_in_lists}
+use Rattle.held_spans.proofs.SpanLaws.{AreSpansOf-own, covers-held, spans-got, spans-past}
+use Rattle.held_spans.proofs.spans.HeldSpansHoldsOf.spans.Goals as goal
+
+pub returns-in-Some : goal.returns-in-Some
+returns-in-Some c t =
+    let held = c.args.self.now in
+    let lookup = c.in-Some.ensures.lookup in
+    let low : c.args.segment.0 < length held.lists.items = rw c.deref.ensures.value at lookup.3.0 in
+    let is : c.in-Some.list.now ≡ get_or held.lists.items c.args.segment.0 c.in-Some.list.now = rw c.deref.ensures.value at lookup.1 in
+    let got = c.as_slice.ensures.value ∙ sym (spans-got held c.args.segment c.in-Some.list.now low is) in
+    ap (λ (spans : List Span). covers spans t) got ∙ covers-held held (holds_in_lists held) (AreSpansOf-own held) c.args.segment t
+
+pub returns-in-None : goal.returns-in-None
+returns-in-None c t =
+    let held = c.args.self.now in
+    let past : length held.lists.items ≤ c.args.segment.0 = rw c.deref.ensures.value at c.in-None.ensures.lookup.3 in
+    ap (λ (spans : List Span). covers spans t) (sym (spans-past held c.args.segment past)) ∙ covers-held held (holds_in_lists held) (AreSpansOf-own held) c.args.segment t

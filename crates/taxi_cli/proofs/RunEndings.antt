@@ -1,0 +1,397 @@
+-- How a run ends: what was due of it where it came to the end of its command file, where it was halted, and where it was cut short.
+use Rattle.std.proofs.Common.{◌≡◌, ◌<◌, ◌≤◌, ◌⊎◌, ◌+◌, ◌++◌, ◌∷◌, ◌∙◌, [], inl, inr, ℕ, List, Bool, true, false, cond, Option, Some, None, Result, Ok, Err, OnOk, OnErr, IsErrOf, length, take, option_map, unwrap_or, nat_lt, refl, sym, ap, subst, append_assoc, append-nil, arith}
+use Rattle.std.proofs.lemmas.Bool.{ltb-true, ltb-false}
+use Rattle.std.proofs.lemmas.List.{length-append, take_all, take-append-le}
+use Rattle.std.proofs.KnownBytes.{prepend_known-nil}
+use Rattle.taxi_base.specs.Airport.{Airport}
+use Rattle.taxi_base.specs.State.{State, no_holder}
+use Rattle.taxi_text.specs.Lines.{commands_of, lines_of}
+use Rattle.taxi_io.specs.Counts.{Rose}
+use Rattle.taxi_io.specs.Files.{Files, IsFile, Begins, BeganMore, Gave, file_of}
+use Rattle.taxi_io.specs.Written.{Grew, GrewInPart}
+use Rattle.taxi_io.specs.declared.trouble.Trouble.{Trouble}
+use Rattle.taxi_io.specs.declared.trouble.Trouble.TheVariants as trouble
+use Rattle.taxi_io.proofs.Pieces.{grew-nothing, grew-more}
+use Rattle.certificate.specs.declared.block.Block.{Block}
+use Rattle.transcripts.specs.Runs.{IsRun, blocks_text, done_line, transcript}
+use Rattle.command_run.specs.declared.refused.RunRefused.{RunRefused}
+use Rattle.command_run.specs.declared.refused.RunRefused.TheVariants as refused
+use Rattle.command_run.specs.Ended.{ended_lines_of, ended_commands_of, commands_among, commands_within}
+use Rattle.command_run.specs.Answered.{Told, AreLeft, AreAnswered, IsWholeRun, IsHaltedRun, IsCutRun, IsPrompt, IsStopped}
+use Rattle.command_run.proofs.Reading.{among-append, ended-first}
+use Rattle.command_run.proofs.SoFar.{none-answered}
+use Rattle.taxi_cli.specs.declared.inputs.Stop.{Stop}
+use Rattle.taxi_cli.specs.declared.inputs.Stop.TheVariants as stop
+use Rattle.taxi_cli.specs.declared.status.Status.{Status}
+use Rattle.taxi_cli.specs.declared.status.Status.TheVariants as status
+use Rattle.taxi_cli.specs.Asked.{FileNames, Route}
+use Rattle.taxi_cli.specs.Outcomes.{airport_limit, commands_limit, IsJudged, AreAccepted}
+use Rattle.taxi_cli.specs.Lines.{refusal_line, read_fault_line, too_large_line}
+use Rattle.taxi_cli.specs.Halts.{IsHaltedText}
+use Rattle.taxi_cli.specs.Endings.{Call, IsDueText, IsWhole, IsCutShort, Ends}
+use Rattle.taxi_cli.specs.LastLine.{status_after, IsWriting, EndsWith}
+use Rattle.taxi_cli.specs.Stops.{IsCauseOfAirport, StopsWith}
+use Rattle.taxi_cli.specs.RunEnds.{IsCauseOfBegin, HaltsWith, HasOutcome, IsRunEnd}
+use Rattle.taxi_cli.specs.Pace.{HaveBegun, bytes_told, left_of, commands_left, IsHalted, IsCaughtUp, KeepsPace}
+use Rattle.taxi_cli.proofs.EndingLaws.{writing-ends, last-ends}
+
+-- ---- what is written behind blocks
+
+front-behind : (before now then : Option (List ℕ)) (done line : List ℕ) → Grew before now done → GrewInPart now then line → GrewInPart before then (done ++ line)
+front-behind before now then done line grew front =
+    (done ++ front.0, front.1, append_assoc done front.0 front.1 ∙ ap (λ (l : List ℕ). done ++ l) front.2, front.3, grew-more before now then done front.0 grew front.4)
+
+-- a line is written behind a text that was written whole
+writing-behind : (done line : List ℕ) (before between after : ℕ) (old now then : Option (List ℕ)) (written : Result (Unit {0}) Trouble) → before ≤ between
+    → Grew old now done → IsWriting line (between, after) (now, then) written → IsWriting (done ++ line) (before, after) (old, then) written
+writing-behind done line before between after old now then written later grew writing = record {
+  whole = on_ok written writing.whole;
+  front = on_err written writing.front;
+  failed = λ failed. let rose = writing.failed failed in omega arith;
+}
+  where
+    on_ok : (written : Result (Unit {0}) Trouble) → OnOk written (Grew now then line) → OnOk written (Grew old then (done ++ line))
+    on_ok (Ok _) whole = grew-more old now then done line grew whole
+    on_ok (Err _) whole = tt
+
+    on_err : (written : Result (Unit {0}) Trouble) → OnErr written (GrewInPart now then line) → OnErr written (GrewInPart old then (done ++ line))
+    on_err (Ok _) front = tt
+    on_err (Err _) front = front-behind old now then done line grew front
+
+-- ---- the file that is begun
+
+begun-file : (told : Option Files) (name : List ℕ) (rest : Option (List ℕ)) (bytes : List ℕ) → Begins told name rest → AreLeft rest bytes → IsFile told name bytes
+begun-file None name rest bytes begins left = tt
+begun-file (Some files) name rest bytes begins left = begins.1 ∙ ap (λ (b : List ℕ). Some b) (subst (λ (r : Option (List ℕ)). AreLeft r bytes) begins.2 left)
+
+pub begun-told : (told : Option Files) (name : List ℕ) (rest : Option (List ℕ)) → Begins told name rest → rest ≡ bytes_told told name
+begun-told None name rest begins = begins
+begun-told (Some files) name rest begins = begins.2 ∙ ap (λ (b : Option (List ℕ)). Some (unwrap_or b [])) (sym begins.1)
+
+-- what was taken of it is its front
+taken-file : (told : Option Files) (name : List ℕ) (rest left : Option (List ℕ)) (taken : List ℕ) → Begins told name rest → Gave rest left taken
+    → (more : List ℕ) × IsFile told name (taken ++ more)
+taken-file None name rest left taken begins gave = ([], tt)
+taken-file (Some files) name rest None taken begins gave = absurd (cc (begins.2, gave))
+taken-file (Some files) name rest (Some more) taken begins gave =
+    let same : begins.0 ≡ taken ++ more = cc (begins.2, gave) in (more, begins.1 ∙ ap (λ (b : List ℕ). Some b) same)
+
+-- a front of a text, and what is behind it, is a front of the text with a line
+front-of : (old now : Option (List ℕ)) (front behind text line : List ℕ) → front ++ behind ≡ text → 0 < length line → Grew old now front → GrewInPart old now (text ++ line)
+front-of old now front behind text line split some grew = (
+  front,
+  behind ++ line,
+  sym (append_assoc front behind line) ∙ ap (λ (t : List ℕ). t ++ line) split,
+  (let l = length-append behind line in omega (arith, l, some)),
+  grew,
+)
+
+-- ---- what the last line says of the status
+
+other-status : (line : List ℕ) (whole ended other : Status) (faults : ℕ × ℕ) (taken : Told) → EndsWith line whole faults taken ended → ended ≡ other
+    → (whole ≡ other → ⊥) → (status.WriteFault ≡ other → ⊥) → (status.Memory ≡ other → ⊥) → ⊥
+other-status line whole ended other faults taken ends is no_whole no_fault no_memory = go ends.0 (sym ends.2 ∙ is) where
+  go : (written : Result (Unit {0}) Trouble) → status_after written whole ≡ other → ⊥
+  go (Ok done) same = no_whole same
+  go (Err trouble.Failed) same = no_fault same
+  go (Err trouble.Memory) same = no_memory same
+
+-- the line is written whole
+line-told : (line : List ℕ) (whole ended : Status) (faults : ℕ × ℕ) (taken : Told) → EndsWith line whole faults taken ended → ended ≡ whole
+    → (status.WriteFault ≡ whole → ⊥) → (status.Memory ≡ whole → ⊥) → Grew taken.0 taken.1 line
+line-told line whole ended faults taken ends is no_fault no_memory = go ends.0 (sym ends.2 ∙ is) ends.1 where
+  go : (written : Result (Unit {0}) Trouble) → status_after written whole ≡ whole → IsWriting line faults taken written → Grew taken.0 taken.1 line
+  go (Ok done) same writing = writing.whole
+  go (Err trouble.Failed) same writing = absurd (no_fault same)
+  go (Err trouble.Memory) same writing = absurd (no_memory same)
+
+-- a front of it is written
+front-told : (line : List ℕ) (whole ended : Status) (faults : ℕ × ℕ) (taken : Told) → EndsWith line whole faults taken ended → ended ≡ status.WriteFault
+    → (whole ≡ status.WriteFault → ⊥) → (front : List ℕ) × Grew taken.0 taken.1 front
+front-told line whole ended faults taken ends is no_whole = go ends.0 (sym ends.2 ∙ is) ends.1 where
+  go : (written : Result (Unit {0}) Trouble) → status_after written whole ≡ status.WriteFault → IsWriting line faults taken written → (front : List ℕ) × Grew taken.0 taken.1 front
+  go (Ok done) same writing = absurd (no_whole same)
+  go (Err trouble.Failed) same writing = (writing.front.0, writing.front.4)
+  go (Err trouble.Memory) same writing = absurd (cc same)
+
+-- ---- before a command is read
+
+-- the airport file ends the call
+pub airport-ends : (call : Call) (names : FileNames) (why : Stop) (ended : Status) → IsCauseOfAirport call.files names.airport call.reads why → StopsWith why call.writes call.taken ended
+    → Ends call (Some (Route names)) ended
+airport-ends call names (stop.Refused at why) ended cause stops =
+    last-ends call (Some (Route names)) status.AirportRefused (refusal_line (record { at = at; why = why })) _ ended (record { at = at; why = why }, cause, refl) refl stops (λ whole. whole)
+airport-ends call names stop.ReadFault ended cause stops =
+    last-ends call (Some (Route names)) status.ReadFault read_fault_line _ ended (cause, inl refl) refl stops (λ whole. whole)
+airport-ends call names stop.TooLarge ended cause stops =
+    last-ends call (Some (Route names)) status.TooLarge too_large_line _ ended (inl (cause, refl)) refl stops (λ whole. whole)
+airport-ends call names stop.Memory ended cause stops = rw stops.0 (inl (rw stops.1 (grew-nothing call.taken.0)))
+
+-- the command file can't be begun
+pub begin-ends : (call : Call) (names : FileNames) (why : Stop) (ended : Status) (before : ℕ) → IsCauseOfBegin (before, call.reads.1) why → call.reads.0 ≤ before
+    → StopsWith why call.writes call.taken ended → Ends call (Some (Route names)) ended
+begin-ends call names (stop.Refused at why) ended before cause later stops = absurd cause
+begin-ends call names stop.TooLarge ended before cause later stops = absurd cause
+begin-ends call names stop.Memory ended before cause later stops = rw stops.0 (inl (rw stops.1 (grew-nothing call.taken.0)))
+begin-ends call names stop.ReadFault ended before cause later stops =
+    let rose : Rose call.reads.0 call.reads.1 = omega (arith, cause, later) in
+    last-ends call (Some (Route names)) status.ReadFault read_fault_line _ ended (rose, inl refl) refl stops (λ whole. whole)
+
+-- only the airport file was tried
+pub not-begun : (names : FileNames) (before after : Option (List (List ℕ))) → BeganMore before after (names.airport ∷ []) → HaveBegun names before after → ⊥
+not-begun names before after began both =
+    let one : after ≡ Some (both.0 ++ names.airport ∷ []) = began ∙ ap (option_map (λ all. all ++ names.airport ∷ [])) both.1 in
+    let same : both.0 ++ names.airport ∷ names.commands ∷ [] ≡ both.0 ++ names.airport ∷ [] = cc (one, both.2) in
+    let l = ap length same in
+    let m = length-append both.0 (names.airport ∷ names.commands ∷ []) in
+    let n = length-append both.0 (names.airport ∷ []) in
+    omega (arith, l, m, n)
+
+-- ---- where memory runs out
+
+pub memory-pace : (call : Call) (names : FileNames) (left : Told) (ended : Status) → ended ≡ status.Memory → KeepsPace call names left ended
+memory-pace call names left ended is = record {
+  fault = λ other. absurd (cc (is, other));
+  large = λ other. absurd (cc (is, other));
+  late = λ other. absurd (cc (is, other));
+}
+
+-- ---- a run at an accepted airport, over the command file that was begun
+
+module _ (call : Call) (names : FileNames) (airport : Airport) (accepted : IsJudged call.files names.airport (Ok airport)) (rest left between : Option (List ℕ)) where
+  -- reading ends, and the line that says so is written behind the blocks
+  halted-pace : (taken line : List ℕ) (whole ended : Status) (faults : ℕ × ℕ) → IsHaltedRun airport commands_limit (rest, left) (call.taken.0, between) taken
+      → EndsWith line whole faults (between, call.taken.1) ended → ended ≡ status.WriteFault → (whole ≡ status.WriteFault → ⊥) → IsCaughtUp airport (rest, left) call.taken
+  halted-pace taken line whole ended faults halted ends is no_fault =
+      let front = front-told line whole ended faults (between, call.taken.1) ends is no_fault in
+      record {
+        taken = taken;
+        gave = halted.gave;
+        others = [];
+        between = between;
+        count = halted.count;
+        after = halted.after;
+        answered = rw (append-nil (ended_commands_of (take commands_limit taken))) halted.answered;
+        front = front.0;
+        grew = front.1;
+      }
+
+  halted-told : (taken line : List ℕ) (whole ended : Status) (faults : ℕ × ℕ) → IsHaltedRun airport commands_limit (rest, left) (call.taken.0, between) taken
+      → EndsWith line whole faults (between, call.taken.1) ended → ended ≡ whole → (status.WriteFault ≡ whole → ⊥) → (status.Memory ≡ whole → ⊥) → IsHalted call names (rest, left) taken line
+  halted-told taken line whole ended faults halted ends is no_fault no_memory = record {
+    airport = airport;
+    accepted = accepted;
+    between = between;
+    halted = halted;
+    told_last = line-told line whole ended faults (between, call.taken.1) ends is no_fault no_memory;
+  }
+
+  pub fault-pace : (taken : List ℕ) (ended : Status) (faults : ℕ × ℕ) → length taken ≤ commands_limit → IsHaltedRun airport commands_limit (rest, left) (call.taken.0, between) taken
+      → EndsWith read_fault_line status.ReadFault faults (between, call.taken.1) ended → KeepsPace call names (rest, left) ended
+  fault-pace taken ended faults few halted ends = record {
+    fault = λ is. (taken, few, halted-told taken read_fault_line status.ReadFault ended faults halted ends is (λ e. cc e) (λ e. cc e));
+    large = λ is. absurd (other-status read_fault_line status.ReadFault ended status.TooLarge faults (between, call.taken.1) ends is (λ e. cc e) (λ e. cc e) (λ e. cc e));
+    late = λ is. (airport, accepted, inr (halted-pace taken read_fault_line status.ReadFault ended faults halted ends is (λ e. cc e)));
+  }
+
+  large-pace : (taken : List ℕ) (ended : Status) (faults : ℕ × ℕ) → commands_limit < length taken → IsHaltedRun airport commands_limit (rest, left) (call.taken.0, between) taken
+      → EndsWith too_large_line status.TooLarge faults (between, call.taken.1) ended → KeepsPace call names (rest, left) ended
+  large-pace taken ended faults more halted ends = record {
+    fault = λ is. absurd (other-status too_large_line status.TooLarge ended status.ReadFault faults (between, call.taken.1) ends is (λ e. cc e) (λ e. cc e) (λ e. cc e));
+    large = λ is. (taken, more, halted-told taken too_large_line status.TooLarge ended faults halted ends is (λ e. cc e) (λ e. cc e));
+    late = λ is. (airport, accepted, inr (halted-pace taken too_large_line status.TooLarge ended faults halted ends is (λ e. cc e)));
+  }
+
+  pub whole-pace : (count : ℕ) (line : List ℕ) (ended : Status) (faults : ℕ × ℕ) → IsWholeRun airport commands_limit (rest, left) (call.taken.0, between) count
+      → EndsWith line status.Done faults (between, call.taken.1) ended → KeepsPace call names (rest, left) ended
+  whole-pace count line ended faults whole ends = record {
+    fault = λ is. absurd (other-status line status.Done ended status.ReadFault faults (between, call.taken.1) ends is (λ e. cc e) (λ e. cc e) (λ e. cc e));
+    large = λ is. absurd (other-status line status.Done ended status.TooLarge faults (between, call.taken.1) ends is (λ e. cc e) (λ e. cc e) (λ e. cc e));
+    late = λ is. (airport, accepted, inr (caught_up (front-told line status.Done ended faults (between, call.taken.1) ends is (λ e. cc e))));
+  }
+    where
+      others : (others : List (List ℕ)) × (commands_of whole.bytes ≡ ended_commands_of (take commands_limit whole.bytes) ++ others)
+      others =
+          let first = ended-first whole.bytes [] in
+          let lines : lines_of whole.bytes ≡ ended_lines_of whole.bytes ++ first.0 = ap lines_of (sym (append-nil whole.bytes)) ∙ first.1 in
+          let bytes : take commands_limit whole.bytes ≡ whole.bytes = take_all commands_limit whole.bytes whole.within in (
+            commands_among first.0,
+            ap commands_among lines ∙ among-append (ended_lines_of whole.bytes) first.0
+                ∙ ap (λ (t : List ℕ). ended_commands_of t ++ commands_among first.0) (sym bytes),
+          )
+
+      caught_up : (front : List ℕ) × Grew between call.taken.1 front → IsCaughtUp airport (rest, left) call.taken
+      caught_up front = record {
+        taken = whole.bytes;
+        gave = whole.gave;
+        others = others.0;
+        between = between;
+        count = count;
+        after = whole.after;
+        answered = subst (λ (c : List (List ℕ)). AreAnswered airport no_holder c (call.taken.0, between) count whole.after) others.1 whole.answered;
+        front = front.0;
+        grew = front.1;
+      }
+
+  pub halt-pace : (why : RunRefused) (ended : Status) (faults : ℕ × ℕ) → IsStopped airport commands_limit (rest, left) (call.taken.0, between) why
+      → HaltsWith why faults (between, call.taken.1) ended → KeepsPace call names (rest, left) ended
+  halt-pace refused.ReadFault ended faults stopped halts = fault-pace stopped.0 ended faults stopped.1 stopped.2 halts
+  halt-pace refused.TooLarge ended faults stopped halts = large-pace stopped.0 ended faults stopped.1 stopped.2 halts
+  halt-pace refused.Memory ended faults stopped halts = memory-pace call names (rest, left) ended halts.0
+  halt-pace refused.WriteFault ended faults stopped halts = record {
+    fault = λ other. absurd (cc (halts.0, other));
+    large = λ other. absurd (cc (halts.0, other));
+    late = λ _. (airport, accepted, inl (subst (λ (t : Option (List ℕ)). IsPrompt airport (rest, left) (call.taken.0, t)) (sym halts.1) stopped.1));
+  }
+
+  module _ (begins : Begins call.files names.commands rest) (mid : ℕ) (later : call.writes.0 ≤ mid) where
+    -- the blocks are written, and the last line decides the status
+    ended-by : (blocks : List Block) (line last : List ℕ) (due ended : Status) → Grew call.taken.0 between (blocks_text airport blocks) → line ≡ last
+        → IsDueText call (Some (Route names)) due (blocks_text airport blocks ++ last) → (IsWhole call (Some (Route names)) due → Ends call (Some (Route names)) due)
+        → EndsWith line due (mid, call.writes.1) (between, call.taken.1) ended → Ends call (Some (Route names)) ended
+    ended-by blocks line last due ended grew same text as_whole ends =
+        rw ends.2 (writing-ends call (Some (Route names)) due (blocks_text airport blocks ++ line) ends.0 (rw same text)
+        (writing-behind (blocks_text airport blocks) line call.writes.0 mid call.writes.1 call.taken.0 between call.taken.1 ends.0 later grew ends.1) as_whole)
+
+    -- the whole file is read
+    pub whole-ends : (count : ℕ) (line : List ℕ) (ended : Status) → IsWholeRun airport commands_limit (rest, left) (call.taken.0, between) count → line ≡ done_line count
+        → EndsWith line status.Done (mid, call.writes.1) (between, call.taken.1) ended → Ends call (Some (Route names)) ended
+    whole-ends count line ended whole same ends =
+        ended-by whole.answered.blocks line (done_line (length whole.answered.blocks)) status.Done ended whole.answered.grew (same ∙ ap done_line whole.answered.counted)
+        (record {
+          airport = airport;
+          commands = whole.bytes;
+          accepted = record { accepted = accepted; file = begun-file call.files names.commands rest whole.bytes begins whole.file; within = whole.within };
+          blocks = whole.answered.blocks;
+          after = whole.after;
+          run = whole.answered.run;
+          whole = refl;
+        })
+        (λ whole. whole) ends
+
+    fault-ends : (taken : List ℕ) (ended : Status) → Rose call.reads.0 call.reads.1 → IsHaltedRun airport commands_limit (rest, left) (call.taken.0, between) taken
+        → EndsWith read_fault_line status.ReadFault (mid, call.writes.1) (between, call.taken.1) ended → Ends call (Some (Route names)) ended
+    fault-ends taken ended rose halted ends =
+        let file = taken-file call.files names.commands rest left taken begins halted.gave in
+        ended-by halted.answered.blocks read_fault_line read_fault_line status.ReadFault ended halted.answered.grew refl
+        (rose, inr (taken, file.0, file.1, record { airport = airport; accepted = accepted; blocks = halted.answered.blocks; after = halted.after; run = halted.answered.run; whole = refl }))
+        (λ whole. whole) ends
+
+    large-ends : (taken : List ℕ) (ended : Status) → commands_limit < length taken → IsHaltedRun airport commands_limit (rest, left) (call.taken.0, between) taken
+        → EndsWith too_large_line status.TooLarge (mid, call.writes.1) (between, call.taken.1) ended → Ends call (Some (Route names)) ended
+    large-ends taken ended more halted ends =
+        let file = taken-file call.files names.commands rest left taken begins halted.gave in
+        let longer : commands_limit < length (taken ++ file.0) = let l = length-append taken file.0 in omega (arith, l, more) in
+        let counted : take commands_limit taken ≡ take commands_limit (taken ++ file.0) = sym (take-append-le commands_limit taken file.0 (omega (arith, more))) in
+        ended-by halted.answered.blocks too_large_line too_large_line status.TooLarge ended halted.answered.grew refl
+        (inr (
+          taken ++ file.0,
+          file.1,
+          longer,
+          record {
+            airport = airport;
+            accepted = accepted;
+            blocks = halted.answered.blocks;
+            after = halted.after;
+            run = subst (λ (t : List ℕ). IsRun airport no_holder (ended_commands_of t) halted.answered.blocks halted.after) counted halted.answered.run;
+            whole = refl;
+          },
+        ))
+        (λ whole. whole) ends
+
+    -- a front of the blocks is written
+    cut-ends : IsCutRun airport commands_limit (rest, left) call.taken → IsCutShort call (Some (Route names))
+    cut-ends cut = go (nat_lt commands_limit (length cut.bytes)) refl where
+      file : IsFile call.files names.commands cut.bytes
+      file = begun-file call.files names.commands rest cut.bytes begins cut.file
+
+      run-if : (b : Bool) → nat_lt commands_limit (length cut.bytes) ≡ b → IsRun airport no_holder (cond b (ended_commands_of (take commands_limit cut.bytes)) (commands_of cut.bytes)) cut.blocks cut.after
+      run-if b is = subst (λ (c : Bool). IsRun airport no_holder (cond c (ended_commands_of (take commands_limit cut.bytes)) (commands_of cut.bytes)) cut.blocks cut.after) is cut.run
+
+      go : (b : Bool) → nat_lt commands_limit (length cut.bytes) ≡ b → IsCutShort call (Some (Route names))
+      go false is = (
+        status.Done,
+        transcript airport cut.blocks,
+        record {
+          airport = airport;
+          commands = cut.bytes;
+          accepted = record { accepted = accepted; file = file; within = ltb-false _ _ is };
+          blocks = cut.blocks;
+          after = cut.after;
+          run = run-if false is;
+          whole = refl;
+        },
+        front-of call.taken.0 call.taken.1 cut.front cut.behind (blocks_text airport cut.blocks) (done_line (length cut.blocks)) cut.split (omega arith) cut.grew,
+      )
+      go true is = (
+        status.TooLarge,
+        blocks_text airport cut.blocks ++ too_large_line,
+        inr (cut.bytes, file, ltb-true _ _ is, record { airport = airport; accepted = accepted; blocks = cut.blocks; after = cut.after; run = run-if true is; whole = refl }),
+        front-of call.taken.0 call.taken.1 cut.front cut.behind (blocks_text airport cut.blocks) too_large_line cut.split (omega arith) cut.grew,
+      )
+
+    pub halt-ends : (why : RunRefused) (ended : Status) (before : ℕ) → IsStopped airport commands_limit (rest, left) (call.taken.0, between) why
+        → (why ≡ refused.ReadFault → Rose before call.reads.1) → call.reads.0 ≤ before → (why ≡ refused.WriteFault → Rose call.writes.0 mid) → mid ≤ call.writes.1
+        → HaltsWith why (mid, call.writes.1) (between, call.taken.1) ended → Ends call (Some (Route names)) ended
+    halt-ends refused.ReadFault ended before stopped read earlier write after halts =
+        let risen = read refl in
+        let rose : Rose call.reads.0 call.reads.1 = omega (arith, risen, earlier) in
+        fault-ends stopped.0 ended rose stopped.2 halts
+    halt-ends refused.TooLarge ended before stopped read earlier write after halts = large-ends stopped.0 ended stopped.1 stopped.2 halts
+    halt-ends refused.WriteFault ended before stopped read earlier write after halts =
+        let risen = write refl in
+        let rose : Rose call.writes.0 call.writes.1 = omega (arith, risen, after) in
+        rw halts.0 (rose, cut-ends (subst (λ (t : Option (List ℕ)). IsCutRun airport commands_limit (rest, left) (call.taken.0, t)) (sym halts.1) stopped.0))
+    halt-ends refused.Memory ended before stopped read earlier write after halts =
+        rw halts.0 (inr (cut-ends (subst (λ (t : Option (List ℕ)). IsCutRun airport commands_limit (rest, left) (call.taken.0, t)) (sym halts.1) stopped)))
+
+-- the command file can't be begun, and all of it is left
+pub begin-pace : (call : Call) (names : FileNames) (airport : Airport) (file next : Option (List ℕ)) (why : Stop) (ended : Status) (faults : ℕ × ℕ)
+    → IsJudged call.files names.airport (Ok airport) → next ≡ file → IsCauseOfBegin faults why → StopsWith why call.writes call.taken ended → KeepsPace call names (file, next) ended
+begin-pace call names airport file next (stop.Refused at why) ended faults accepted same cause stops = absurd cause
+begin-pace call names airport file next stop.TooLarge ended faults accepted same cause stops = absurd cause
+begin-pace call names airport file next stop.Memory ended faults accepted same cause stops = memory-pace call names (file, next) ended stops.0
+begin-pace call names airport file next stop.ReadFault ended faults accepted same cause stops =
+    fault-pace call names airport accepted file next call.taken.0 [] ended call.writes (omega arith)
+    (record {
+      gave = sym (prepend_known-nil next ∙ same);
+      count = 0;
+      after = no_holder;
+      answered = none-answered airport no_holder no_holder call.taken.0 refl;
+    })
+    stops
+
+-- ---- the call as a whole
+
+run-outcome : (call : Call) (names : FileNames) (airport : Airport) (accepted : IsJudged call.files names.airport (Ok airport)) (rest left between : Option (List ℕ))
+    (begun : Bool) (before mid : ℕ) (ended : Status) (outcome : Result ℕ RunRefused) → Begins call.files names.commands rest → call.writes.0 ≤ mid → mid ≤ call.writes.1 → call.reads.0 ≤ before
+    → HasOutcome (record { files = call.files; reads = (before, call.reads.1); writes = call.writes; begun = begun; left = left; taken = call.taken }) airport rest between mid ended outcome
+    → Ends call (Some (Route names)) ended × KeepsPace call names (rest, left) ended
+run-outcome call names airport accepted rest left between begun before mid ended (Ok count) begins later after earlier has = (
+  whole-ends call names airport accepted rest left between begins mid later count (done_line count) ended has.0 refl has.1,
+  whole-pace call names airport accepted rest left between count (done_line count) ended (mid, call.writes.1) has.0 has.1,
+)
+run-outcome call names airport accepted rest left between begun before mid ended (Err why) begins later after earlier has = (
+  halt-ends call names airport accepted rest left between begins mid later why ended before has.0 has.2 earlier has.3 after has.1,
+  halt-pace call names airport accepted rest left between why ended (mid, call.writes.1) has.0 has.1,
+)
+
+-- how the run ends ends the call, and it keeps pace with its command file
+pub run-ends : (call : Call) (names : FileNames) (airport : Airport) (told : Option Files) (begun : Bool) (left : Option (List ℕ)) (before : ℕ) (ended : Status)
+    → IsJudged call.files names.airport (Ok airport) → told ≡ call.files → call.reads.0 ≤ before
+    → IsRunEnd (record { files = told; reads = (before, call.reads.1); writes = call.writes; begun = begun; left = left; taken = call.taken }) airport names.commands ended
+    → Ends call (Some (Route names)) ended × KeepsPace call names (commands_left call.files names begun left) ended
+run-ends call names airport told begun left before ended accepted same earlier (inl stopped) = (
+  begin-ends call names stopped.why ended before stopped.cause earlier stopped.stops,
+  begin-pace call names airport (bytes_told call.files names.commands) (left_of begun (bytes_told call.files names.commands) left) stopped.why ended (before, call.reads.1) accepted
+      (ap (λ (b : Bool). left_of b (bytes_told call.files names.commands) left) stopped.nothing) stopped.cause stopped.stops,
+)
+run-ends call names airport told begun left before ended accepted same earlier (inr run) =
+    let begins : Begins call.files names.commands run.rest = subst (λ (t : Option Files). Begins t names.commands run.rest) same run.begins in
+    let both = run-outcome call names airport accepted run.rest left run.between begun before run.mid ended run.outcome begins run.later run.after earlier run.has in
+    let whole = begun-told call.files names.commands run.rest begins in
+    let rest : left ≡ left_of begun (bytes_told call.files names.commands) left = ap (λ (b : Bool). left_of b (bytes_told call.files names.commands) left) (sym run.is_begun) in (
+      both.0,
+      subst (λ (l : Option (List ℕ)). KeepsPace call names (bytes_told call.files names.commands, l) ended) rest
+          (subst (λ (f : Option (List ℕ)). KeepsPace call names (f, left) ended) whole both.1),
+    )

@@ -1,0 +1,51 @@
+use Rattle.std.proofs.Common.{[], ◌∷◌, inr}
+use Rattle.taxi_cli.specs.Asked.{FileNames}
+use Rattle.taxi_cli.specs.Endings.{Call}
+use Rattle.taxi_cli.proofs.InputLaws.{began-more}
+use Rattle.taxi_cli.proofs.RunEndings.{airport-ends, not-begun, run-ends}
+use Rattle.taxi_cli.proofs.routing.route.Goals as goal
+
+pub returns-in-Ok-clause-ends : goal.returns-in-Ok-clause-ends
+returns-in-Ok-clause-ends g c =
+    let call : Call = record {
+      files = g.S.Shelf.files c.args.shelf.now;
+      reads = (g.S.Shelf.faults c.args.shelf.now, g.S.Shelf.faults c.route_at.new.shelf);
+      writes = (g.K.Sink.faults c.args.out.now, g.K.Sink.faults c.route_at.new.out);
+      taken = (g.K.Sink.written c.args.out.now, g.K.Sink.written c.route_at.new.out);
+    } in
+    let names : FileNames = record { airport = c.args.airport.now; commands = c.args.commands.now } in
+    (run-ends call names c.in-Ok.airport (g.S.Shelf.files c.read_airport_file.new.shelf) (g.S.Shelf.begun c.route_at.new.shelf) (g.S.Shelf.rest c.route_at.new.shelf)
+    (g.S.Shelf.faults c.read_airport_file.new.shelf) c.route_at.result c.in-Ok.ensures.ok c.read_airport_file.ensures.files c.read_airport_file.ensures.later c.route_at.ensures.run).0
+
+pub returns-in-Ok-clause-pace : goal.returns-in-Ok-clause-pace
+returns-in-Ok-clause-pace g c =
+    let call : Call = record {
+      files = g.S.Shelf.files c.args.shelf.now;
+      reads = (g.S.Shelf.faults c.args.shelf.now, g.S.Shelf.faults c.route_at.new.shelf);
+      writes = (g.K.Sink.faults c.args.out.now, g.K.Sink.faults c.route_at.new.out);
+      taken = (g.K.Sink.written c.args.out.now, g.K.Sink.written c.route_at.new.out);
+    } in
+    let names : FileNames = record { airport = c.args.airport.now; commands = c.args.commands.now } in
+    λ both.
+    (run-ends call names c.in-Ok.airport (g.S.Shelf.files c.read_airport_file.new.shelf) (g.S.Shelf.begun c.route_at.new.shelf) (g.S.Shelf.rest c.route_at.new.shelf)
+    (g.S.Shelf.faults c.read_airport_file.new.shelf) c.route_at.result c.in-Ok.ensures.ok c.read_airport_file.ensures.files c.read_airport_file.ensures.later c.route_at.ensures.run).1
+
+pub returns-in-Ok-clause-order : goal.returns-in-Ok-clause-order
+returns-in-Ok-clause-order g c =
+    inr ((c.in-Ok.airport, c.in-Ok.ensures.ok), began-more _ _ _ (c.args.airport.now ∷ []) (c.args.commands.now ∷ []) c.in-Ok.ensures.tried c.route_at.ensures.tried)
+
+pub returns-in-Err-clause-ends : goal.returns-in-Err-clause-ends
+returns-in-Err-clause-ends g c =
+    let call : Call = record {
+      files = g.S.Shelf.files c.args.shelf.now;
+      reads = (g.S.Shelf.faults c.args.shelf.now, g.S.Shelf.faults c.read_airport_file.new.shelf);
+      writes = (g.K.Sink.faults c.args.out.now, g.K.Sink.faults c.write_stop.new.out);
+      taken = (g.K.Sink.written c.args.out.now, g.K.Sink.written c.write_stop.new.out);
+    } in
+    let names : FileNames = record { airport = c.args.airport.now; commands = c.args.commands.now } in
+    airport-ends call names c.in-Err.stop c.write_stop.result c.in-Err.ensures.stop c.write_stop.ensures.ends
+
+pub returns-in-Err-clause-pace : goal.returns-in-Err-clause-pace
+returns-in-Err-clause-pace g c =
+    let names : FileNames = record { airport = c.args.airport.now; commands = c.args.commands.now } in
+    λ both. absurd (not-begun names _ _ c.in-Err.ensures.tried both)

@@ -1,0 +1,94 @@
+//! The verb `route`.
+ghost use Rattle.std.specs.Prelude.{◌≤◌, ◌∷◌, [], Some};
+ghost use Rattle.taxi_io.specs.Files.{BeganMore};
+ghost use Rattle.taxi_cli.specs.Asked.{Route};
+ghost use Rattle.taxi_cli.specs.Outcomes.{IsInOrder};
+ghost use Rattle.taxi_cli.specs.Endings.{Ends};
+ghost use Rattle.taxi_cli.specs.Pace.{HaveBegun, KeepsPace, commands_left};
+ghost use Rattle.taxi_cli.specs.RunEnds.{HaltsWith, IsRunEnd};
+
+use crate::ending::{write_last, write_stop};
+use crate::inputs::{COMMANDS_LIMIT, begin_commands, read_airport_file};
+use crate::last_line::{read_fault_line, too_large_line};
+use crate::status::Status;
+use airport_file::Airport;
+use command_run::{RunRefused, run_commands};
+use std::alloc::Global;
+use taxi_io::{Shelf, Sink};
+use transcripts::done_line;
+
+/// Answers the commands of one file at the airport of another.
+pub(crate) fn route<S: Shelf, K: Sink>(
+    alloc: Global,
+    airport: &str,
+    commands: &str,
+    shelf: &mut S,
+    out: &mut K,
+) -> Status
+    requires airport { S.knows shelf.old airport.now }
+    requires commands { S.knows shelf.old commands.now }
+    ensures ends { Ends (record {
+      files = S.files shelf.old;
+      reads = (S.faults shelf.old, S.faults shelf.new);
+      writes = (K.faults out.old, K.faults out.new);
+      taken = (K.written out.old, K.written out.new);
+    }) (Some (Route (record { airport = airport.now; commands = commands.now }))) result }
+    ensures order { IsInOrder (S.files shelf.old) (Some (Route (record { airport = airport.now; commands = commands.now }))) (S.tried shelf.old) (S.tried shelf.new) }
+    ensures pace { HaveBegun (record { airport = airport.now; commands = commands.now }) (S.tried shelf.old) (S.tried shelf.new) → KeepsPace (record {
+      files = S.files shelf.old;
+      reads = (S.faults shelf.old, S.faults shelf.new);
+      writes = (K.faults out.old, K.faults out.new);
+      taken = (K.written out.old, K.written out.new);
+    }) (record { airport = airport.now; commands = commands.now })
+        (commands_left (S.files shelf.old) (record { airport = airport.now; commands = commands.now }) (S.begun shelf.new) (S.rest shelf.new)) result }
+    ensures reads_later { S.faults shelf.old ≤ S.faults shelf.new }
+    ensures writes_later { K.faults out.old ≤ K.faults out.new }
+{
+    match read_airport_file(alloc, shelf, airport) {
+        Ok(airport) => route_at(alloc, airport, commands, shelf, out),
+        Err(stop) => write_stop(out, stop),
+    }
+}
+
+// Answers the commands of a file at an airport.
+fn route_at<S: Shelf, K: Sink>(
+    alloc: Global,
+    airport: Airport,
+    commands: &str,
+    shelf: &mut S,
+    out: &mut K,
+) -> Status
+    requires { S.knows shelf.old commands.now }
+    ensures run { IsRunEnd (record {
+      files = S.files shelf.old;
+      reads = (S.faults shelf.old, S.faults shelf.new);
+      writes = (K.faults out.old, K.faults out.new);
+      begun = S.begun shelf.new;
+      left = S.rest shelf.new;
+      taken = (K.written out.old, K.written out.new);
+    }) airport commands.now result }
+    ensures tried { BeganMore (S.tried shelf.old) (S.tried shelf.new) (commands.now ∷ []) }
+    ensures reads_later { S.faults shelf.old ≤ S.faults shelf.new }
+    ensures writes_later { K.faults out.old ≤ K.faults out.new }
+{
+    match begin_commands(shelf, commands) {
+        Ok(()) => match run_commands(alloc, airport, shelf, COMMANDS_LIMIT, out) {
+            Ok(count) => write_last(out, done_line(count).bytes(), Status::Done),
+            Err(refused) => write_halt(out, refused),
+        },
+        Err(stop) => write_stop(out, stop),
+    }
+}
+
+// Writes the line that says why a run ends before the end of its file, and gives the status that goes with it.
+fn write_halt<K: Sink>(out: &mut K, why: RunRefused) -> Status
+    ensures ends { HaltsWith why (K.faults out.old, K.faults out.new) (K.written out.old, K.written out.new) result }
+    ensures later { K.faults out.old ≤ K.faults out.new }
+{
+    match why {
+        RunRefused::ReadFault => write_last(out, read_fault_line(), Status::ReadFault),
+        RunRefused::TooLarge => write_last(out, too_large_line(), Status::TooLarge),
+        RunRefused::WriteFault => Status::WriteFault,
+        RunRefused::Memory => Status::Memory,
+    }
+}

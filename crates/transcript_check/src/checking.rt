@@ -1,0 +1,97 @@
+//! The check of a transcript.
+ghost use Rattle.std.specs.Prelude.{◌≡◌, ◌≤◌, length, IfOk};
+ghost use Rattle.taxi_base.specs.Airport.{IsWellFormed};
+ghost use Rattle.taxi_text.specs.Lines.{commands_of};
+ghost use Rattle.transcript_check.specs.Verdicts.{IsBlockVerdict, IsVerdict};
+
+use crate::failure::Failure;
+use airport_file::Airport;
+use block_reader::{BlockRefused, read_block};
+use certificate_check::{CheckRefused, Checker};
+use std::alloc::Global;
+use taxi_base::Memory;
+use taxi_text::{lines, skipped};
+use transcripts::done_line;
+
+/// What the check of a transcript finds.
+#[derive(Clone, Copy, Debug, Drop)]
+pub enum Verdict {
+    /// Each command has its block, all pass, and there are so many.
+    Right { count: u64 },
+    /// The first block that fails, by its number from 1, and why.
+    Wrong { number: u64, why: Failure },
+}
+
+/// What the check of the block that is due finds.
+#[derive(Clone, Copy, Debug, Drop)]
+pub(crate) enum BlockVerdict {
+    /// A block passes whose text has so many bytes.
+    Passed { length: usize },
+    Failed { why: Failure },
+}
+
+/// Checks the block of each command where it is due, and that the last line stands behind them.
+pub fn check_transcript(
+    alloc: Global,
+    airport: &Airport,
+    commands: &[u8],
+    transcript: &[u8],
+) -> Result<Verdict, Memory>
+    requires within { length commands.now ≤ 16777216 }
+    ensures { IfOk result (IsVerdict airport.now (commands_of commands.now) transcript.now) }
+{
+    // The airport keeps its rules, so what passes is best.
+    let _ = airport.horizon();
+    let mut checker = Checker::new(alloc, airport)?;
+    let mut rest = transcript;
+    let mut count: u64 = 0;
+    for line in lines(commands) {
+        if !skipped(line) {
+            match check_block(alloc, airport, &mut checker, line, rest)? {
+                BlockVerdict::Passed { length } => rest = &rest[length..],
+                BlockVerdict::Failed { why } => {
+                    return Ok(Verdict::Wrong {
+                        number: count + 1,
+                        why,
+                    });
+                }
+            }
+            count += 1;
+        }
+    }
+    if rest == done_line(count).bytes() {
+        return Ok(Verdict::Right { count });
+    }
+    Ok(Verdict::Wrong {
+        number: count + 1,
+        why: Failure::Form,
+    })
+}
+
+// Reads the block that is due for a line, and has it checked.
+fn check_block(
+    alloc: Global,
+    airport: &Airport,
+    checker: &mut Checker<'_>,
+    line: &[u8],
+    rest: &[u8],
+) -> Result<BlockVerdict, Memory>
+    requires same { checker.old.airport ≡ airport.now }
+    ensures verdict { IfOk result (IsBlockVerdict airport.now checker.old.state line.now rest.now checker.new.state) }
+    ensures airport { checker.new.airport ≡ airport.now }
+{
+    let (block, length) = match read_block(alloc, airport, rest) {
+        Ok(read) => read,
+        Err(BlockRefused::NotABlock) => {
+            return Ok(BlockVerdict::Failed { why: Failure::Form });
+        }
+        Err(BlockRefused::Memory) => return Err(Memory),
+    };
+    match checker.check_next(line, &block) {
+        Ok(()) => Ok(BlockVerdict::Passed { length }),
+        Err(CheckRefused::Wrong { rule }) => Ok(BlockVerdict::Failed {
+            why: Failure::Rule(rule),
+        }),
+        Err(CheckRefused::Memory) => Err(Memory),
+    }
+}
