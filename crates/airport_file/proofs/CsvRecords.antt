@@ -2,7 +2,7 @@
 use Rattle.std.proofs.Common.{◌≡◌, ◌<◌, ◌≤◌, ◌+◌, ◌∷◌, ◌∙◌, [], ℕ, zero, suc, List, Some, None, refl, sym, ap, subst, arith, length, true, false, inl, inr, ◌==◌, ◌&&◌, Bool, if◌then◌else◌}
 use Rattle.std.proofs.lemmas.Bool.{cases_Bool}
 use Rattle.csv.specs.Machine.{next_record, Read, step, is_end, fields_after, field_after, ends_at_end, after_end, in_field, start_field, start_record, ends_with, is_byte}
-use Rattle.csv.specs.Reading.{AreRecords, Reached, records, records_from, default_config, strip_bom, is_bom}
+use Rattle.csv.specs.Reading.{AreRecords, Reached, records, records_from, strip_bom, is_bom}
 use Rattle.csv.specs.declared.parser.Config.{Config}
 use Rattle.csv.specs.declared.parser.Terminator.{Terminator}
 use Rattle.csv.specs.declared.parser.Terminator.TheVariants as term
@@ -28,7 +28,7 @@ rest-le cfg s fields field (c ∷ rest) q e = elim (cases_Bool (is_end (step cfg
 ]
 
 -- and where there is a byte, fewer
-rest-lt : (cfg : Config) (s : State) (fields : List (List ℕ)) (field : List ℕ) (c : ℕ) (rest : List ℕ) (q : Read)
+pub rest-lt : (cfg : Config) (s : State) (fields : List (List ℕ)) (field : List ℕ) (c : ℕ) (rest : List ℕ) (q : Read)
     → next_record cfg s fields field (c ∷ rest) ≡ Some q → length q.2 ≤ length rest
 unfolding next_record
 rest-lt cfg s fields field c rest q e = elim (cases_Bool (is_end (step cfg s c).1)) [
@@ -72,7 +72,7 @@ end-step cfg st.InComment c = good-if (c == 10) (st.StartRecord, act.Skip) (st.I
 end-step cfg st.AfterCr c = good-if (c == 10) (st.StartRecord, act.Skip) (start_record cfg c) (λ e. cc e) (start-record cfg c)
 
 -- after a record the end of the text ends none
-good-after : (cfg : Config) (s : State) (fields : List (List ℕ)) (field xs : List ℕ) (q : Read)
+pub good-after : (cfg : Config) (s : State) (fields : List (List ℕ)) (field xs : List ℕ) (q : Read)
     → next_record cfg s fields field xs ≡ Some q → ends_at_end q.1 ≡ false
 unfolding next_record
 good-after cfg s fields field [] q e = elim (cases_Bool (ends_at_end s)) [
@@ -84,12 +84,12 @@ good-after cfg s fields field (c ∷ rest) q e = elim (cases_Bool (is_end (step 
   | inr goes ↦ good-after cfg (step cfg s c).0 (fields_after (step cfg s c).1 fields field) (field_after (step cfg s c).1 c field) rest q (rw goes at e)
 ]
 
-no-record : (cfg : Config) (s : State) (q : Read) → ends_at_end s ≡ false → next_record cfg s [] [] [] ≡ Some q → ⊥
+pub no-record : (cfg : Config) (s : State) (q : Read) → ends_at_end s ≡ false → next_record cfg s [] [] [] ≡ Some q → ⊥
 unfolding next_record
 no-record cfg s q good e = cc (rw good at e)
 
 -- there are at most as many records as bytes
-pub few-rows : (cfg : Config) (s : State) (xs : List ℕ) (rows : List (List (List ℕ))) (s2 : State) (ys : List ℕ) → ends_at_end s ≡ false
+few-rows : (cfg : Config) (s : State) (xs : List ℕ) (rows : List (List (List ℕ))) (s2 : State) (ys : List ℕ) → ends_at_end s ≡ false
     → Reached cfg s xs rows s2 ys → length rows ≤ length xs
 unfolding Reached
 few-rows cfg s xs [] s2 ys good h = omega arith
@@ -110,9 +110,6 @@ enough cfg (suc n) s xs (r ∷ rs) s2 ys h none lt =
 
 pub records-are : (cfg : Config) (xs : List ℕ) (rows : List (List (List ℕ))) → AreRecords cfg st.StartRecord xs rows → rows ≡ records cfg xs
 records-are cfg xs rows h = sym (enough cfg (length xs + 1) st.StartRecord xs rows h.0 h.1 h.2 h.3 (let few = few-rows cfg st.StartRecord xs rows h.0 h.1 refl h.2 in omega (arith, few)))
-
-pub few-records : (xs : List ℕ) (rows : List (List (List ℕ))) → AreRecords default_config st.StartRecord xs rows → length rows ≤ length xs
-few-records xs rows h = few-rows default_config st.StartRecord xs rows h.0 h.1 refl h.2
 
 -- without a byte order mark there are no more bytes
 pub length-strip : (xs : List ℕ) → length (strip_bom xs) ≤ length xs

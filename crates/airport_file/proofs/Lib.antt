@@ -2,5 +2,6 @@ mod CsvRecords
 mod PlainLines
 mod BuildLaws
 mod ReadLaws
+mod RowsLeft
 pub mod NamedPlaces
 pub mod AcceptedLaws

@@ -1,12 +1,11 @@
 -- How the records are judged one after the other.
-use Rattle.std.proofs.Common.{◌≡◌, ℕ, ◌+◌, List, [], ◌∷◌, Ok, Err, Option, Some, None, zero, suc, refl, ap, sym, ◌∙◌, ◌++◌, ◌<◌, take, drop, map, length, get_or, arith, drop-cons, true, inl, inr}
+use Rattle.std.proofs.Common.{◌≡◌, ℕ, ◌+◌, List, [], ◌∷◌, Ok, Option, Some, None, zero, suc, refl, ap, sym, ◌∙◌, ◌++◌, ◌<◌, take, length, arith, true, inl, inr}
 use Rattle.std.specs.Borrow.{Bor}
 use Rattle.std.proofs.lemmas.List.{map-append, take_more}
 use Rattle.std.proofs.lemmas.Option.{get_or_from_slice_get, slice_get_within, slice_get_cases}
 use Rattle.airport_rules.specs.Judged.{texts_of}
 use Rattle.std.specs.Prelude.{slice_get, option_map, is_some}
-use Rattle.csv.specs.Records.{Row, fields_of, field_at}
-use Rattle.airport_rules.specs.declared.faults.AirportFault.{AirportFault}
+use Rattle.csv.specs.Records.{field_at}
 use Rattle.airport_rules.specs.declared.version.Version.{Version}
 use Rattle.airport_rules.specs.Plan.{Plan}
 use Rattle.airport_rules.specs.Rules.{judge}
@@ -15,10 +14,6 @@ use Rattle.airport_file.specs.Reading.{judged_after}
 -- a record that breaks no rule
 pub judged-taken : (version : Version) (last : ℕ) (plan new : Plan) (row : List (List ℕ)) (rows : List (List (List ℕ))) → judge version plan row ≡ Ok new → judged_after version last plan (row ∷ rows) ≡ judged_after version (last + 1) new rows
 judged-taken version last plan new row rows e = rw e refl
-
-pub judged-refused : (version : Version) (last : ℕ) (plan : Plan) (row : List (List ℕ)) (rows : List (List (List ℕ))) (why : AirportFault) → judge version plan row ≡ Err why
-    → judged_after version last plan (row ∷ rows) ≡ Err (record { at = last + 1; why = why })
-judged-refused version last plan row rows why e = rw e refl
 
 pub field_at-get : (fields : List (List ℕ)) (i : ℕ) → field_at fields i ≡ slice_get fields i
 unfolding field_at
@@ -41,12 +36,3 @@ texts-more got f fields i e at =
     let found : slice_get fields i ≡ Some f.now = sym (field_at-get fields i) ∙ sym at in
     map-append (λ (f : Bor (List ℕ)). f.now) got (f ∷ []) ∙ ap (λ xs. xs ++ f.now ∷ []) e
     ∙ ap (λ x. take i fields ++ x ∷ []) (sym (get_or_from_slice_get fields i f.now [] found)) ∙ sym (take_more fields i [] (slice_get_within fields i f.now found))
-
--- the records from a place on, the first of which breaks no rule
-pub judged-more : (version : Version) (records : List Row) (k : ℕ) (item : Row) (plan new : Plan) → item ≡ get_or records k item → k < length records → judge version plan (fields_of item) ≡ Ok new
-    → judged_after version (k + 1) plan (map fields_of (drop k records)) ≡ judged_after version (k + 1 + 1) new (map fields_of (drop (k + 1) records))
-judged-more version records k item plan new is low due =
-    let next : suc k ≡ k + 1 = omega arith in
-    ap (λ rs. judged_after version (k + 1) plan (map fields_of rs)) (drop-cons records k item low ∙ ap (λ x. x ∷ drop (suc k) records) (sym is))
-    ∙ judged-taken version (k + 1) plan new (fields_of item) (map fields_of (drop (suc k) records)) due
-    ∙ ap (λ n. judged_after version (k + 1 + 1) new (map fields_of (drop n records))) next

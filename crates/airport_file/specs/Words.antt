@@ -1,14 +1,10 @@
 -- The words by which an airport names what it has.
 use Rattle.std.specs.Prelude.{ℕ, ◌==◌, ◌%◌, List, [], unwrap_or}
-use Rattle.taxi_base.specs.declared.numbers.Node.{Node}
 use Rattle.taxi_base.specs.declared.numbers.Segment.{Segment}
 use Rattle.taxi_base.specs.declared.numbers.Arc.{Arc}
 use Rattle.taxi_base.specs.declared.numbers.Class.{Class}
-use Rattle.taxi_base.specs.Airport.{Airport, segment_of, node_name, class_name, segment_name}
+use Rattle.taxi_base.specs.Airport.{Airport, segment_of, class_name, segment_name}
 use Rattle.taxi_text.specs.Fields.{arc_word}
-
-abbrev pub node_word : Airport → Node → List ℕ
-node_word airport node = unwrap_or (node_name airport node) []
 
 abbrev pub class_word : Airport → Class → List ℕ
 class_word airport class = unwrap_or (class_name airport class) []

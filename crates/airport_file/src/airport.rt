@@ -122,7 +122,7 @@ impl Airport {
         ensures { result ≡ arc_named self.now name.now forward }
     {
         let at = self.plan.segments().find(name)?;
-        let arc = Arc(2 * at + if forward { 0 } else { 1 });
+        let arc = Arc::of(Segment(at), forward);
         if self.plan.has_arc(arc) {
             Some(arc)
         } else {

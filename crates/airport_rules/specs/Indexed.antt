@@ -1,9 +1,11 @@
 -- What a plan keeps beside its rows, to find things at once.
-use Rattle.std.specs.Prelude.{ℕ, ◌≡◌, ◌<◌, List, length, slice_index, All}
+use Rattle.std.specs.Prelude.{ℕ, ◌≡◌, ◌<◌, ◌+◌, ◌*◌, List, length, slice_index, nat_eq, All}
 use Rattle.std.specs.declared.cmp.Ordering.{Ordering}
 use Rattle.std.specs.Ordering.{nat_cmp, ordering_then}
-use Rattle.std.specs.BTreeSet.{BTreeSet, contains}
+use Rattle.std.specs.HashSet.{HashSet, contains}
+use Rattle.taxi_base.specs.declared.numbers.Segment.{Segment}
 use Rattle.taxi_base.specs.declared.numbers.Arc.{Arc}
+use Rattle.taxi_base.specs.declared.numbers.Class.{Class}
 use Rattle.taxi_base.specs.Airport.{Link, link_ends}
 use Rattle.airport_rules.specs.declared.rows.TimeRow.{TimeRow}
 use Rattle.airport_rules.specs.declared.rows.Taxiway.{Taxiway}
@@ -25,6 +27,10 @@ pub record AreCounted (nodes : ℕ) (links : List Link) (ends : List ℕ) : Type
   pub each : length ends ≡ nodes
   pub count : (k : ℕ) → k < length ends → slice_index ends k ≡ link_ends (record { 0 = k }) links
 
+-- a segment and a class as one number
+abbrev pub time_key : Segment → Class → ℕ
+time_key segment class = segment.0 * 4294967296 + class.0
+
 -- the segments and classes that have a time are in the set
-abbrev pub AreTimed : List TimeRow → BTreeSet (ℕ × ℕ) → Type 0
-AreTimed times timed = (segment class : ℕ) → contains pair_cmp timed (segment, class) ≡ is_timed (record { 0 = segment }) (record { 0 = class }) times
+abbrev pub AreTimed : {S : Type 0} → List TimeRow → HashSet ℕ S → Type 0
+AreTimed times timed = (segment : Segment) (class : Class) → class.0 < 4294967296 → contains nat_eq timed (time_key segment class) ≡ is_timed segment class times

@@ -1,11 +1,12 @@
 //! Judging one record of an airport file against those before it, field by field.
-ghost use Rattle.std.specs.Prelude.{◌≡◌, ◌<◌, ◌≤◌, ◌∷◌, [], None, length};
-ghost use Rattle.taxi_base.specs.Airport.{place_of, arc_of};
-ghost use Rattle.airport_rules.specs.Rules.{kind_of, both_of, number_within, judge_horizon, judge_node, judge_class, judge_segment, judge_link, judge_seconds, judge_clearance, judge_forbid, judge_turn};
+ghost use Rattle.std.specs.Prelude.{◌≡◌, ◌<◌, ◌≤◌, ◌∷◌, [], None, length, IfOk};
+ghost use Rattle.taxi_base.specs.Airport.{place_of};
+ghost use Rattle.airport_rules.specs.Rules.{refused, some_or, is_given, kind_of, both_of, number_within, judge_horizon, judge_node, judge_class, judge_segment, judge_link, judge_seconds, judge_clearance, judge_forbid, judge_turn};
 ghost use Rattle.airport_rules.specs.Indexed.{link_of_way};
 ghost use Rattle.airport_rules.specs.Judged.{Answers};
 
 use crate::{AirportFault, ClearanceRow, LimitKind, Plan, Taxiway, TimeRow};
+use name_list::NameList;
 use taxi_base::{Arc, Class, Kind, Memory, Name, Node, Segment};
 use taxi_text::{read_arc_word, read_number};
 
@@ -14,6 +15,42 @@ use taxi_text::{read_arc_word, read_number};
 pub enum NotTaken {
     Fault(AirportFault),
     Memory,
+}
+
+impl From<AirportFault> for NotTaken {
+    ghost use Rattle.std.specs.Prelude.{◌≡◌};
+    ghost use Rattle.airport_rules.specs.declared.judging.NotTaken.TheVariants as taken;
+
+    ghost from_gives = { λ why e. e ≡ taken.Fault why };
+
+    fn from(why: AirportFault) -> NotTaken {
+        NotTaken::Fault(why)
+    }
+}
+
+impl From<Memory> for NotTaken {
+    ghost use Rattle.std.specs.Prelude.{◌≡◌};
+    ghost use Rattle.airport_rules.specs.declared.judging.NotTaken.TheVariants as taken;
+
+    ghost from_gives = { λ _ e. e ≡ taken.Memory };
+
+    fn from(_memory: Memory) -> NotTaken {
+        NotTaken::Memory
+    }
+}
+
+/// The fault where the test passes.
+pub(crate) fn refused(why: AirportFault, test: bool) -> Result<(), AirportFault>
+    ensures { result ≡ refused why test }
+{
+    if test { Err(why) } else { Ok(()) }
+}
+
+/// A limit that would be passed.
+pub(crate) fn limit(which: LimitKind) -> AirportFault
+    ensures { result ≡ AirportFault.Limit which }
+{
+    AirportFault::Limit { which }
 }
 
 const MOST_NODES: usize = 10_000;
@@ -69,15 +106,27 @@ fn number_within(least: u32, most: u32, word: &[u8]) -> Option<u32>
     }
 }
 
+/// A name that is not to be given twice.
+fn new_name(names: &NameList, name: &Name) -> Result<(), AirportFault>
+    ensures { result ≡ refused AirportFault.NameTwice (is_given name.now names.now) }
+{
+    refused(AirportFault::NameTwice, names.find(name).is_some())
+}
+
+/// The place of a name that is to be given already.
+fn known(names: &NameList, name: &Name) -> Result<u32, AirportFault>
+    ensures place { result ≡ some_or AirportFault.UnknownName (place_of name.now names.now) }
+    ensures within { IfOk result (λ at. at < length names.now) }
+    ensures few { IfOk result (λ at. at < 10000) }
+{
+    names.find(name).ok_or(AirportFault::UnknownName)
+}
+
 pub(crate) fn judge_horizon(plan: &mut Plan, number: &[u8]) -> Result<(), NotTaken>
     ensures { Answers (judge_horizon plan.old number.now) plan.new result }
 {
-    let Some(horizon) = number_within(1, LATEST_HORIZON, number) else {
-        return Err(NotTaken::Fault(AirportFault::BadNumber));
-    };
-    if plan.horizon().is_some() {
-        return Err(NotTaken::Fault(AirportFault::RowTwice));
-    }
+    let horizon = number_within(1, LATEST_HORIZON, number).ok_or(AirportFault::BadNumber)?;
+    refused(AirportFault::RowTwice, plan.horizon().is_some())?;
     plan.set_horizon(horizon);
     Ok(())
 }
@@ -85,43 +134,24 @@ pub(crate) fn judge_horizon(plan: &mut Plan, number: &[u8]) -> Result<(), NotTak
 pub(crate) fn judge_node(plan: &mut Plan, name: &[u8], kind: &[u8]) -> Result<(), NotTaken>
     ensures { Answers (judge_node plan.old name.now kind.now) plan.new result }
 {
-    let Some(name) = Name::read(name) else {
-        return Err(NotTaken::Fault(AirportFault::BadName));
-    };
-    if plan.nodes().find(&name).is_some() {
-        return Err(NotTaken::Fault(AirportFault::NameTwice));
-    }
-    let Some(kind) = kind_of(kind) else {
-        return Err(NotTaken::Fault(AirportFault::BadWord));
-    };
-    if plan.nodes().len() >= MOST_NODES {
-        return Err(NotTaken::Fault(AirportFault::Limit {
-            which: LimitKind::Nodes,
-        }));
-    }
-    if plan.add_node(name, kind).is_err() {
-        return Err(NotTaken::Memory);
-    }
+    let name = Name::read(name).ok_or(AirportFault::BadName)?;
+    new_name(plan.nodes(), &name)?;
+    let kind = kind_of(kind).ok_or(AirportFault::BadWord)?;
+    refused(limit(LimitKind::Nodes), plan.nodes().len() >= MOST_NODES)?;
+    plan.add_node(name, kind)?;
     Ok(())
 }
 
 pub(crate) fn judge_class(plan: &mut Plan, name: &[u8]) -> Result<(), NotTaken>
     ensures { Answers (judge_class plan.old name.now) plan.new result }
 {
-    let Some(name) = Name::read(name) else {
-        return Err(NotTaken::Fault(AirportFault::BadName));
-    };
-    if plan.classes().find(&name).is_some() {
-        return Err(NotTaken::Fault(AirportFault::NameTwice));
-    }
-    if plan.classes().len() >= MOST_CLASSES {
-        return Err(NotTaken::Fault(AirportFault::Limit {
-            which: LimitKind::Classes,
-        }));
-    }
-    if plan.add_class(name).is_err() {
-        return Err(NotTaken::Memory);
-    }
+    let name = Name::read(name).ok_or(AirportFault::BadName)?;
+    new_name(plan.classes(), &name)?;
+    refused(
+        limit(LimitKind::Classes),
+        plan.classes().len() >= MOST_CLASSES,
+    )?;
+    plan.add_class(name)?;
     Ok(())
 }
 
@@ -138,18 +168,10 @@ pub(crate) fn judge_segment(
     else {
         return Err(NotTaken::Fault(AirportFault::BadName));
     };
-    if plan.segments().find(&name).is_some() {
-        return Err(NotTaken::Fault(AirportFault::NameTwice));
-    }
-    let Some(from) = plan.nodes().find(&from) else {
-        return Err(NotTaken::Fault(AirportFault::UnknownName));
-    };
-    let Some(to) = plan.nodes().find(&to) else {
-        return Err(NotTaken::Fault(AirportFault::UnknownName));
-    };
-    let Some(both) = both_of(direction) else {
-        return Err(NotTaken::Fault(AirportFault::BadWord));
-    };
+    new_name(plan.segments(), &name)?;
+    let from = known(plan.nodes(), &from)?;
+    let to = known(plan.nodes(), &to)?;
+    let both = both_of(direction).ok_or(AirportFault::BadWord)?;
     let way = Taxiway {
         from: Node(from),
         to: Node(to),
@@ -165,19 +187,12 @@ fn judge_way(plan: &mut Plan, name: Name, way: &Taxiway) -> Result<(), NotTaken>
     requires to { way.now.to.0 < length plan.old.nodes }
     ensures { Answers (judge_link plan.old name (link_of_way way.now)) plan.new result }
 {
-    if plan.segments().len() >= MOST_SEGMENTS {
-        return Err(NotTaken::Fault(AirportFault::Limit {
-            which: LimitKind::Segments,
-        }));
-    }
-    if plan.is_crowded(way) {
-        return Err(NotTaken::Fault(AirportFault::Limit {
-            which: LimitKind::Ends,
-        }));
-    }
-    if plan.add_segment(name, way).is_err() {
-        return Err(NotTaken::Memory);
-    }
+    refused(
+        limit(LimitKind::Segments),
+        plan.segments().len() >= MOST_SEGMENTS,
+    )?;
+    refused(limit(LimitKind::Ends), plan.is_crowded(way))?;
+    plan.add_segment(name, way)?;
     Ok(())
 }
 
@@ -192,100 +207,57 @@ pub(crate) fn judge_seconds(
     let (Some(segment), Some(class)) = (Name::read(segment), Name::read(class)) else {
         return Err(NotTaken::Fault(AirportFault::BadName));
     };
-    let Some(segment) = plan.segments().find(&segment) else {
-        return Err(NotTaken::Fault(AirportFault::UnknownName));
-    };
-    let Some(class) = plan.classes().find(&class) else {
-        return Err(NotTaken::Fault(AirportFault::UnknownName));
-    };
-    let Some(seconds) = number_within(1, MOST_SECONDS, number) else {
-        return Err(NotTaken::Fault(AirportFault::BadNumber));
-    };
+    let segment = known(plan.segments(), &segment)?;
+    let class = known(plan.classes(), &class)?;
+    let seconds = number_within(1, MOST_SECONDS, number).ok_or(AirportFault::BadNumber)?;
     let row = TimeRow {
         segment: Segment(segment),
         class: Class(class),
         seconds,
     };
-    if plan.is_timed(row.segment, row.class) {
-        return Err(NotTaken::Fault(AirportFault::RowTwice));
-    }
-    if plan.add_time(&row).is_err() {
-        return Err(NotTaken::Memory);
-    }
+    refused(
+        AirportFault::RowTwice,
+        plan.is_timed(row.segment, row.class),
+    )?;
+    plan.add_time(&row)?;
     Ok(())
 }
 
 pub(crate) fn judge_clearance(plan: &mut Plan, class: &[u8], number: &[u8]) -> Result<(), NotTaken>
     ensures { Answers (judge_clearance plan.old class.now number.now) plan.new result }
 {
-    let Some(class) = Name::read(class) else {
-        return Err(NotTaken::Fault(AirportFault::BadName));
-    };
-    let Some(class) = plan.classes().find(&class) else {
-        return Err(NotTaken::Fault(AirportFault::UnknownName));
-    };
-    let Some(seconds) = number_within(0, MOST_CLEARANCE, number) else {
-        return Err(NotTaken::Fault(AirportFault::BadNumber));
-    };
+    let class = Name::read(class).ok_or(AirportFault::BadName)?;
+    let class = known(plan.classes(), &class)?;
+    let seconds = number_within(0, MOST_CLEARANCE, number).ok_or(AirportFault::BadNumber)?;
     let row = ClearanceRow {
         class: Class(class),
         seconds,
     };
-    if plan.has_clearance(row.class) {
-        return Err(NotTaken::Fault(AirportFault::RowTwice));
-    }
-    if plan.add_clearance(&row).is_err() {
-        return Err(NotTaken::Memory);
-    }
+    refused(AirportFault::RowTwice, plan.has_clearance(row.class))?;
+    plan.add_clearance(&row)?;
     Ok(())
 }
 
 pub(crate) fn judge_forbid(plan: &mut Plan, x: &[u8], y: &[u8]) -> Result<(), NotTaken>
     ensures { Answers (judge_forbid plan.old x.now y.now) plan.new result }
 {
-    let Some((first, forward)) = read_arc_word(x) else {
-        return Err(NotTaken::Fault(AirportFault::BadName));
-    };
-    let Some((second, onward)) = read_arc_word(y) else {
-        return Err(NotTaken::Fault(AirportFault::BadName));
-    };
-    let Some(first) = plan.segments().find(&first) else {
-        return Err(NotTaken::Fault(AirportFault::UnknownName));
-    };
-    let Some(second) = plan.segments().find(&second) else {
-        return Err(NotTaken::Fault(AirportFault::UnknownName));
-    };
-    judge_turn(plan, arc_of(first, forward), arc_of(second, onward))
-}
-
-fn arc_of(segment: u32, forward: bool) -> Arc
-    requires { segment < 10000 }
-    ensures { result ≡ arc_of (record { 0 = segment }) forward }
-{
-    if forward {
-        Arc(2 * segment)
-    } else {
-        Arc(2 * segment + 1)
-    }
+    let (first, forward) = read_arc_word(x).ok_or(AirportFault::BadName)?;
+    let (second, onward) = read_arc_word(y).ok_or(AirportFault::BadName)?;
+    let first = Arc::of(Segment(known(plan.segments(), &first)?), forward);
+    let second = Arc::of(Segment(known(plan.segments(), &second)?), onward);
+    judge_turn(plan, first, second)
 }
 
 /// A turn that is to be forbidden.
 fn judge_turn(plan: &mut Plan, x: Arc, y: Arc) -> Result<(), NotTaken>
     ensures { Answers (judge_turn plan.old x y) plan.new result }
 {
-    if !plan.goes_on(x, y) {
-        return Err(NotTaken::Fault(AirportFault::NoSuchArc));
-    }
-    if plan.is_forbidden(x, y) {
-        return Err(NotTaken::Fault(AirportFault::RowTwice));
-    }
-    if plan.forbidden_count() >= MOST_FORBIDDEN {
-        return Err(NotTaken::Fault(AirportFault::Limit {
-            which: LimitKind::Forbids,
-        }));
-    }
-    if plan.forbid(x, y).is_err() {
-        return Err(NotTaken::Memory);
-    }
+    refused(AirportFault::NoSuchArc, !plan.goes_on(x, y))?;
+    refused(AirportFault::RowTwice, plan.is_forbidden(x, y))?;
+    refused(
+        limit(LimitKind::Forbids),
+        plan.forbidden_count() >= MOST_FORBIDDEN,
+    )?;
+    plan.forbid(x, y)?;
     Ok(())
 }

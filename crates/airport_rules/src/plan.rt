@@ -7,12 +7,12 @@ ghost use Rattle.std.specs.Prelude.{◌≡◌, ◌<◌, ◌≤◌, ◌++◌, ◌
 ghost use Rattle.taxi_base.specs.Airport.{place_of, ends, arc_exists, is_forbidden};
 ghost use Rattle.airport_rules.specs.Plan.{empty_plan, layout_of_plan};
 ghost use Rattle.airport_rules.specs.Rules.{is_crowded, is_timed, has_clearance, goes_on, with_pair};
-ghost use Rattle.airport_rules.specs.Indexed.{link_of_way};
+ghost use Rattle.airport_rules.specs.Indexed.{link_of_way, time_key};
 
 use crate::{ClearanceRow, Taxiway, TimeRow};
 use name_list::NameList;
 use std::alloc::Global;
-use std::collections::BTreeSet;
+use std::collections::{BTreeSet, HashSet};
 use std::marker::Model;
 use taxi_base::{Arc, Class, Kind, List, Memory, Name, Node, Segment, Time};
 
@@ -28,8 +28,8 @@ pub struct Plan {
     segments: NameList,
     ways: Vec<Taxiway>,
     times: Vec<TimeRow>,
-    // The numbers of the segment and the class of each time.
-    timed: BTreeSet<(u32, u32)>,
+    // The segment and the class of each time, as one number.
+    timed: HashSet<u64>,
     clearances: Vec<ClearanceRow>,
     // The numbers of the arcs of each forbidden turn.
     forbidden: BTreeSet<(u32, u32)>,
@@ -63,7 +63,7 @@ impl Plan {
             segments: NameList::new(alloc),
             ways: Vec::new(alloc),
             times: Vec::new(alloc),
-            timed: BTreeSet::new(alloc),
+            timed: HashSet::new(alloc),
             clearances: Vec::new(alloc),
             forbidden: BTreeSet::new(alloc),
             conflicts: Vec::new(alloc),
@@ -176,7 +176,7 @@ impl Plan {
     pub fn is_timed(&self, segment: Segment, class: Class) -> bool
         ensures { result ≡ is_timed segment class self.now.times }
     {
-        self.timed.contains(&(segment.0, class.0))
+        self.timed.contains(&time_key(segment, class))
     }
 
     pub fn add_time(&mut self, row: &TimeRow) -> Result<(), Memory>
@@ -184,7 +184,7 @@ impl Plan {
         ensures err { OnErr result (self.new ≡ self.old) }
     {
         self.times.reserve(1)?;
-        self.timed.insert((row.segment.0, row.class.0))?;
+        self.timed.insert(time_key(row.segment, row.class))?;
         self.times.push_reserved(*row);
         Ok(())
     }
@@ -215,8 +215,8 @@ impl Plan {
     fn ends(&self, arc: Arc) -> Option<(Node, Node)>
         ensures { result ≡ option_map (λ e. (e.tail, e.head)) (ends (layout_of_plan self.now) arc) }
     {
-        let way = self.ways.get(arc.0 as usize / 2)?;
-        if arc.0 % 2 == 0 {
+        let way = self.ways.get(arc.segment().0 as usize)?;
+        if arc.is_forward() {
             Some((way.from, way.to))
         } else if way.both {
             Some((way.to, way.from))
@@ -237,7 +237,7 @@ impl Plan {
         ensures { result ≡ goes_on (layout_of_plan self.now) x y }
     {
         match (self.ends(x), self.ends(y)) {
-            (Some((_, head)), Some((tail, _))) => head == tail && x.0 / 2 != y.0 / 2,
+            (Some((_, head)), Some((tail, _))) => head == tail && x.segment() != y.segment(),
             _ => false,
         }
     }
@@ -292,3 +292,11 @@ impl Plan {
 }
 
 const MOST_ENDS: u32 = 32;
+
+/// A segment and a class as one number.
+fn time_key(segment: Segment, class: Class) -> u64
+    ensures key { result ≡ time_key segment class }
+    ensures small { class.0 < 4294967296 }
+{
+    segment.0 as u64 * 4_294_967_296 + class.0 as u64
+}

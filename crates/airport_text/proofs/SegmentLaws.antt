@@ -5,8 +5,7 @@ use Rattle.std.proofs.lemmas.Option.{slice_get-map, slice_get_cases}
 use Rattle.taxi_base.specs.declared.numbers.Arc.{Arc}
 use Rattle.taxi_base.specs.declared.numbers.Node.{Node}
 use Rattle.taxi_base.specs.declared.numbers.Segment.{Segment}
-use Rattle.taxi_base.specs.Airport.{Airport, SegmentRow, Layout, Ends, IsWellFormed, link_of, layout_of, ends, ends_of_link, arc_exists, head, tail, meet, segment_name, node_name}
-use Rattle.airport_file.specs.Words.{node_word}
+use Rattle.taxi_base.specs.Airport.{Airport, SegmentRow, Layout, Ends, IsWellFormed, link_of, layout_of, ends, ends_of_link, arc_exists, head, tail, meet, segment_name, node_name, node_word}
 use Rattle.airport_text.specs.Canonical.{direction_word, segment_record}
 use Rattle.taxi_base.proofs.AirportLaws.{arc_exists-segment}
 

@@ -5,8 +5,7 @@ use Rattle.std.proofs.lemmas.Bool.Decides.{nat_tests}
 use Rattle.std.proofs.lemmas.List.Sums.{sum_by-append}
 use Rattle.std.proofs.lemmas.List.Elements.{All-head, All-tail}
 use Rattle.taxi_base.specs.declared.numbers.Node.{Node}
-use Rattle.taxi_base.specs.Airport.{Airport, SegmentRow, Link, AreNames, link_of, own_ends, link_ends}
-use Rattle.airport_file.specs.Words.{node_word}
+use Rattle.taxi_base.specs.Airport.{Airport, SegmentRow, Link, AreNames, link_of, own_ends, link_ends, node_word}
 use Rattle.airport_rules.specs.declared.version.Version.TheVariants.{Two}
 use Rattle.airport_rules.specs.Plan.{Plan}
 use Rattle.airport_rules.specs.Rules.{judge, judge_segment, both_of, is_crowded}

@@ -7,8 +7,8 @@ use Rattle.taxi_base.specs.declared.numbers.Arc.{Arc}
 use Rattle.taxi_base.specs.declared.numbers.Class.{Class}
 use Rattle.taxi_base.specs.declared.rows.Kind.{Kind}
 use Rattle.taxi_base.specs.declared.rows.Kind.TheVariants.{Runway, Junction, Stand}
-use Rattle.taxi_base.specs.Airport.{Airport, NodeRow, SegmentRow, ClassRow, seconds, clearance_of}
-use Rattle.airport_file.specs.Words.{node_word, class_word, segment_word, word_of_arc}
+use Rattle.taxi_base.specs.Airport.{Airport, NodeRow, SegmentRow, ClassRow, seconds, clearance_of, node_word}
+use Rattle.airport_file.specs.Words.{class_word, segment_word, word_of_arc}
 
 -- ---- records, each the list of its fields
 

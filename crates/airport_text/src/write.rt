@@ -11,7 +11,6 @@ use crate::records::RecordWriter;
 use airport_file::Airport;
 use csv::ByteRecord;
 use itoa::Buffer;
-use segment_graph::segment_of;
 use std::alloc::Global;
 use taxi_base::{Arc, Class, Kind, Memory, Node, Segment};
 use taxi_text::ShortText;
@@ -114,8 +113,8 @@ fn write_segment(
     ensures { IfSome (slice_get airport.now.segments segment.0) (λ row. OnOk result (records.new ≡ and_records records.old (segment_record airport.now row ∷ []))) }
 {
     let graph = airport.graph();
-    let forward = Arc(2 * segment.0);
-    let backward = Arc(2 * segment.0 + 1);
+    let forward = Arc::of(segment, true);
+    let backward = Arc::of(segment, false);
     let name = airport.segment_name(segment);
     let from = airport.node_name(graph.tail(forward));
     let to = airport.node_name(graph.head(forward));
@@ -239,10 +238,10 @@ fn arc_text(airport: &Airport, arc: Arc) -> ShortText
     requires { arc.0 / 2 < length airport.now.segments }
     ensures { result ≡ word_of_arc airport.now arc }
 {
-    let name = airport.segment_name(segment_of(arc));
+    let name = airport.segment_name(arc.segment());
     let mut text = ShortText::new();
     text.push(name.bytes());
-    text.push(if arc.0 % 2 == 0 { b"+" } else { b"-" });
+    text.push(if arc.is_forward() { b"+" } else { b"-" });
     text
 }
 

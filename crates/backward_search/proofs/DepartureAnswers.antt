@@ -17,7 +17,8 @@ use Rattle.label_search.specs.Values.{AreEntries}
 use Rattle.label_search.specs.Answer.{step_of, best_of, ComesBefore}
 use Rattle.walk_labels.specs.Places.{Place, IsPlace, ArePlaces, AreCells, IsOrdered, place_at, is_numbered, numbered}
 use Rattle.walk_labels.specs.PlacesInWindows.{AreWindowLists}
-use Rattle.walk_labels.specs.Requests.{steps_at, ReachesOneOfWithin, AreFinishes, AreSources}
+use Rattle.taxi_base.specs.Choices.{ReachesOneOfWithin}
+use Rattle.walk_labels.specs.Requests.{steps_at, AreFinishes, AreSources}
 use Rattle.walk_labels.specs.Tables.{rows_of}
 use Rattle.walk_labels.proofs.FitConditions.{windows_fit}
 use Rattle.walk_labels.proofs.PlaceCells.{is_numbered-place, place-is_numbered, numbered-cells, numbered-ordered}

@@ -11,7 +11,8 @@ use Rattle.label_core.specs.BackwardWalks.{Finish}
 use Rattle.label_search.specs.Problem.{IsIn}
 use Rattle.label_search.specs.Backward.{IsBackwardProblem}
 use Rattle.walk_labels.specs.Places.{Place, place_at}
-use Rattle.walk_labels.specs.Requests.{OneOf, leads_to_one_of, finishes_at}
+use Rattle.taxi_base.specs.Choices.{OneOf}
+use Rattle.walk_labels.specs.Requests.{leads_to_one_of, finishes_at}
 use Rattle.walk_labels.proofs.RequestCells.{if_some, leads-OneOf}
 use Rattle.place_cells.specs.Turns.{entering_arcs, previous_arcs, no_arc}
 use Rattle.place_cells.specs.Ground.{Ground, cells_of, run_of_arc, IsSound, arc_in, usable_in}

@@ -63,6 +63,10 @@ impl BackwardCells for DepartureCells<'_> {
         self.ground.count()
     }
 
+    fn ends(&self) -> u32 {
+        self.latest_out
+    }
+
     fn cell(&self, cell: usize) -> Cell {
         self.ground.cell(cell)
     }

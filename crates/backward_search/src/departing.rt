@@ -4,7 +4,7 @@ ghost use Rattle.taxi_base.specs.Airport.{layout_of, IsWellFormed};
 ghost use Rattle.taxi_base.specs.Walks.{conditions_in_windows, ReachesNodeWithin};
 ghost use Rattle.taxi_base.specs.Labels.{AnswersDeparture};
 ghost use Rattle.walk_labels.specs.PlacesInWindows.{AreWindowLists};
-ghost use Rattle.walk_labels.specs.Requests.{ReachesOneOfWithin};
+ghost use Rattle.taxi_base.specs.Choices.{ReachesOneOfWithin};
 ghost use Rattle.place_cells.specs.Laid.{windows_of, HaveNumbers};
 
 use crate::cells::{DepartureCells, last_arcs};

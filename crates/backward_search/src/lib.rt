@@ -5,3 +5,6 @@ mod cells;
 mod departing;
 
 pub use departing::{depart, depart_in, depart_to_one_of};
+
+#[cfg(test)]
+mod tests;

@@ -1,5 +1,6 @@
 pub mod Pieces
 pub mod Decimals
+pub mod NumberFields
 pub mod RowLoop
 pub mod Spellings
 pub mod Words

@@ -1,13 +1,13 @@
 -- A text, or a word, that stands at the front of the bytes.
-use Rattle.std.proofs.Common.{◌≡◌, ◌≢◌, ◌==◌, ◌+◌, ◌-◌, ◌<◌, ◌≤◌, ◌∙◌, ℕ, zero, suc, Bool, true, false, cond, List, [], ◌∷◌, ◌++◌, length, get_or, take, drop, Option, Some, None, refl, sym, ap, arith, inl, inr}
+use Rattle.std.proofs.Common.{◌≡◌, ◌≢◌, ◌==◌, ◌&&◌, ◌+◌, ◌-◌, ◌<◌, ◌≤◌, ◌∙◌, ℕ, zero, suc, Bool, true, false, cond, List, [], ◌∷◌, ◌++◌, length, get_or, take, drop, Option, Some, None, refl, sym, ap, arith, inl, inr}
 use Rattle.std.specs.Prelude.{option_map}
 use Rattle.std.specs.List.{position, position_or_len, AllByRecursion}
 use Rattle.std.proofs.lemmas.List.Sums.{fails_before_first}
 use borrow.Author.Tests.{ltb-false}
-use Rattle.std.proofs.lemmas.Bool.{eqb-true, cases_Bool}
-use Rattle.std.proofs.lemmas.List.{take_all, length-drop}
+use Rattle.std.proofs.lemmas.Bool.{eqb-true, cases_Bool, and_parts}
+use Rattle.std.proofs.lemmas.List.{take_all, drop_more, drop_all, length-drop}
 use Rattle.std.proofs.lemmas.List.Quantifiers.{position-Some}
-use Rattle.block_reader.specs.Reading.{behind, word_at}
+use Rattle.block_reader.specs.Reading.{behind, begins_with, word_at}
 
 eqb-same : (n : ℕ) → (n == n) ≡ true
 eqb-same n = grind arith
@@ -102,3 +102,44 @@ word-again last [] rest low plain = rw (eqb-same last) refl
 word-again last (b ∷ word) rest low plain =
     let differ : (b == last) ≡ false = (let h = plain.0 in grind (arith, low)) in
     rw (differ, word-again last word rest low plain.1) refl
+
+-- ---- a text, byte by byte
+
+pub begins-short : (text bytes : List ℕ) → length bytes < length text → begins_with text bytes ≡ false
+begins-short [] bytes short = absurd (omega (arith, short))
+begins-short (b ∷ text) [] short = refl
+begins-short (b ∷ text) (c ∷ bytes) short = rw (begins-short text bytes (omega (arith, short))) (and_false (c == b)) where
+  and_false : (x : Bool) → (x && false) ≡ false
+  and_false true = refl
+  and_false false = refl
+
+module _ (text bytes : List ℕ) (i : ℕ) (low : i < length text) (long : length text ≤ length bytes) where
+  begins-at : begins_with (drop i text) (drop i bytes) ≡ (get_or bytes i 0 == get_or text i 0 && begins_with (drop (i + 1) text) (drop (i + 1) bytes))
+  begins-at = rw (drop_more text i 0 low, drop_more bytes i 0 (omega (arith, low, long))) refl
+
+  pub begins-more : (get_or bytes i 0 == get_or text i 0) ≡ true → begins_with (drop i text) (drop i bytes) ≡ begins_with (drop (i + 1) text) (drop (i + 1) bytes)
+  begins-more same = begins-at ∙ rw same refl
+
+  pub begins-other : (get_or bytes i 0 == get_or text i 0) ≡ false → begins_with (drop i text) (drop i bytes) ≡ false
+  begins-other other = begins-at ∙ rw other refl
+
+pub begins-all : (text bytes : List ℕ) (i : ℕ) → length text ≤ i → begins_with (drop i text) (drop i bytes) ≡ true
+begins-all text bytes i past = rw (drop_all i text past) refl
+
+pub behind-begins : (text bytes : List ℕ) → begins_with text bytes ≡ true → behind text bytes ≡ Some (drop (length text) bytes)
+behind-begins [] bytes is = refl
+behind-begins (b ∷ text) [] is = absurd cc
+behind-begins (b ∷ text) (c ∷ bytes) is = let parts = and_parts (c == b) (begins_with text bytes) is in rw parts.0 (behind-begins text bytes parts.1)
+
+pub begins-fits : (text bytes : List ℕ) → begins_with text bytes ≡ true → length text ≤ length bytes
+begins-fits [] bytes is = omega arith
+begins-fits (b ∷ text) [] is = absurd cc
+begins-fits (b ∷ text) (c ∷ bytes) is = let rest = begins-fits text bytes (and_parts (c == b) (begins_with text bytes) is).1 in omega (arith, rest)
+
+pub behind-begins_not : (text bytes : List ℕ) → begins_with text bytes ≡ false → behind text bytes ≡ None
+behind-begins_not [] bytes other = absurd cc
+behind-begins_not (b ∷ text) [] other = refl
+behind-begins_not (b ∷ text) (c ∷ bytes) other = elim (cases_Bool (c == b)) [
+  | inl same ↦ let rest = rw same at other in rw same (behind-begins_not text bytes rest)
+  | inr first ↦ rw first refl
+]

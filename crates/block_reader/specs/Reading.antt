@@ -1,6 +1,6 @@
 -- Reading from left to right: what stands at the front of the bytes, and the bytes behind it. None where it does not stand
 -- there.
-use Rattle.std.specs.Prelude.{ℕ, zero, suc, ◌≡◌, ◌==◌, List, [], ◌∷◌, Option, Some, None, Result, Ok, Err, option_map, if◌then◌else◌, ⊤}
+use Rattle.std.specs.Prelude.{ℕ, Bool, true, false, ◌&&◌, zero, suc, ◌≡◌, ◌==◌, List, [], ◌∷◌, Option, Some, None, Result, Ok, Err, option_map, if◌then◌else◌, ⊤}
 use Rattle.std.specs.Option.{option_map_or}
 use Rattle.taxi_text.specs.Commands.{◌>>=◌}
 use Rattle.block_reader.specs.declared.refused.BlockRefused.{BlockRefused}
@@ -13,6 +13,12 @@ abbrev pub behind : List ℕ → List ℕ → Option (List ℕ)
 behind [] bytes = Some bytes
 behind (b ∷ text) [] = None
 behind (b ∷ text) (c ∷ bytes) = if c == b then behind text bytes else None
+
+-- whether it does
+abbrev pub begins_with : List ℕ → List ℕ → Bool
+begins_with [] bytes = true
+begins_with (b ∷ text) [] = false
+begins_with (b ∷ text) (c ∷ bytes) = c == b && begins_with text bytes
 
 -- the bytes up to the first that is this one, and those behind it
 abbrev pub word_at : ℕ → List ℕ → Option (List ℕ × List ℕ)

@@ -1,23 +1,39 @@
 //! The words of a block, read at the front of the bytes.
-ghost use Rattle.std.specs.Prelude.{◌≡◌, ◌<◌, ◌≤◌, ◌^◌, ◌==◌, ◌%◌, IfSome, IsTrue, Some, length, position};
-ghost use Rattle.taxi_base.specs.Airport.{arc_named};
+ghost use Rattle.std.specs.Prelude.{◌≡◌, ◌<◌, ◌≤◌, ◌^◌, ◌==◌, ◌&&◌, ◌||◌, not, nat_lt, IfSome, Some, length, position, slice_index_or};
 ghost use Rattle.taxi_text.specs.Fields.{name_of};
-ghost use Rattle.block_reader.specs.Fields.{digits_of, decimal_of, number_of, count_of, some_count_of, step_number_of, kind_of, class_of_word, segment_of_word, arc_of_word};
-ghost use Rattle.block_reader.specs.Reading.{behind, word_at, field_at, Finds};
+ghost use Rattle.block_reader.specs.Fields.{digits_of, decimal_of, number_of, count_of, some_count_of, step_number_of, kind_of, class_of_word, segment_of_word};
+ghost use Rattle.block_reader.specs.Reading.{behind, begins_with, word_at, field_at, Finds};
 
 use airport_file::Airport;
-use segment_graph::segment_of;
-use taxi_base::{Arc, Class, FlightKind, Name, Segment, Time};
-use taxi_text::read_arc_word;
+use taxi_base::{Class, FlightKind, Name, Segment, Time};
 
-// How many arcs are looked at before one is looked for by its name.
-const ARCS_AHEAD: u32 = 8;
+// How many digits a number has at most.
+const MOST_DIGITS: usize = 7;
 
 /// What comes after a text that stands at the front.
 pub(crate) fn behind<'a>(text: &[u8], bytes: &'a [u8]) -> Option<&'a [u8]>
     ensures { Finds (λ rest. rest.now) result (behind text.now bytes.now) }
 {
-    bytes.strip_prefix(text)
+    if begins_with(text, bytes) {
+        Some(&bytes[text.len()..])
+    } else {
+        None
+    }
+}
+
+// Whether a text stands at the front. Texts are short, so their bytes are compared one by one.
+fn begins_with(text: &[u8], bytes: &[u8]) -> bool
+    ensures { result ≡ begins_with text.now bytes.now }
+{
+    if bytes.len() < text.len() {
+        return false;
+    }
+    for (place, byte) in text.iter().enumerate() {
+        if bytes[place] != *byte {
+            return false;
+        }
+    }
+    true
 }
 
 /// A word up to its last byte, and what comes after that.
@@ -66,19 +82,35 @@ fn digits_of(digits: &[u8]) -> Option<u64>
     Some(number)
 }
 
+/// A number, read in one pass over its digits.
 pub(crate) fn number_field(last: u8, bytes: &[u8]) -> Option<(Time, &[u8])>
     ensures { Finds (λ x. (x.0, x.1.now)) result (field_at number_of last bytes.now) }
 {
-    let (word, rest) = word_at(last, bytes)?;
-    let number = number_of(word)?;
-    Some((number, rest))
+    let mut number = 0;
+    for (place, byte) in bytes.iter().enumerate() {
+        if *byte == last {
+            if !has_no_leading_zero(bytes, place) {
+                return None;
+            }
+            return Some((number, &bytes[place + 1..]));
+        }
+        if place == MOST_DIGITS {
+            return None;
+        }
+        if !byte.is_ascii_digit() {
+            return None;
+        }
+        number = number * 10 + u32::from(*byte - b'0');
+    }
+    None
 }
 
-fn number_of(word: &[u8]) -> Option<Time>
-    ensures { result ≡ number_of word.now }
+// Whether there are so many digits, the first of them no 0 where there are more.
+fn has_no_leading_zero(bytes: &[u8], digits: usize) -> bool
+    requires { digits ≤ length bytes.now }
+    ensures { result ≡ (nat_lt 0 digits && (digits == 1 || not (slice_index_or bytes.now 0 0 == 48))) }
 {
-    let number = decimal_of(7, word)?;
-    Some(number as u32)
+    digits == 1 || digits > 1 && bytes[0] != b'0'
 }
 
 pub(crate) fn count_field(last: u8, bytes: &[u8]) -> Option<(u64, &[u8])>
@@ -166,50 +198,4 @@ pub(crate) fn segment_field<'a>(
     let name = Name::read(word)?;
     let segment = airport.segment_named(&name)?;
     Some((segment, rest))
-}
-
-/// An arc. Rows stand in order of their arcs, so it is looked for first from the arc of the row before on.
-pub(crate) fn arc_field<'a>(
-    airport: &Airport,
-    near: Arc,
-    last: u8,
-    bytes: &'a [u8],
-) -> Option<(Arc, &'a [u8])>
-    ensures { Finds (λ x. (x.0, x.1.now)) result (field_at (arc_of_word airport.now) last bytes.now) }
-{
-    let (word, rest) = word_at(last, bytes)?;
-    let (name, forward) = read_arc_word(word)?;
-    let arc = arc_near(airport, near, &name, forward)?;
-    Some((arc, rest))
-}
-
-fn arc_near(airport: &Airport, near: Arc, name: &Name, forward: bool) -> Option<Arc>
-    ensures { result ≡ arc_named airport.now name.now forward }
-{
-    for ahead in 0..ARCS_AHEAD {
-        let arc = Arc(near.0.saturating_add(ahead));
-        if is_forward(arc) == forward && is_of_segment(airport, arc, name) {
-            return Some(arc);
-        }
-    }
-    airport.arc_named(name, forward)
-}
-
-fn is_forward(arc: Arc) -> bool
-    ensures { result ≡ (arc.0 % 2 == 0) }
-{
-    arc.0 % 2 == 0
-}
-
-// Whether an arc is there, and is of the segment of a name.
-fn is_of_segment(airport: &Airport, arc: Arc, name: &Name) -> bool
-    ensures { IsTrue result → arc_named airport.now name.now (arc.0 % 2 == 0) ≡ Some arc }
-{
-    // The airport keeps its rules, so no two segments have one name.
-    let _ = airport.horizon();
-    if !airport.graph().exists(arc) {
-        return false;
-    }
-    let own = airport.segment_name(segment_of(arc));
-    own == *name
 }

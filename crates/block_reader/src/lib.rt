@@ -1,6 +1,7 @@
 //! Reading blocks: the one printable block whose text the bytes begin with.
 #![tactic(auto)]
 
+mod arcs;
 mod fields;
 mod laws;
 mod reader;

@@ -4,9 +4,8 @@ ghost use Rattle.taxi_base.specs.Airport.{Airport as Plain};
 ghost use Rattle.block_reader.specs.Reading.{rows_at, Finds, IsRead};
 ghost use Rattle.block_reader.specs.Blocks.{step_at, label_at, window_at, held_at, flight_at};
 
-use crate::fields::{
-    arc_field, behind, class_field, kind_field, name_field, number_field, segment_field,
-};
+use crate::arcs::{label_arc, step_arc};
+use crate::fields::{behind, class_field, kind_field, name_field, number_field, segment_field};
 use crate::refused::BlockRefused;
 use airport_file::Airport;
 use std::alloc::Global;
@@ -21,7 +20,7 @@ pub(crate) trait Row: Copy {
     fn read<'a>(airport: &Airport, near: Arc, bytes: &'a [u8]) -> Option<(Self, &'a [u8])>
         ensures { Finds (λ x. (x.0, x.1.now)) result (row_at airport.now bytes.now) };
 
-    /// The arc from which on the one of the next row is looked for.
+    /// The arc beside which that of the next row is looked for.
     fn near(&self) -> Arc;
 }
 
@@ -31,7 +30,7 @@ impl Row for Step {
     #[tactic(auto, unfolding(crate::specs::Blocks::step_at))]
     fn read<'a>(airport: &Airport, near: Arc, bytes: &'a [u8]) -> Option<(Step, &'a [u8])> {
         let rest = behind(b"step ", bytes)?;
-        let (arc, rest) = arc_field(airport, near, b' ', rest)?;
+        let (arc, rest) = step_arc(airport, near, rest)?;
         let (enter, rest) = number_field(b' ', rest)?;
         let (leave, rest) = number_field(b'\n', rest)?;
         Some((Step { arc, enter, leave }, rest))
@@ -48,7 +47,7 @@ impl Row for LabelRow {
     #[tactic(auto, unfolding(crate::specs::Blocks::label_at))]
     fn read<'a>(airport: &Airport, near: Arc, bytes: &'a [u8]) -> Option<(LabelRow, &'a [u8])> {
         let rest = behind(b"label ", bytes)?;
-        let (arc, rest) = arc_field(airport, near, b' ', rest)?;
+        let (arc, rest) = label_arc(airport, near, rest)?;
         let (from, rest) = number_field(b' ', rest)?;
         let (until, rest) = number_field(b' ', rest)?;
         let (value, rest) = number_field(b'\n', rest)?;

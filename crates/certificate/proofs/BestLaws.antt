@@ -1,7 +1,8 @@
 -- A route that passes is the best walk that is sought, and where it passes that there is none there is none.
-use Rattle.std.proofs.Common.{◌≡◌, ℕ, Bool, true, false, List, Option, Some, None, option_map, inl, inr, refl, sym, subst}
-use Rattle.std.specs.Prelude.{MatchOption, Contains, ⊤}
-use Rattle.std.proofs.lemmas.Option.{none-some}
+use Rattle.std.proofs.Common.{◌≡◌, ℕ, ◌<◌, Bool, true, false, List, [], ◌∷◌, length, Option, Some, None, option_map, inl, inr, refl, sym, subst, arith}
+use Rattle.std.specs.Prelude.{MatchOption, Contains, option_and_then, ⊤}
+use Rattle.std.proofs.lemmas.Option.{none-some, same_Some}
+use Rattle.std.proofs.lemmas.Bool.{and_parts, ltb-true}
 use Rattle.std.proofs.lemmas.List.Elements.{All-contains}
 use Rattle.taxi_base.specs.declared.numbers.Class.{Class}
 use Rattle.taxi_base.specs.declared.numbers.Node.{Node}
@@ -13,7 +14,8 @@ use Rattle.taxi_base.specs.declared.answers.Refusal.{Refusal}
 use Rattle.taxi_base.specs.declared.answers.Refusal.TheVariants as refusal
 use Rattle.taxi_base.specs.Airport.{Airport, IsWellFormed, class_named, node_named}
 use Rattle.taxi_base.specs.Walks.{Conditions, Meets}
-use Rattle.taxi_base.specs.State.{State, flight_named, without, holds_in, conditions_of, IsSound}
+use Rattle.taxi_base.specs.State.{State, flight_named, with_flight, without, holds_in, conditions_of, IsSound}
+use Rattle.taxi_base.specs.Faults.{conditions_in}
 use Rattle.taxi_base.specs.Again.{retargeted}
 use Rattle.taxi_base.proofs.AgainLaws.{frozen-meets}
 use Rattle.taxi_base.proofs.StateLaws.{IsSound-with_flight, IsSound-with_route}
@@ -27,15 +29,17 @@ use Rattle.certificate.specs.declared.block.Block.{Block}
 use Rattle.certificate.specs.declared.block.Block.TheVariants.{Refused, Filed, Cancelled, Route, NoRoute, Windows, Occupancy, Timetable}
 use Rattle.certificate.specs.declared.rule.Rule.{Rule}
 use Rattle.certificate.specs.declared.rule.Rule.TheVariants as rule
-use Rattle.certificate.specs.Asked.{arrival_named, departure_named}
+use Rattle.certificate.specs.Asked.{IsInGrammar, arrival_named, departure_named, Choice, nodes_of, request_for, arrival_any_named, departure_any_named}
 use Rattle.certificate.specs.Refusals.{first_refusal}
 use Rattle.certificate.specs.CarriedOut.{second_of, routed_flight, IsCarriedOut}
-use Rattle.certificate.specs.Sought.{UnderWay, Sought, sought_new, sought_again, sought_by_class, sought_of, sought_by, IsWalkOnFor, IsWalkFor}
+use Rattle.certificate.specs.Sought.{UnderWay, Sought, sought_new, sought_again, sought_by_class, sought_any, sought_choice, sought_to_one, sought_of, sought_by, IsWalkOnFor, IsWalkFor}
 use Rattle.certificate.specs.Passes.{IsFormOf, IsAsAsked, KeepsReply, KeepsSought, Keeps, IsPassed, TellsBest}
 use Rattle.certificate.proofs.FiledLaws.{and_then-some, map-some}
 use Rattle.certificate.proofs.FlightLaws.{flight_named-there}
-use Rattle.certificate.proofs.RefusalLaws.{HasRoom, arrival-has_room, departure-has_room}
+use Rattle.certificate.proofs.RefusalLaws.{HasRoom, arrival-has_room, departure-has_room, arrival_any-has_room, departure_any-has_room}
 use Rattle.certificate.proofs.ReplyLaws.{due-kept}
+use Rattle.certificate.proofs.GrammarLaws.{command_of-in_grammar}
+use Rattle.certificate.proofs.ChoiceNames.{arrival_any-is, departure_any-is, one-met, met-reaches}
 use Rattle.certificate.proofs.TablesKept.{IsUnderWay, table-best, table-none}
 use Rattle.certificate.proofs.PassLaws.{route-table, no_route-table}
 
@@ -45,7 +49,7 @@ module _ (airport : Airport) (state : State) (well : IsWellFormed airport) (soun
   -- walks can be searched, the flight under way is on a feasible walk, and with a walk that is sought the state stays sound
   record IsRight (s : Sought) : Type 0 where
     fit : AreFit s.conditions
-    way : IsUnderWay s.conditions s.under_way
+    way : IsUnderWay s.conditions s.others s.under_way
     stays_sound : (steps : List Step) → IsWalkFor s steps → IsSound airport (s.with_steps steps)
 
   new-right : (name : List ℕ) (class : Class) (request : Request) → HasRoom state name → IsRight (sought_new airport state name class request)
@@ -60,6 +64,35 @@ module _ (airport : Airport) (state : State) (well : IsWellFormed airport) (soun
       let class = and_then-some (λ class. option_map (sought_new airport state name class) asked) (class_named airport class_name) s e in
       let request = map-some (sought_new airport state name class.0) asked s class.2 in
       subst IsRight request.2 (new-right name class.0 request.0 room)
+
+  -- with the node that it reaches
+  any-right : (name : List ℕ) (class : Class) (choice : Choice) (node : Node) (others : List Node) → HasRoom state name → IsRight (sought_any airport state name class choice node others)
+  any-right name class choice node others room = record {
+    fit = among_fit airport class (holds_in airport state) well;
+    way = tt;
+    stays_sound = λ steps met.
+        (let one = one-met (conditions_in airport class state) choice node others steps met in
+        subst (λ n. IsSound airport (with_flight (routed_flight name class (request_for choice n) steps) state)) (sym (met-reaches (conditions_in airport class state) choice one.0 node steps one.2))
+        (IsSound-with_flight airport (routed_flight name class (request_for choice one.0) steps) state sound room.room room.absent one.2));
+  }
+
+  choice-right : (name class_name : List ℕ) (asked : Option Choice) (s : Sought) → HasRoom state name → sought_to_one airport state name class_name asked ≡ Some s → IsRight s
+  choice-right name class_name asked s room e =
+      let class = and_then-some (λ class. option_and_then (λ choice. sought_choice airport state name class choice (nodes_of choice)) asked) (class_named airport class_name) s e in
+      let choice = and_then-some (λ choice. sought_choice airport state name class.0 choice (nodes_of choice)) asked s class.2 in
+      go class.0 choice.0 (nodes_of choice.0) choice.2
+    where
+      go : (class : Class) (choice : Choice) (nodes : List Node) → sought_choice airport state name class choice nodes ≡ Some s → IsRight s
+      go class choice [] e = absurd (none-some s e)
+      go class choice (node ∷ others) e = subst IsRight (same_Some (sought_any airport state name class choice node others) s e) (any-right name class choice node others room)
+
+  -- and there is one, where there are nodes
+  choice-there : (name class_name : List ℕ) (asked : Option Choice) (class : Class) (choice : Choice) → class_named airport class_name ≡ Some class → asked ≡ Some choice → 0 < length (nodes_of choice)
+      → sought_to_one airport state name class_name asked ≡ None → ⊥
+  choice-there name class_name asked class choice known named some none = go (nodes_of choice) refl some (rw (known, named) at none) where
+    go : (nodes : List Node) → nodes_of choice ≡ nodes → 0 < length nodes → sought_choice airport state name class choice (nodes_of choice) ≡ None → ⊥
+    go [] are some e = absurd (omega arith)
+    go (node ∷ others) are some e = none-some (sought_any airport state name class choice node others) (sym (rw are at e))
 
   module _ (name : List ℕ) (time : ℕ) (flight : Flight) (in_force : flight_named name state.flights ≡ Some flight) where
     abbrev c : Conditions
@@ -77,17 +110,17 @@ module _ (airport : Airport) (state : State) (well : IsWellFormed airport) (soun
     again-right : (may_be_none : Bool) (r : Request) → ((steps : List Step) → IsWalkOnFor c r way steps → Meets c r steps) → IsRight (sought_again airport state name time may_be_none flight r)
     again-right may_be_none r meets = record {
       fit = among_fit airport flight.class (holds_in airport (without flight.name state)) well;
-      way = Meets-IsFeasibleWalk c flight.request flight.steps met;
+      way = (refl, Meets-IsFeasibleWalk c flight.request flight.steps met);
       stays_sound = λ steps on. IsSound-with_route airport flight state r steps sound there (meets steps on);
     }
 
     own-meets : (r : Request) → Meets c r flight.steps → (steps : List Step) → IsWalkOnFor c r way steps → Meets c r steps
-    own-meets request.Filed met steps on = absurd on
+    own-meets request.Filed _ steps on = absurd on
     own-meets (request.Arrival from to asked hold) met steps on = frozen-meets c flight.steps time to (request.Arrival from to asked hold) steps met on
     own-meets (request.Departure from to asked queue) met steps on = frozen-meets c flight.steps time to (request.Departure from to asked queue) steps met on
 
     other-meets : (r : Request) (target : Node) → Meets c r flight.steps → (steps : List Step) → IsWalkOnFor c (retargeted r target) way steps → Meets c (retargeted r target) steps
-    other-meets request.Filed target met steps on = absurd on
+    other-meets request.Filed target _ steps on = absurd on
     other-meets (request.Arrival from to asked hold) target met steps on = frozen-meets c flight.steps time target (request.Arrival from to asked hold) steps met on
     other-meets (request.Departure from to asked queue) target met steps on = frozen-meets c flight.steps time target (request.Departure from to asked queue) steps met on
 
@@ -112,6 +145,10 @@ module _ (airport : Airport) (state : State) (well : IsWellFormed airport) (soun
   sought-right command.Timetable s none e = absurd (none-some s e)
   sought-right (command.Work name segment from until) s none e = absurd (none-some s e)
   sought-right (command.WorkDone name) s none e = absurd (none-some s e)
+  sought-right (command.ArrivalAny flight class from time hold stands) s none e =
+      choice-right flight class (arrival_any_named airport from stands time hold) s (arrival_any-has_room airport state flight class from stands time hold none) e
+  sought-right (command.DepartureAny flight class from time queue nodes) s none e =
+      choice-right flight class (departure_any_named airport from nodes time queue) s (departure_any-has_room airport state flight class from nodes time queue none) e
 
   -- ---- a route, or that there is none, answers a command that seeks a walk
 
@@ -122,19 +159,25 @@ module _ (airport : Airport) (state : State) (well : IsWellFormed airport) (soun
   IsFound _ = ⊥
 
   -- what answers a command that seeks none tells of no search
-  plain-none : (command : Command) (block : Block) (after : State) → first_refusal airport state command ≡ None → sought_of airport state command ≡ None
+  plain-none : (command : Command) (block : Block) (after : State) → IsInGrammar command → first_refusal airport state command ≡ None → sought_of airport state command ≡ None
       → IsCarriedOut airport state command block after → IsFound block → ⊥
-  plain-none (command.File flight class start steps) block after none e done told = subst IsFound done.reply.0 told
-  plain-none (command.Arrival flight class from to time hold) block after none e done told = absurd (cc (rw (done.class_known, done.nodes_known) at e))
-  plain-none (command.Departure flight class from to time queue) block after none e done told = absurd (cc (rw (done.class_known, done.nodes_known) at e))
-  plain-none (command.Cancel flight) block after none e done told = subst IsFound done.0 told
-  plain-none (command.Reroute flight time) block after none e done told = absurd (cc (rw done.in_force at e))
-  plain-none (command.Divert flight time node) block after none e done told = absurd (cc (rw (done.in_force, done.meant) at e))
-  plain-none (command.Windows segment) block after none e done told = subst IsFound done.reply.0 told
-  plain-none (command.Occupancy segment) block after none e done told = subst IsFound done.reply.0 told
-  plain-none command.Timetable block after none e done told = subst IsFound done.0 told
-  plain-none (command.Work name segment from until) block after none e done told = subst IsFound done.reply.0 told
-  plain-none (command.WorkDone name) block after none e done told = subst IsFound done.0 told
+  plain-none (command.File flight class start steps) block after spoken none e done told = subst IsFound done.reply.0 told
+  plain-none (command.Arrival flight class from to time hold) block after spoken none e done told = absurd (cc (rw (done.class_known, done.nodes_known) at e))
+  plain-none (command.Departure flight class from to time queue) block after spoken none e done told = absurd (cc (rw (done.class_known, done.nodes_known) at e))
+  plain-none (command.Cancel flight) block after spoken none e done told = subst IsFound done.0 told
+  plain-none (command.Reroute flight time) block after spoken none e done told = absurd (cc (rw done.in_force at e))
+  plain-none (command.Divert flight time node) block after spoken none e done told = absurd (cc (rw (done.in_force, done.meant) at e))
+  plain-none (command.Windows segment) block after spoken none e done told = subst IsFound done.reply.0 told
+  plain-none (command.Occupancy segment) block after spoken none e done told = subst IsFound done.reply.0 told
+  plain-none command.Timetable block after spoken none e done told = subst IsFound done.0 told
+  plain-none (command.Work name segment from until) block after spoken none e done told = subst IsFound done.reply.0 told
+  plain-none (command.WorkDone name) block after spoken none e done told = subst IsFound done.0 told
+  plain-none (command.ArrivalAny flight class from time hold stands) block after spoken none e done told =
+      choice-there flight class (arrival_any_named airport from stands time hold) done.class done.choice done.class_known done.nodes_known
+      (let is = arrival_any-is airport from stands time hold done.choice done.nodes_known in omega (arith, ltb-true 0 (length stands) (and_parts _ _ spoken.3).0, is.as_many)) e
+  plain-none (command.DepartureAny flight class from time queue nodes) block after spoken none e done told =
+      choice-there flight class (departure_any_named airport from nodes time queue) done.class done.choice done.class_known done.nodes_known
+      (let is = departure_any-is airport from nodes time queue done.choice done.nodes_known in omega (arith, ltb-true 0 (length nodes) (and_parts _ _ spoken.3).0, is.as_many)) e
 
   -- what is sought by a line that is answered so
   record IsSoughtBy (line : List ℕ) (block : Block) : Type 0 where
@@ -152,7 +195,7 @@ module _ (airport : Airport) (state : State) (well : IsWellFormed airport) (soun
     go (Some command) read form = by_refusal (first_refusal airport state command) refl form where
       by_sought : first_refusal airport state command ≡ None → (o : Option Sought) → sought_of airport state command ≡ o
           → MatchOption o ((after : State) × IsCarriedOut airport state command block after) (λ s. IsFormOf s block) → IsSoughtBy line block
-      by_sought none None e done = absurd (plain-none command block done.0 none e done.1 told)
+      by_sought none None e done = absurd (plain-none command block done.0 (rw read at (command_of-in_grammar line)) none e done.1 told)
       by_sought none (Some s) e form = record { s = s; by = rw read e; right = sought-right command s none e }
 
       by_refusal : (o : Option Refusal) → first_refusal airport state command ≡ o → MatchOption o (IsAsAsked airport state command block) (λ why. block ≡ Refused why) → IsSoughtBy line block
@@ -177,7 +220,7 @@ module _ (airport : Airport) (state : State) (well : IsWellFormed airport) (soun
       let walk = rules rule.Walk in (
         s,
         there.by,
-        table-best s.conditions there.right.fit s.request s.under_way there.right.way steps labels walk.0
+        table-best s.conditions there.right.fit s.request s.others s.under_way there.right.way steps labels walk.0
             (route-table s name (second_of s.request steps) steps labels (λ r. subst (λ n. KeepsSought r s (Route name n steps labels)) (sym walk.1) (rules r))),
         walk.1,
       )
@@ -185,7 +228,7 @@ module _ (airport : Airport) (state : State) (well : IsWellFormed airport) (soun
       let there = sought-there line (NoRoute labels) tt (passed.keeps rule.Reply) in
       let s = there.s in
       let rules = sought-rules line (NoRoute labels) s there.by passed.keeps in
-      (s, there.by, table-none s.conditions there.right.fit s.request s.under_way there.right.way labels (no_route-table s labels rules))
+      (s, there.by, table-none s.conditions there.right.fit s.request s.others s.under_way there.right.way labels (no_route-table s labels rules))
   passed-best line (Refused why) after passed = tt
   passed-best line (Filed name start end) after passed = tt
   passed-best line (Cancelled name) after passed = tt

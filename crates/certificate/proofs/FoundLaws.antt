@@ -10,12 +10,15 @@ use Rattle.taxi_base.specs.declared.rows.Step.{Step}
 use Rattle.taxi_base.specs.declared.rows.LabelRow.{LabelRow}
 use Rattle.taxi_base.specs.declared.answers.Found.{Found}
 use Rattle.taxi_base.specs.declared.answers.Found.TheVariants as found
+use Rattle.taxi_base.specs.declared.answers.Chosen.{Chosen}
+use Rattle.taxi_base.specs.declared.answers.Chosen.TheVariants as chosen
 use Rattle.taxi_base.specs.declared.answers.Request.{Request}
 use Rattle.taxi_base.specs.declared.answers.Request.TheVariants as request
 use Rattle.taxi_base.specs.Airport.{Airport, IsWellFormed, layout_of, arc_exists, segment_of, seconds}
 use Rattle.taxi_base.specs.Windows.{IsWindow}
 use Rattle.taxi_base.specs.Walks.{Conditions, IsFeasibleStep, IsFeasibleWalk, AtFirst, AtLast, IsRoute, LeavesNodeWithin, ReachesNodeWithin, Resumes, Meets, begin_of, end_of}
 use Rattle.taxi_base.specs.Labels.{window_of, IsStepOf, IsExitLabel, IsEntryLabel, precedes, IsTable, IsExitBefore, IsEntryAfter, AnswersArrival, AnswersDeparture}
+use Rattle.taxi_base.specs.Choices.{ReachesOneOfWithin}
 use Rattle.taxi_base.specs.State.{IsFrozenWalk, step_begun, steps_done}
 use Rattle.taxi_base.specs.Again.{retargeted, IsBestFor, after_steps, AnswersAgain}
 use Rattle.taxi_base.proofs.AirportLaws.{seconds-range, arc_exists-segment}
@@ -24,7 +27,7 @@ use Rattle.taxi_base.proofs.ListLaws.{AllPairs-first, AllPairs-rest}
 use Rattle.taxi_base.proofs.WalkLaws.{IsSomeAnd-value, IsFeasibleStep-takes, IsFeasibleWalk-steps, IsFeasibleWalk-last, AtLast-both, Meets-IsFeasibleWalk}
 use Rattle.taxi_base.proofs.WindowLaws.{IsWindow-by}
 use Rattle.certificate.specs.Printable.{IsShort, IsCount, IsPrintableStep, IsPrintableLabel}
-use Rattle.certificate.specs.Asked.{AnswersRequest}
+use Rattle.certificate.specs.Asked.{AnswersRequest, Choice, arrival_any, departure_any, AnswersChoice}
 use Rattle.certificate.specs.CarriedOut.{second_of}
 
 -- ---- a walk lies by the horizon
@@ -133,6 +136,10 @@ ArePrintableLabels airport labels = IsCount (length labels) × All (IsPrintableL
 abbrev pub labels_of : Found → List LabelRow
 labels_of (found.Route steps labels) = labels
 labels_of (found.NoRoute labels) = labels
+
+abbrev pub labels_of_chosen : Chosen → List LabelRow
+labels_of_chosen (chosen.Route to steps labels) = labels
+labels_of_chosen (chosen.NoRoute labels) = labels
 
 module _ (c : Conditions) (well : IsWellFormed c.airport) (bounded : (s : Segment) (t : ℕ) → c.airport.horizon ≤ t → IsFalse (c.free s t)) where
   label-fine : (label : LabelRow) → IsWindow (c.free (segment_of label.arc)) (window_of label) → IsTrue (arc_exists (layout_of c.airport) label.arc)
@@ -248,3 +255,16 @@ module _ (c : Conditions) (well : IsWellFormed c.airport) (bounded : (s : Segmen
         (arrival-printable (Resumes begun time) target found.0 found.2)
   found_again-printable old time target (request.Departure from to asked queue) answer answers =
       departure-printable from (ReachesNodeWithin (layout_of c.airport) target (asked - queue) asked) answer answers
+
+  -- ---- what is chosen has labels that can be printed
+
+  pub chosen-printable : (choice : Choice) (answer : Chosen) → AnswersChoice c choice answer → ArePrintableLabels c.airport (labels_of_chosen answer)
+  chosen-printable (arrival_any from to time hold) (chosen.Route node steps labels) answers =
+      arrival-printable (LeavesNodeWithin (layout_of c.airport) from time (time + hold)) node (found.Route steps labels) answers.1
+  chosen-printable (arrival_any from to time hold) (chosen.NoRoute labels) answers =
+      let Begins = LeavesNodeWithin (layout_of c.airport) from time (time + hold) in table-printable (IsExitLabel c Begins) (exit-fine Begins) labels answers.1
+  chosen-printable (departure_any from to time queue) (chosen.Route node steps labels) answers =
+      let Ends = ReachesOneOfWithin (layout_of c.airport) to (time - queue) time in
+      table-printable (IsEntryAfter c Ends (Some (begin_of steps))) (λ label entry. entry-fine Ends label entry.0) labels answers.3
+  chosen-printable (departure_any from to time queue) (chosen.NoRoute labels) answers =
+      let Ends = ReachesOneOfWithin (layout_of c.airport) to (time - queue) time in table-printable (IsEntryLabel c Ends) (entry-fine Ends) labels answers.1

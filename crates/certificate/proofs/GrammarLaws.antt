@@ -12,7 +12,7 @@ use Rattle.std.proofs.lemmas.Str.Parse.{digits_value_short}
 use Rattle.taxi_base.specs.Words.{is_name}
 use Rattle.certificate.specs.Printable.{IsShort, IsName}
 use Rattle.certificate.specs.Asked.{IsInGrammar}
-use Rattle.taxi_text.specs.Commands.{◌>>=◌, first_as, the_end, asked_of, steps_of, is_step_count, route_of, filed_steps_of, file_of, work_of, work_done_of, unfiled_of, command_of_words, command_of}
+use Rattle.taxi_text.specs.Commands.{◌>>=◌, first_as, the_end, asked_of, steps_of, is_step_count, route_of, filed_steps_of, file_of, up_to, names_of, is_choice_count, choice_of, asked_any_of, work_of, work_done_of, unlisted_of, command_of_words, command_of}
 
 module _ {A B : Type 0} (P : B → Type 0) (f : A → Option B) where
   bind-each : (o : Option A) → ((x : A) → IfSome (f x) P) → IfSome (o >>= f) P
@@ -85,8 +85,24 @@ work-count verb words =
           )
     ]
 
-unfiled-count : (verb : List ℕ) (words : List (List ℕ)) → IfSome (unfiled_of verb words) IsInGrammar
-unfiled-count verb words =
+-- of what is asked for a new flight with a choice of nodes
+choice-count : (words : List (List ℕ)) → IfSome (choice_of words) (λ nodes. IsTrue (is_choice_count (length nodes)))
+choice-count words =
+    bind-each (λ nodes. IsTrue (is_choice_count (length nodes))) (up_to 16) (names_of words)
+    (λ nodes. if_some (λ nodes. IsTrue (is_choice_count (length nodes))) (is_choice_count (length nodes)) nodes (λ h. h))
+
+asked_any-so : (words : List (List ℕ)) → IfSome (asked_any_of words) (λ a. IsName a.flight × IsShort a.time × IsShort a.slack × IsTrue (is_choice_count (length a.nodes)))
+asked_any-so words =
+    bind-where (λ a. IsName a.flight × IsShort a.time × IsShort a.slack × IsTrue (is_choice_count (length a.nodes))) _ IsName (first_as name_of words) (first-name words) (λ flight name.
+    bind-each (λ a. IsName a.flight × IsShort a.time × IsShort a.slack × IsTrue (is_choice_count (length a.nodes))) _ (first_as name_of (drop 1 words)) (λ class.
+    bind-each (λ a. IsName a.flight × IsShort a.time × IsShort a.slack × IsTrue (is_choice_count (length a.nodes))) _ (first_as name_of (drop 1 (drop 1 words))) (λ from.
+    bind-where (λ a. IsName a.flight × IsShort a.time × IsShort a.slack × IsTrue (is_choice_count (length a.nodes))) _ IsShort (first_as number_of (drop 1 (drop 1 (drop 1 words)))) (first-number (drop 1 (drop 1 (drop 1 words)))) (λ time short.
+    bind-where (λ a. IsName a.flight × IsShort a.time × IsShort a.slack × IsTrue (is_choice_count (length a.nodes))) _ IsShort (first_as number_of (drop 1 (drop 1 (drop 1 (drop 1 words))))) (first-number (drop 1 (drop 1 (drop 1 (drop 1 words))))) (λ slack few.
+    bind-where (λ a. IsName a.flight × IsShort a.time × IsShort a.slack × IsTrue (is_choice_count (length a.nodes))) _ (λ nodes. IsTrue (is_choice_count (length nodes)))
+    (choice_of (drop 1 (drop 1 (drop 1 (drop 1 (drop 1 words)))))) (choice-count (drop 1 (drop 1 (drop 1 (drop 1 (drop 1 words)))))) (λ nodes count. (name, short, few, count)))))))
+
+unlisted-count : (verb : List ℕ) (words : List (List ℕ)) → IfSome (unlisted_of verb words) IsInGrammar
+unlisted-count verb words =
     elim (cases_Bool (bytes_eq verb (codes "arrival"))) [
       | inl e ↦ rw e (bind-where IsInGrammar _ (λ a. IsName a.flight × IsShort a.time × IsShort a.slack) (asked_of words) (asked-so words) (λ a so. so))
       | inr e ↦ rw e (
@@ -136,5 +152,15 @@ command_of-in_grammar line = of_words (words_of line) where
   of_words [] = tt
   of_words (verb ∷ words) = elim (cases_Bool (bytes_eq verb (codes "file"))) [
     | inl e ↦ rw e (file-count words)
-    | inr e ↦ rw e (unfiled-count verb words)
+    | inr e ↦ rw e (
+        elim (cases_Bool (bytes_eq verb (codes "arrival-any"))) [
+          | inl e ↦ rw e (bind-where IsInGrammar _ (λ a. IsName a.flight × IsShort a.time × IsShort a.slack × IsTrue (is_choice_count (length a.nodes))) (asked_any_of words) (asked_any-so words) (λ a so. so))
+          | inr e ↦ rw e (
+              elim (cases_Bool (bytes_eq verb (codes "departure-any"))) [
+                | inl e ↦ rw e (bind-where IsInGrammar _ (λ a. IsName a.flight × IsShort a.time × IsShort a.slack × IsTrue (is_choice_count (length a.nodes))) (asked_any_of words) (asked_any-so words) (λ a so. so))
+                | inr e ↦ rw e (unlisted-count verb words)
+              ]
+              )
+        ]
+        )
   ]

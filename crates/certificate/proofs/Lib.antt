@@ -4,6 +4,7 @@ pub mod FiledLaws
 pub mod GrammarLaws
 pub mod FlightLaws
 pub mod HolderNames
+pub mod ChoiceNames
 pub mod FoundLaws
 pub mod RowPieces
 pub mod RefusalLaws

@@ -23,14 +23,17 @@ use Rattle.taxi_base.proofs.AirportLaws.{seconds-range}
 use Rattle.taxi_base.specs.Reports.{AreHeldRows}
 use Rattle.taxi_base.proofs.ReportLaws.{AreHeldRows-same}
 use Rattle.taxi_base.proofs.LabelLaws.{HasOneFirstStep, HasOneFirstStep-leaves, HasOneFirstStep-resumes, IsPickedArrival-same, IsPickedDeparture-same, IsTable-same}
+use Rattle.taxi_base.specs.declared.answers.Chosen.{Chosen}
+use Rattle.taxi_base.proofs.ChoiceLaws.{AreNodes, AnswersArrivalChoice-same, AnswersDepartureChoice-same}
 use Rattle.taxi_text.specs.declared.command.Command.{Command}
 use Rattle.taxi_text.specs.declared.command.Command.TheVariants as command
 use Rattle.taxi_text.specs.Commands.{command_of}
 use Rattle.certificate.specs.declared.block.Block.{Block}
-use Rattle.certificate.specs.Asked.{filed_steps, party_of, arrival_named, departure_named, AnswersRequest}
+use Rattle.certificate.specs.Asked.{filed_steps, party_of, arrival_named, departure_named, AnswersRequest, Choice, arrival_any, departure_any, nodes_of, arrival_any_named, departure_any_named, AnswersChoice}
 use Rattle.certificate.specs.Refusals.{first_refusal}
-use Rattle.certificate.specs.CarriedOut.{Reply, IsOf, filed_reply, found_reply, routed_flight, IsRouted, IsRoutedAgain, shut_reply, opened_reply, cancelled_reply, windows_reply, occupancy_reply, timetable_reply, IsCarriedOut}
+use Rattle.certificate.specs.CarriedOut.{Reply, IsOf, filed_reply, found_reply, routed_flight, IsRouted, chosen_reply, IsRoutedToOne, IsRoutedAgain, shut_reply, opened_reply, cancelled_reply, windows_reply, occupancy_reply, timetable_reply, IsCarriedOut}
 use Rattle.certificate.specs.Replies.{refused, IsDueTo, IsDue}
+use Rattle.certificate.proofs.ChoiceNames.{arrival_any-is, departure_any-is}
 
 -- what is found under one name is one thing
 one-some : {X : Type 0} (o : Option X) (x y : X) → o ≡ Some x → o ≡ Some y → x ≡ y
@@ -86,6 +89,11 @@ module _ (airport : Airport) (well : IsWellFormed airport) (class : Class) (hold
   AnswersRequest-same (request.Departure from to time queue) f g a b =
       AnswersDeparture-same c from (ReachesNodeWithin (layout_of airport) to (time - queue) time) f g a b
 
+  AnswersChoice-same : (choice : Choice) → AreNodes airport (nodes_of choice) → (f g : Chosen) → AnswersChoice c choice f → AnswersChoice c choice g → f ≡ g
+  AnswersChoice-same (arrival_any from to time hold) are f g a b =
+      AnswersArrivalChoice-same c (LeavesNodeWithin (layout_of airport) from time (time + hold)) to well are (one_first_step from time (time + hold)) f g a b
+  AnswersChoice-same (departure_any from to time queue) are f g a b = AnswersDepartureChoice-same c from to (time - queue) time well are f g a b
+
   AnswersAgain-same : (old : List Step) (time : ℕ) (target : Node) (request : Request) (f g : Found)
       → AnswersAgain c old time target request f → AnswersAgain c old time target request g → f ≡ g
   AnswersAgain-same old time target request.Filed f g a b = absurd a
@@ -129,6 +137,19 @@ module _ (block : Block) (after : State) (other : Block) (others : State) where
         of_same (found_reply state name a.request (λ steps. with_flight (routed_flight name a.class a.request steps) state) a.found)
         (found_reply state name b.request (λ steps. with_flight (routed_flight name b.class b.request steps) state) b.found)
         (λ i. found_reply state name (requests i) (λ steps. with_flight (routed_flight name (classes i) (requests i) steps) state) (founds i)) a.reply b.reply
+
+    -- where the nodes of what is asked are the airport's
+    pub IsRoutedToOne-same : IsWellFormed airport → (name class : List ℕ) (asked : Option Choice) → ((choice : Choice) → asked ≡ Some choice → AreNodes airport (nodes_of choice))
+        → IsRoutedToOne airport state name class asked block after → IsRoutedToOne airport state name class asked other others → AreSame block after other others
+    IsRoutedToOne-same well name class asked are a b =
+        let classes : a.class ≡ b.class = one-some (class_named airport class) a.class b.class a.class_known b.class_known in
+        let choices : a.choice ≡ b.choice = one-some asked a.choice b.choice a.nodes_known b.nodes_known in
+        let answers : AnswersChoice (conditions_among airport a.class (holds_in airport state)) a.choice b.chosen =
+        subst (λ r. AnswersChoice (conditions_among airport a.class (holds_in airport state)) r b.chosen) (sym choices)
+        (subst (λ k. AnswersChoice (conditions_among airport k (holds_in airport state)) b.choice b.chosen) (sym classes) b.answers) in
+        let same : a.chosen ≡ b.chosen = AnswersChoice-same airport well a.class (holds_in airport state) a.choice (are a.choice a.nodes_known) a.chosen b.chosen a.answers answers in
+        of_same (chosen_reply state name a.class a.choice a.chosen) (chosen_reply state name b.class b.choice b.chosen)
+        (λ i. chosen_reply state name (classes i) (choices i) (same i)) a.reply b.reply
 
     -- where a request means one node
     pub IsRoutedAgain-same : IsWellFormed airport → (name : List ℕ) (time : ℕ) (IsMeant : Request → Node → Type 0)
@@ -176,6 +197,10 @@ module _ (block : Block) (after : State) (other : Block) (others : State) where
         let segments : a.segment ≡ b.segment = one-some (segment_named airport segment) a.segment b.segment a.segment_known b.segment_known in
         of_same (shut_reply state (party_of name a.segment from until)) (shut_reply state (party_of name b.segment from until)) (ap (λ s. shut_reply state (party_of name s from until)) segments) a.reply b.reply
     IsCarriedOut-same well (command.WorkDone name) a b = of_one (opened_reply state name) a b
+    IsCarriedOut-same well (command.ArrivalAny flight class from time hold stands) a b =
+        IsRoutedToOne-same well flight class (arrival_any_named airport from stands time hold) (λ choice named. (arrival_any-is airport from stands time hold choice named).exist) a b
+    IsCarriedOut-same well (command.DepartureAny flight class from time queue nodes) a b =
+        IsRoutedToOne-same well flight class (departure_any_named airport from nodes time queue) (λ choice named. (departure_any-is airport from nodes time queue choice named).exist) a b
 
     IsDueTo-same : IsWellFormed airport → (c : Command) → IsDueTo airport state c block after → IsDueTo airport state c other others → AreSame block after other others
     IsDueTo-same well c a b = go (first_refusal airport state c) a b where

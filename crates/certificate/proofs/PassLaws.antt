@@ -1,6 +1,7 @@
 -- The block that is due passes, and what passes is the best.
-use Rattle.std.proofs.Common.{◌≡◌, ℕ, ◌<◌, Bool, true, false, List, inl, inr, Option, Some, None, refl, sym, subst, arith}
-use Rattle.std.specs.Prelude.{MatchOption, IsTrue}
+use Rattle.std.proofs.Common.{◌≡◌, ℕ, ◌<◌, Bool, true, false, List, [], ◌∷◌, length, inl, inr, Option, Some, None, refl, sym, ap, subst, arith}
+use Rattle.std.specs.Prelude.{MatchOption, IsTrue, Contains}
+use Rattle.std.proofs.lemmas.Bool.{and_parts, ltb-true}
 use Rattle.std.proofs.lemmas.List.Elements.{All-contains}
 use Rattle.taxi_base.specs.declared.numbers.Class.{Class}
 use Rattle.taxi_base.specs.declared.numbers.Node.{Node}
@@ -9,6 +10,8 @@ use Rattle.taxi_base.specs.declared.rows.LabelRow.{LabelRow}
 use Rattle.taxi_base.specs.declared.answers.Flight.{Flight}
 use Rattle.taxi_base.specs.declared.answers.Found.{Found}
 use Rattle.taxi_base.specs.declared.answers.Found.TheVariants as found
+use Rattle.taxi_base.specs.declared.answers.Chosen.{Chosen}
+use Rattle.taxi_base.specs.declared.answers.Chosen.TheVariants as chosen
 use Rattle.taxi_base.specs.declared.answers.Request.{Request}
 use Rattle.taxi_base.specs.declared.answers.Request.TheVariants as request
 use Rattle.taxi_base.specs.declared.answers.Refusal.{Refusal}
@@ -23,24 +26,26 @@ use Rattle.taxi_base.proofs.AgainLaws.{again-best, old-frozen}
 use Rattle.taxi_base.proofs.WalkLaws.{Meets-IsFeasibleWalk}
 use Rattle.taxi_text.specs.declared.command.Command.{Command}
 use Rattle.taxi_text.specs.declared.command.Command.TheVariants as command
-use Rattle.taxi_text.specs.Commands.{command_of}
+use Rattle.taxi_text.specs.Commands.{command_of, is_choice_count}
 use Rattle.walk_labels.specs.Places.{AreFit}
 use Rattle.walk_labels.proofs.FitConditions.{among_fit}
 use Rattle.certificate.specs.declared.block.Block.{Block}
 use Rattle.certificate.specs.declared.block.Block.TheVariants.{Refused, Filed, Cancelled, Route, NoRoute, Windows, Occupancy, Timetable}
 use Rattle.certificate.specs.declared.rule.Rule.{Rule}
 use Rattle.certificate.specs.declared.rule.Rule.TheVariants as rule
-use Rattle.certificate.specs.Asked.{arrival_named, departure_named, AnswersRequest}
+use Rattle.certificate.specs.Asked.{arrival_named, departure_named, AnswersRequest, IsInGrammar, Choice, nodes_of, request_for, arrival_any_named, departure_any_named, AnswersChoice}
 use Rattle.certificate.specs.Refusals.{first_refusal}
-use Rattle.certificate.specs.CarriedOut.{Reply, IsOf, second_of, found_reply, routed_flight, IsRouted, IsRoutedAgain, windows_among, IsCarriedOut}
+use Rattle.certificate.specs.CarriedOut.{Reply, IsOf, second_of, found_reply, routed_flight, IsRouted, chosen_reply, IsRoutedToOne, IsRoutedAgain, windows_among, IsCarriedOut}
 use Rattle.certificate.specs.Replies.{refused, IsDueTo, IsDue, IsReply, as_due, no_memory}
-use Rattle.certificate.specs.Sought.{UnderWay, Sought, sought_new, sought_again, sought_by_class, sought_of, sought_by, search_of, IsWalkOnFor}
+use Rattle.certificate.specs.Sought.{UnderWay, Sought, sought_new, sought_again, sought_by_class, sought_any, sought_to_one, sought_of, sought_by, search_of, IsWalkOnFor}
 use Rattle.certificate.specs.TableRules.{KeepsTable}
 use Rattle.certificate.specs.Passes.{IsFormOf, KeepsReply, KeepsWalk, OfTable, KeepsSought, Keeps, IsAfter, IsPassed}
 use Rattle.certificate.proofs.FlightLaws.{flight_named-there}
 use Rattle.certificate.proofs.AgainRefusals.{reroute-may, divert-before}
 use Rattle.certificate.proofs.FoundLaws.{found-meets, best-one, second-retargeted}
-use Rattle.certificate.proofs.TablesKept.{HasKeptTable, new-table, again-table, IsBefore}
+use Rattle.certificate.proofs.TablesKept.{HasKeptTable, new-table, choice-table, again-table, IsBefore}
+use Rattle.certificate.proofs.ChoiceNames.{IsChoiceOf, arrival_any-is, departure_any-is, meets-one, met-reaches, second-same, chosen-among, chosen-meets}
+use Rattle.certificate.proofs.GrammarLaws.{command_of-in_grammar}
 
 -- ---- what passes where a walk is sought
 
@@ -70,14 +75,14 @@ match-four (Some x) P Q R S p q r s = (p, q, r, s)
 sought-keeps : (s : Sought) (block : Block) → KeepsWalk s block → OfTable (KeepsTable s.conditions) s block → (r : Rule) → KeepsSought r s block
 sought-keeps s block walk table rule.Reply = tt
 sought-keeps s block walk table rule.Walk = walk
-sought-keeps s (Route name second steps labels) walk table rule.Rows = match-weaker (search_of s.request s.under_way) _ _ (λ x k. k.rows_kept) table
-sought-keeps s (Route name second steps labels) walk table rule.Start = match-weaker (search_of s.request s.under_way) _ _ (λ x k. k.start_kept) table
-sought-keeps s (Route name second steps labels) walk table rule.Step = match-weaker (search_of s.request s.under_way) _ _ (λ x k. k.step_kept) table
-sought-keeps s (Route name second steps labels) walk table rule.Target = match-weaker (search_of s.request s.under_way) _ _ (λ x k. k.target_kept) table
-sought-keeps s (NoRoute labels) walk table rule.Rows = match-weaker (search_of s.request s.under_way) _ _ (λ x k. k.rows_kept) table
-sought-keeps s (NoRoute labels) walk table rule.Start = match-weaker (search_of s.request s.under_way) _ _ (λ x k. k.start_kept) table
-sought-keeps s (NoRoute labels) walk table rule.Step = match-weaker (search_of s.request s.under_way) _ _ (λ x k. k.step_kept) table
-sought-keeps s (NoRoute labels) walk table rule.Target = match-weaker (search_of s.request s.under_way) _ _ (λ x k. k.target_kept) table
+sought-keeps s (Route name second steps labels) walk table rule.Rows = match-weaker (search_of s.request s.others s.under_way) _ _ (λ x k. k.rows_kept) table
+sought-keeps s (Route name second steps labels) walk table rule.Start = match-weaker (search_of s.request s.others s.under_way) _ _ (λ x k. k.start_kept) table
+sought-keeps s (Route name second steps labels) walk table rule.Step = match-weaker (search_of s.request s.others s.under_way) _ _ (λ x k. k.step_kept) table
+sought-keeps s (Route name second steps labels) walk table rule.Target = match-weaker (search_of s.request s.others s.under_way) _ _ (λ x k. k.target_kept) table
+sought-keeps s (NoRoute labels) walk table rule.Rows = match-weaker (search_of s.request s.others s.under_way) _ _ (λ x k. k.rows_kept) table
+sought-keeps s (NoRoute labels) walk table rule.Start = match-weaker (search_of s.request s.others s.under_way) _ _ (λ x k. k.start_kept) table
+sought-keeps s (NoRoute labels) walk table rule.Step = match-weaker (search_of s.request s.others s.under_way) _ _ (λ x k. k.step_kept) table
+sought-keeps s (NoRoute labels) walk table rule.Target = match-weaker (search_of s.request s.others s.under_way) _ _ (λ x k. k.target_kept) table
 sought-keeps s (Refused why) walk table rule.Rows = tt
 sought-keeps s (Refused why) walk table rule.Start = tt
 sought-keeps s (Refused why) walk table rule.Step = tt
@@ -104,16 +109,16 @@ sought-keeps s (Timetable flights) walk table rule.Step = tt
 sought-keeps s (Timetable flights) walk table rule.Target = tt
 
 pub route-table : (s : Sought) (name : List ℕ) (second : ℕ) (steps : List Step) (labels : List LabelRow) → ((r : Rule) → KeepsSought r s (Route name second steps labels))
-    → HasKeptTable s.conditions (search_of s.request s.under_way) (Some second) labels
+    → HasKeptTable s.conditions (search_of s.request s.others s.under_way) (Some second) labels
 route-table s name second steps labels keeps =
-    match-weaker (search_of s.request s.under_way) _ _ (λ x k. record { rows_kept = k.0; start_kept = k.1; step_kept = k.2; target_kept = k.3 })
-    (match-four (search_of s.request s.under_way) _ _ _ _ (keeps rule.Rows) (keeps rule.Start) (keeps rule.Step) (keeps rule.Target))
+    match-weaker (search_of s.request s.others s.under_way) _ _ (λ x k. record { rows_kept = k.0; start_kept = k.1; step_kept = k.2; target_kept = k.3 })
+    (match-four (search_of s.request s.others s.under_way) _ _ _ _ (keeps rule.Rows) (keeps rule.Start) (keeps rule.Step) (keeps rule.Target))
 
 pub no_route-table : (s : Sought) (labels : List LabelRow) → ((r : Rule) → KeepsSought r s (NoRoute labels))
-    → HasKeptTable s.conditions (search_of s.request s.under_way) None labels
+    → HasKeptTable s.conditions (search_of s.request s.others s.under_way) None labels
 no_route-table s labels keeps =
-    match-weaker (search_of s.request s.under_way) _ _ (λ x k. record { rows_kept = k.0; start_kept = k.1; step_kept = k.2; target_kept = k.3 })
-    (match-four (search_of s.request s.under_way) _ _ _ _ (keeps rule.Rows) (keeps rule.Start) (keeps rule.Step) (keeps rule.Target))
+    match-weaker (search_of s.request s.others s.under_way) _ _ (λ x k. record { rows_kept = k.0; start_kept = k.1; step_kept = k.2; target_kept = k.3 })
+    (match-four (search_of s.request s.others s.under_way) _ _ _ _ (keeps rule.Rows) (keeps rule.Start) (keeps rule.Step) (keeps rule.Target))
 
 module _ (airport : Airport) (state : State) (well : IsWellFormed airport) (sound : IsSound airport state) where
   -- ---- what is carried out for a new flight
@@ -150,6 +155,44 @@ module _ (airport : Airport) (state : State) (well : IsWellFormed airport) (soun
             form = refl;
             walk = tt;
             table = new-table (conditions_in airport done.class state) (new-fit done.class) done.request (found.NoRoute labels) answers;
+            after_it = refl;
+          })
+
+  -- ---- what is carried out for a choice of nodes
+
+  choice-sought : (name class_name : List ℕ) (asked : Option Choice) (class : Class) (choice : Choice) (node : Node) (others : List Node)
+      → class_named airport class_name ≡ Some class → asked ≡ Some choice → nodes_of choice ≡ node ∷ others
+      → sought_to_one airport state name class_name asked ≡ Some (sought_any airport state name class choice node others)
+  choice-sought name class_name asked class choice node others known named are = rw (known, named, are) refl
+
+  choice-passes : (name class_name : List ℕ) (asked : Option Choice) (block : Block) (after : State) → ((choice : Choice) → asked ≡ Some choice → 0 < length (nodes_of choice))
+      → IsRoutedToOne airport state name class_name asked block after → (s : Sought) × (sought_to_one airport state name class_name asked ≡ Some s) × PassesSought state s block after
+  choice-passes name class_name asked block after some done = with_nodes (nodes_of done.choice) refl (some done.choice done.nodes_known) where
+    c : Conditions
+    c = conditions_in airport done.class state
+
+    with_nodes : (nodes : List Node) → nodes_of done.choice ≡ nodes → 0 < length nodes → (s : Sought) × (sought_to_one airport state name class_name asked ≡ Some s) × PassesSought state s block after
+    with_nodes [] are none = absurd (omega arith)
+    with_nodes (node ∷ others) are _ = (s, choice-sought name class_name asked done.class done.choice node others done.class_known done.nodes_known are, go done.chosen done.answers done.reply) where
+      s : Sought
+      s = sought_any airport state name done.class done.choice node others
+
+      go : (answer : Chosen) → AnswersChoice c done.choice answer → IsOf (chosen_reply state name done.class done.choice answer) block after → PassesSought state s block after
+      go (chosen.Route to steps labels) answers of =
+          let met : Meets c (request_for done.choice to) steps = chosen-meets c done.choice to steps labels answers in
+          let among : Contains (node ∷ others) to = subst (λ (ns : List Node). Contains ns to) are (chosen-among c done.choice to steps labels answers) in
+          let second = second-same done.choice node to steps in
+          of-reply s (record { block = Route name (second_of (request_for done.choice to) steps) steps labels; after = with_flight (routed_flight name done.class (request_for done.choice to) steps) state }) block after of (record {
+            form = refl;
+            walk = (meets-one c done.choice node others steps to among met, second);
+            table = choice-table c (new-fit done.class) done.choice node others are (chosen.Route to steps labels) answers;
+            after_it = ap (λ n. with_flight (routed_flight name done.class (request_for done.choice n) steps) state) (sym (met-reaches c done.choice to node steps met));
+          })
+      go (chosen.NoRoute labels) answers of =
+          of-reply s (record { block = NoRoute labels; after = state }) block after of (record {
+            form = refl;
+            walk = tt;
+            table = choice-table c (new-fit done.class) done.choice node others are (chosen.NoRoute labels) answers;
             after_it = refl;
           })
 
@@ -191,7 +234,7 @@ module _ (airport : Airport) (state : State) (well : IsWellFormed airport) (soun
                 (best-one flight.request (IsFrozenWalk c flight.steps time target flight.request) steps (again-best c flight.steps time target walk flight.request (found.Route steps labels) answers)),
             second,
           );
-          table = subst (λ n. HasKeptTable c (search_of (retargeted flight.request target) (Some way)) (Some n) labels) second
+          table = subst (λ n. HasKeptTable c (search_of (retargeted flight.request target) [] (Some way)) (Some n) labels) second
               (again-table c fit flight.steps walk time target flight.request before (found.Route steps labels) answers);
           after_it = refl;
         })
@@ -278,6 +321,10 @@ module _ (airport : Airport) (state : State) (well : IsWellFormed airport) (soun
   refused-keeps why s rule.Step = tt
   refused-keeps why s rule.Target = tt
 
+  -- a choice of 1 to 16 nodes has one
+  some-nodes : (count : ℕ) (choice : Choice) → IsTrue (is_choice_count count) → IsChoiceOf airport count choice → 0 < length (nodes_of choice)
+  some-nodes count choice few is = omega (arith, ltb-true 0 count (and_parts _ _ few).0, is.as_many)
+
   module _ (line : List ℕ) (block : Block) (after : State) where
     refused-passes : (why : Refusal) → IsOf (refused state why) block after → KeepsReply airport state line block → IsPassed airport state line block after
     refused-passes why of reply = record {
@@ -320,33 +367,41 @@ module _ (airport : Airport) (state : State) (well : IsWellFormed airport) (soun
       after_it = subst (λ b. IsAfter airport state line b after) (sym is) after_told;
     }
 
-    carried-passes : (c : Command) → command_of line ≡ Some c → first_refusal airport state c ≡ None → IsDue airport state line block after
+    carried-passes : (c : Command) → IsInGrammar c → command_of line ≡ Some c → first_refusal airport state c ≡ None → IsDue airport state line block after
         → IsCarriedOut airport state c block after → IsPassed airport state line block after
-    carried-passes (command.File flight class start steps) read none due done =
+    carried-passes (command.File flight class start steps) spoken read none due done =
         plain-passes (Filed flight (begin_of done.steps) (end_of done.steps)) done.reply.0 (λ s. sought-keeps s (Filed flight (begin_of done.steps) (end_of done.steps)) tt tt)
         (subst (λ b. IsDue airport state line b after) done.reply.0 due) (inr (rw (read, none) (after, done)))
-    carried-passes (command.Arrival flight class from to time hold) read none due done =
+    carried-passes (command.Arrival flight class from to time hold) spoken read none due done =
         sought-passes (command.Arrival flight class from to time hold) read none (new-passes flight class (arrival_named airport from to time hold) block after done)
-    carried-passes (command.Departure flight class from to time queue) read none due done =
+    carried-passes (command.Departure flight class from to time queue) spoken read none due done =
         sought-passes (command.Departure flight class from to time queue) read none (new-passes flight class (departure_named airport from to time queue) block after done)
-    carried-passes (command.Cancel flight) read none due done =
+    carried-passes (command.Cancel flight) spoken read none due done =
         plain-passes (Cancelled flight) done.0 (λ s. sought-keeps s (Cancelled flight) tt tt) (subst (λ b. IsDue airport state line b after) done.0 due) (inr (rw (read, none) (after, done)))
-    carried-passes (command.Reroute flight time) read none due done =
+    carried-passes (command.Reroute flight time) spoken read none due done =
         sought-passes (command.Reroute flight time) read none (reroute-passes flight time block after none done)
-    carried-passes (command.Divert flight time node) read none due done =
+    carried-passes (command.Divert flight time node) spoken read none due done =
         sought-passes (command.Divert flight time node) read none (divert-passes flight time node block after none done)
-    carried-passes (command.Windows segment) read none due done =
+    carried-passes (command.Windows segment) spoken read none due done =
         plain-passes (Windows done.segment (windows_among airport state done.segment)) done.reply.0 (λ s. sought-keeps s (Windows done.segment (windows_among airport state done.segment)) tt tt)
         done.reply.1 (inr (rw (read, none) (after, done)))
-    carried-passes (command.Occupancy segment) read none due done =
+    carried-passes (command.Occupancy segment) spoken read none due done =
         plain-passes (Occupancy done.segment done.rows) done.reply.0 (λ s. sought-keeps s (Occupancy done.segment done.rows) tt tt) done.reply.1 (inr (rw (read, none) (after, done)))
-    carried-passes command.Timetable read none due done =
+    carried-passes command.Timetable spoken read none due done =
         plain-passes (Timetable (timetable_rows state)) done.0 (λ s. sought-keeps s (Timetable (timetable_rows state)) tt tt) done.1 (inr (rw read (after, done)))
-    carried-passes (command.Work name segment from until) read none due done =
+    carried-passes (command.Work name segment from until) spoken read none due done =
         plain-passes (Filed name from until) done.reply.0 (λ s. sought-keeps s (Filed name from until) tt tt)
         (subst (λ b. IsDue airport state line b after) done.reply.0 due) (inr (rw (read, none) (after, done)))
-    carried-passes (command.WorkDone name) read none due done =
+    carried-passes (command.WorkDone name) spoken read none due done =
         plain-passes (Cancelled name) done.0 (λ s. sought-keeps s (Cancelled name) tt tt) (subst (λ b. IsDue airport state line b after) done.0 due) (inr (rw (read, none) (after, done)))
+    carried-passes (command.ArrivalAny flight class from time hold stands) spoken read none due done =
+        sought-passes (command.ArrivalAny flight class from time hold stands) read none
+        (choice-passes flight class (arrival_any_named airport from stands time hold) block after
+        (λ choice named. some-nodes (length stands) choice spoken.3 (arrival_any-is airport from stands time hold choice named)) done)
+    carried-passes (command.DepartureAny flight class from time queue nodes) spoken read none due done =
+        sought-passes (command.DepartureAny flight class from time queue nodes) read none
+        (choice-passes flight class (departure_any_named airport from nodes time queue) block after
+        (λ choice named. some-nodes (length nodes) choice spoken.3 (departure_any-is airport from nodes time queue choice named)) done)
 
     pub due-passes : IsDue airport state line block after → IsPassed airport state line block after
     unfolding IsDue
@@ -355,7 +410,7 @@ module _ (airport : Airport) (state : State) (well : IsWellFormed airport) (soun
       go None read of = refused-passes refusal.BadLine of (inr (rw read of.0))
       go (Some c) read due_to = by (first_refusal airport state c) refl due_to where
         by : (o : Option Refusal) → first_refusal airport state c ≡ o → MatchOption o (IsCarriedOut airport state c block after) (λ why. IsOf (refused state why) block after) → IsPassed airport state line block after
-        by None none done = carried-passes c read none due done
+        by None none done = carried-passes c (rw read at (command_of-in_grammar line)) read none due done
         by (Some why) is of = refused-passes why of (inr (rw (read, is) of.0))
 
 -- a reply to a line passes

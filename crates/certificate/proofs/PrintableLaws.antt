@@ -16,6 +16,8 @@ use Rattle.taxi_base.specs.declared.answers.StepFault.{StepFault}
 use Rattle.taxi_base.specs.declared.answers.Flight.{Flight}
 use Rattle.taxi_base.specs.declared.answers.Found.{Found}
 use Rattle.taxi_base.specs.declared.answers.Found.TheVariants as found
+use Rattle.taxi_base.specs.declared.answers.Chosen.{Chosen}
+use Rattle.taxi_base.specs.declared.answers.Chosen.TheVariants as chosen
 use Rattle.taxi_base.specs.declared.answers.Request.{Request}
 use Rattle.taxi_base.specs.declared.answers.Refusal.{Refusal}
 use Rattle.taxi_base.specs.declared.answers.Refusal.TheVariants as refusal
@@ -34,14 +36,15 @@ use Rattle.taxi_text.specs.Commands.{command_of}
 use Rattle.certificate.specs.declared.block.Block.{Block}
 use Rattle.certificate.specs.declared.block.Block.TheVariants.{Refused, Filed, Cancelled, Route, NoRoute, Windows, Occupancy, Timetable}
 use Rattle.certificate.specs.Printable.{IsShort, IsName, IsPrintableCause, IsPrintableRefusal, IsPrintableStep, IsPrintableWindow, IsPrintable}
-use Rattle.certificate.specs.Asked.{filed_steps, party_of, IsInGrammar, arrival_named, departure_named, AnswersRequest}
-use Rattle.certificate.specs.Refusals.{refused_if, first_of, of_flight, not_routed, not_arrival, already_done, already_moving, in_force, unknown_class, unknown_node, no_runway, no_stand, unknown_segment, unknown_arc, not_in_force, not_at_work, full, step_fails, hold_fails, is_filed, is_departure, first_refusal}
-use Rattle.certificate.specs.CarriedOut.{Reply, IsOf, filed_reply, IsFiled, second_of, found_reply, routed_flight, IsRouted, IsRoutedAgain, shut_reply, opened_reply, cancelled_reply, windows_among, windows_reply, occupancy_reply, timetable_reply, IsCarriedOut}
+use Rattle.certificate.specs.Asked.{filed_steps, party_of, IsInGrammar, arrival_named, departure_named, AnswersRequest, Choice, request_for, arrival_any_named, departure_any_named, AnswersChoice}
+use Rattle.certificate.specs.Refusals.{refused_if, first_of, of_flight, not_routed, not_arrival, already_done, already_moving, in_force, is_runway, is_stand, unknown_class, unknown_node, unknown_node_of, not_all, no_runway, no_stand, unknown_segment, unknown_arc, not_in_force, not_at_work, full, step_fails, hold_fails, is_filed, is_departure, first_refusal}
+use Rattle.certificate.specs.CarriedOut.{Reply, IsOf, filed_reply, IsFiled, second_of, found_reply, routed_flight, IsRouted, chosen_reply, IsRoutedToOne, IsRoutedAgain, shut_reply, opened_reply, cancelled_reply, windows_among, windows_reply, occupancy_reply, timetable_reply, IsCarriedOut}
 use Rattle.certificate.specs.Replies.{refused, IsDueTo, IsDue, HaveNames, DoesAsItSays}
 use Rattle.certificate.proofs.FiledLaws.{filed_steps-length, filed_steps-arcs, filed_steps-joined}
 use Rattle.certificate.proofs.FlightLaws.{flight_named-there}
 use Rattle.certificate.proofs.HolderNames.{holder_at-name, with_flight-names, with_party-names, without-names}
-use Rattle.certificate.proofs.FoundLaws.{walk-end, walk-begin, walk-second, walk-some, walk-count, walk-printable, found-meets, found_again-meets, ArePrintableLabels, found-printable, found_again-printable}
+use Rattle.certificate.proofs.FoundLaws.{walk-end, walk-begin, walk-second, walk-some, walk-count, walk-printable, found-meets, found_again-meets, ArePrintableLabels, found-printable, found_again-printable, chosen-printable}
+use Rattle.certificate.proofs.ChoiceNames.{chosen-meets}
 use Rattle.certificate.proofs.GrammarLaws.{command_of-in_grammar}
 use Rattle.certificate.proofs.RefusalLaws.{none-fails, file-does_not_fail}
 use Rattle.certificate.proofs.ReportsTold.{held-count, held-printable, timetable-count, timetable-printable}
@@ -210,6 +213,14 @@ module _ (airport : Airport) (state : State) (well : IsWellFormed airport) (name
       first-fine (in_force state name) _ (if-fine _ _ tt) (first-fine (unknown_segment airport segment) _ (if-fine _ _ tt) (first-fine (full state) _ (if-fine _ _ tt)
       (first-fine (hold_fails airport state name segment from until) [] (hold-fine name segment from until) tt)))
   refusal-fine (command.WorkDone name) spoken = first-fine (not_at_work state name) [] (if-fine _ _ tt) tt
+  refusal-fine (command.ArrivalAny flight class from time hold stands) spoken =
+      first-fine (in_force state flight) _ (if-fine _ _ tt) (first-fine (unknown_class airport class) _ (if-fine _ _ tt) (first-fine (unknown_node airport from) _ (if-fine _ _ tt)
+      (first-fine (unknown_node_of airport stands) _ (if-fine _ _ tt) (first-fine (no_runway airport from) _ (if-fine _ _ tt) (first-fine (not_all is_stand airport stands) _ (if-fine _ _ tt)
+      (first-fine (full state) [] (if-fine _ _ tt) tt))))))
+  refusal-fine (command.DepartureAny flight class from time queue nodes) spoken =
+      first-fine (in_force state flight) _ (if-fine _ _ tt) (first-fine (unknown_class airport class) _ (if-fine _ _ tt) (first-fine (unknown_node airport from) _ (if-fine _ _ tt)
+      (first-fine (unknown_node_of airport nodes) _ (if-fine _ _ tt) (first-fine (no_stand airport from) _ (if-fine _ _ tt) (first-fine (not_all is_runway airport nodes) _ (if-fine _ _ tt)
+      (first-fine (full state) [] (if-fine _ _ tt) tt))))))
 
   -- ---- what is carried out
 
@@ -253,6 +264,22 @@ module _ (airport : Airport) (state : State) (well : IsWellFormed airport) (name
         of-reply (record { block = Route name (second_of done.request steps) steps labels; after = with_flight (routed_flight name done.class done.request steps) state }) block after of
         (route-printable c name done.request steps labels refl named (Meets-IsFeasibleWalk c done.request steps (found-meets c done.request steps labels answers))
         (found-printable c well (conditions_among-bounded airport done.class (holds_in airport state)) done.request (found.Route steps labels) answers))
+
+  chosen-has_text : (name class : List ℕ) (asked : Option Choice) (block : Block) (after : State) → IsName name
+      → IsRoutedToOne airport state name class asked block after → IsPrintable airport block
+  chosen-has_text name class asked block after named done = go done.chosen done.answers done.reply where
+    c : Conditions
+    c = conditions_in airport done.class state
+
+    go : (answer : Chosen) → AnswersChoice c done.choice answer → IsOf (chosen_reply state name done.class done.choice answer) block after → IsPrintable airport block
+    go (chosen.NoRoute labels) answers of =
+        of-reply (record { block = NoRoute labels; after = state }) block after of
+        (chosen-printable c well (conditions_among-bounded airport done.class (holds_in airport state)) done.choice (chosen.NoRoute labels) answers)
+    go (chosen.Route to steps labels) answers of =
+        let request : Request = request_for done.choice to in
+        of-reply (record { block = Route name (second_of request steps) steps labels; after = with_flight (routed_flight name done.class request steps) state }) block after of
+        (route-printable c name request steps labels refl named (Meets-IsFeasibleWalk c request steps (chosen-meets c done.choice to steps labels answers))
+        (chosen-printable c well (conditions_among-bounded airport done.class (holds_in airport state)) done.choice (chosen.Route to steps labels) answers))
 
   again-printable : (name : List ℕ) (time : ℕ) (IsMeant : Request → Node → Type 0) (block : Block) (after : State) → IsName name
       → IsRoutedAgain airport state name time IsMeant block after → IsPrintable airport block
@@ -311,6 +338,10 @@ module _ (airport : Airport) (state : State) (well : IsWellFormed airport) (name
   carried_out-printable (command.Work name segment from until) block after spoken none done =
       of-reply (shut_reply state (party_of name done.segment from until)) block after done.reply (spoken.0, (spoken.1, spoken.2))
   carried_out-printable (command.WorkDone name) block after spoken none done = of-reply (opened_reply state name) block after done spoken
+  carried_out-printable (command.ArrivalAny flight class from time hold stands) block after spoken none done =
+      chosen-has_text flight class (arrival_any_named airport from stands time hold) block after spoken.0 done
+  carried_out-printable (command.DepartureAny flight class from time queue nodes) block after spoken none done =
+      chosen-has_text flight class (departure_any_named airport from nodes time queue) block after spoken.0 done
 
   of-refusal : (why : Refusal) (block : Block) (after : State) → IsOf (refused state why) block after → IsPrintableRefusal why → IsPrintable airport block
   of-refusal why block after of fine = of-reply (refused state why) block after of fine

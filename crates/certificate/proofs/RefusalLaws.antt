@@ -13,7 +13,7 @@ use Rattle.taxi_base.specs.Faults.{route_fault, hold_fault}
 use Rattle.taxi_text.specs.declared.command.FiledStep.{FiledStep}
 use Rattle.certificate.specs.Asked.{filed_steps, party_of}
 use Rattle.taxi_text.specs.declared.command.Command.TheVariants as command
-use Rattle.certificate.specs.Refusals.{refused_if, first_of, is_in_force, is_at_work, most_holders, in_force, unknown_class, unknown_node, no_runway, no_stand, unknown_segment, unknown_arc, not_in_force, not_at_work, full, step_fails, hold_fails, first_refusal}
+use Rattle.certificate.specs.Refusals.{refused_if, first_of, is_in_force, is_at_work, most_holders, in_force, unknown_class, is_runway, is_stand, unknown_node, unknown_node_of, not_all, no_runway, no_stand, unknown_segment, unknown_arc, not_in_force, not_at_work, full, step_fails, hold_fails, first_refusal}
 
 -- none of the tests gives a refusal, so neither the first does nor the others
 pub none-first : (o : Option Refusal) (tests : List (Option Refusal)) → first_of (o ∷ tests) ≡ None → o ≡ None
@@ -93,6 +93,22 @@ module _ (airport : Airport) (state : State) (name class : List ℕ) where
     absent = not_refused (has_holder name state) refusal.InForce (none-first (in_force state name) _ e);
     room = not-full state (none-first (full state) _
         (none-others (no_runway airport to) _ (none-others (no_stand airport from) _ (none-others (unknown_node airport to) _ (none-others (unknown_node airport from) _
+        (none-others (unknown_class airport class) _ (none-others (in_force state name) _ e)))))));
+  }
+
+  pub arrival_any-has_room : (from : List ℕ) (stands : List (List ℕ)) (time hold : ℕ) → first_refusal airport state (command.ArrivalAny name class from time hold stands) ≡ None → HasRoom state name
+  arrival_any-has_room from stands time hold e = record {
+    absent = not_refused (has_holder name state) refusal.InForce (none-first (in_force state name) _ e);
+    room = not-full state (none-first (full state) _
+        (none-others (not_all is_stand airport stands) _ (none-others (no_runway airport from) _ (none-others (unknown_node_of airport stands) _ (none-others (unknown_node airport from) _
+        (none-others (unknown_class airport class) _ (none-others (in_force state name) _ e)))))));
+  }
+
+  pub departure_any-has_room : (from : List ℕ) (nodes : List (List ℕ)) (time queue : ℕ) → first_refusal airport state (command.DepartureAny name class from time queue nodes) ≡ None → HasRoom state name
+  departure_any-has_room from nodes time queue e = record {
+    absent = not_refused (has_holder name state) refusal.InForce (none-first (in_force state name) _ e);
+    room = not-full state (none-first (full state) _
+        (none-others (not_all is_runway airport nodes) _ (none-others (no_stand airport from) _ (none-others (unknown_node_of airport nodes) _ (none-others (unknown_node airport from) _
         (none-others (unknown_class airport class) _ (none-others (in_force state name) _ e)))))));
   }
 

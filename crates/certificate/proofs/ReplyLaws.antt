@@ -7,6 +7,8 @@ use Rattle.taxi_base.specs.declared.answers.Flight.{Flight}
 use Rattle.taxi_base.specs.declared.answers.Party.{Party}
 use Rattle.taxi_base.specs.declared.answers.Found.{Found}
 use Rattle.taxi_base.specs.declared.answers.Found.TheVariants as found
+use Rattle.taxi_base.specs.declared.answers.Chosen.{Chosen}
+use Rattle.taxi_base.specs.declared.answers.Chosen.TheVariants as chosen
 use Rattle.taxi_base.specs.declared.answers.Request.{Request}
 use Rattle.taxi_base.specs.declared.answers.Refusal.{Refusal}
 use Rattle.taxi_base.specs.declared.answers.Refusal.TheVariants as refusal
@@ -21,18 +23,19 @@ use Rattle.std.proofs.lemmas.List.Elements.{All-contains}
 use Rattle.taxi_text.specs.declared.command.FiledStep.{FiledStep}
 use Rattle.taxi_text.specs.declared.command.Command.{Command}
 use Rattle.taxi_text.specs.declared.command.Command.TheVariants as command
-use Rattle.taxi_text.specs.Commands.{command_of, IsFile}
+use Rattle.taxi_text.specs.Commands.{command_of, EndsInList}
 use Rattle.certificate.specs.declared.block.Block.{Block}
 use Rattle.certificate.specs.declared.block.Block.TheVariants.{Refused, Route, NoRoute}
-use Rattle.certificate.specs.Asked.{IsInGrammar, party_of, arrival_named, departure_named, AnswersRequest}
+use Rattle.certificate.specs.Asked.{IsInGrammar, party_of, arrival_named, departure_named, AnswersRequest, Choice, request_for, arrival_any_named, departure_any_named, AnswersChoice}
 use Rattle.certificate.specs.Refusals.{is_in_force, is_at_work, not_in_force, not_at_work, first_refusal}
-use Rattle.certificate.specs.CarriedOut.{Reply, IsOf, filed_flight, filed_reply, IsFiled, second_of, found_reply, routed_flight, IsRouted, IsRoutedAgain, shut_reply, IsShut, opened_reply, cancelled_reply, windows_reply, occupancy_reply, timetable_reply, IsCarriedOut}
+use Rattle.certificate.specs.CarriedOut.{Reply, IsOf, filed_flight, filed_reply, IsFiled, second_of, found_reply, routed_flight, IsRouted, chosen_reply, IsRoutedToOne, IsRoutedAgain, shut_reply, IsShut, opened_reply, cancelled_reply, windows_reply, occupancy_reply, timetable_reply, IsCarriedOut}
 use Rattle.certificate.specs.Replies.{refused, IsDueTo, IsDue, NeedsNoMemory, IsReply, as_due, no_memory, DoesAsItSays, IsAnswered}
 use Rattle.certificate.proofs.FiledLaws.{filed_steps-length, filed_steps-arcs, filed_steps-joined}
 use Rattle.certificate.proofs.FlightLaws.{flight_named-there, flight_named-name, without-none, without-party}
-use Rattle.certificate.proofs.RefusalLaws.{none-first, is-in_force, is-at_work, none-fails, none-holds, HasRoom, file-has_room, file-does_not_fail, arrival-has_room, departure-has_room, work-has_room, work-does_not_fail}
+use Rattle.certificate.proofs.RefusalLaws.{none-first, is-in_force, is-at_work, none-fails, none-holds, HasRoom, file-has_room, file-does_not_fail, arrival-has_room, departure-has_room, arrival_any-has_room, departure_any-has_room, work-has_room, work-does_not_fail}
 use Rattle.certificate.proofs.GrammarLaws.{command_of-in_grammar}
 use Rattle.certificate.proofs.WindowsTold.{windows_among-are, segment_named-exists}
+use Rattle.certificate.proofs.ChoiceNames.{chosen-meets}
 use Rattle.certificate.proofs.FoundLaws.{found-meets, found_again-meets, second-retargeted}
 use Rattle.certificate.proofs.PrintableLaws.{due-printable, says-names}
 
@@ -77,6 +80,21 @@ module _ (airport : Airport) (state : State) (sound : IsSound airport state) whe
         let same : without name state ≡ state = without-none name state room.absent in
         of-reply (record { block = Route name (second_of done.request steps) steps labels; after = with_flight flight state }) block after of (record {
           as_it_says = (flight, refl, refl, ap (with_flight flight) (sym same), subst (λ s. Meets (conditions_in airport done.class s) done.request steps) (sym same) met, refl);
+          stays_sound = IsSound-with_flight airport flight state sound room.room room.absent met;
+        })
+
+  chosen-kept : (name class : List ℕ) (asked : Option Choice) (block : Block) (after : State) → HasRoom state name
+      → IsRoutedToOne airport state name class asked block after → IsKept block after
+  chosen-kept name class asked block after room done = go done.chosen done.answers done.reply where
+    go : (answer : Chosen) → AnswersChoice (conditions_in airport done.class state) done.choice answer → IsOf (chosen_reply state name done.class done.choice answer) block after → IsKept block after
+    go (chosen.NoRoute labels) answers of = of-reply (record { block = NoRoute labels; after = state }) block after of (record { as_it_says = refl; stays_sound = sound })
+    go (chosen.Route to steps labels) answers of =
+        let request : Request = request_for done.choice to in
+        let flight : Flight = routed_flight name done.class request steps in
+        let met : Meets (conditions_in airport done.class state) request steps = chosen-meets (conditions_in airport done.class state) done.choice to steps labels answers in
+        let same : without name state ≡ state = without-none name state room.absent in
+        of-reply (record { block = Route name (second_of request steps) steps labels; after = with_flight flight state }) block after of (record {
+          as_it_says = (flight, refl, refl, ap (with_flight flight) (sym same), subst (λ s. Meets (conditions_in airport done.class s) request steps) (sym same) met, refl);
           stays_sound = IsSound-with_flight airport flight state sound room.room room.absent met;
         })
 
@@ -150,6 +168,10 @@ module _ (airport : Airport) (state : State) (sound : IsSound airport state) whe
   carried_out-kept (command.Work name segment from until) block after spoken none done = work-kept name segment from until block after none done
   carried_out-kept (command.WorkDone name) block after spoken none done =
       work_done-kept name block after (is-at_work state name (none-first (not_at_work state name) [] none)) done
+  carried_out-kept (command.ArrivalAny flight class from time hold stands) block after spoken none done =
+      chosen-kept flight class (arrival_any_named airport from stands time hold) block after (arrival_any-has_room airport state flight class from stands time hold none) done
+  carried_out-kept (command.DepartureAny flight class from time queue nodes) block after spoken none done =
+      chosen-kept flight class (departure_any_named airport from nodes time queue) block after (departure_any-has_room airport state flight class from nodes time queue none) done
 
   of-refusal : (why : Refusal) (block : Block) (after : State) → IsOf (refused state why) block after → IsKept block after
   of-refusal why block after of = of-reply (refused state why) block after of (refused-kept why)
@@ -216,6 +238,8 @@ needs_no_memory-or (Some (command.Occupancy segment)) = inr (λ needs. needs)
 needs_no_memory-or (Some command.Timetable) = inr (λ needs. needs)
 needs_no_memory-or (Some (command.Work name segment from until)) = inr (λ needs. needs)
 needs_no_memory-or (Some (command.WorkDone name)) = inl tt
+needs_no_memory-or (Some (command.ArrivalAny flight class from time hold stands)) = inr (λ needs. needs)
+needs_no_memory-or (Some (command.DepartureAny flight class from time queue nodes)) = inr (λ needs. needs)
 
 cancel-due : (airport : Airport) (state : State) (name : List ℕ) → (reply : Reply) × IsDueTo airport state (command.Cancel name) reply.block reply.after
 cancel-due airport state name = go (is_in_force name state) refl where
@@ -254,20 +278,24 @@ reply-is_there airport state line = go (command_of line) refl where
     by_due (Some (command.Occupancy segment)) e needs = absurd needs
     by_due (Some command.Timetable) e needs = absurd needs
     by_due (Some (command.Work name segment from until)) e needs = absurd needs
+    by_due (Some (command.ArrivalAny flight class from time hold stands)) e needs = absurd needs
+    by_due (Some (command.DepartureAny flight class from time queue nodes)) e needs = absurd needs
     by_due (Some (command.WorkDone name)) e needs =
         let due = work_done-due airport state name in
         (due.0, as_due due.0.block due.0.after (due-command airport state line (command.WorkDone name) due.0.block due.0.after e due.1))
 
--- a line that files a route is none that needs no memory
-pub IsFile-memory : (c : Command) → IsFile c → NeedsNoMemory (Some c) → ⊥
-IsFile-memory (command.File flight class start steps) file needs = needs
-IsFile-memory (command.Arrival flight class from to time hold) file needs = file
-IsFile-memory (command.Departure flight class from to time queue) file needs = file
-IsFile-memory (command.Cancel flight) file needs = file
-IsFile-memory (command.Reroute flight time) file needs = file
-IsFile-memory (command.Divert flight time node) file needs = file
-IsFile-memory (command.Windows segment) file needs = file
-IsFile-memory (command.Occupancy segment) file needs = file
-IsFile-memory command.Timetable file needs = file
-IsFile-memory (command.Work name segment from until) file needs = file
-IsFile-memory (command.WorkDone name) file needs = file
+-- a line that ends in a list is none that needs no memory
+pub EndsInList-memory : (c : Command) → EndsInList c → NeedsNoMemory (Some c) → ⊥
+EndsInList-memory (command.File flight class start steps) file needs = needs
+EndsInList-memory (command.Arrival flight class from to time hold) file needs = file
+EndsInList-memory (command.Departure flight class from to time queue) file needs = file
+EndsInList-memory (command.Cancel flight) file needs = file
+EndsInList-memory (command.Reroute flight time) file needs = file
+EndsInList-memory (command.Divert flight time node) file needs = file
+EndsInList-memory (command.Windows segment) file needs = file
+EndsInList-memory (command.Occupancy segment) file needs = file
+EndsInList-memory command.Timetable file needs = file
+EndsInList-memory (command.Work name segment from until) file needs = file
+EndsInList-memory (command.WorkDone name) file needs = file
+EndsInList-memory (command.ArrivalAny flight class from time hold stands) file needs = needs
+EndsInList-memory (command.DepartureAny flight class from time queue nodes) file needs = needs

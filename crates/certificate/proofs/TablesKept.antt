@@ -1,5 +1,5 @@
 -- The table of what is found keeps the rules, and a table that keeps them leaves no walk out.
-use Rattle.std.proofs.Common.{◌≡◌, ℕ, ◌+◌, ◌-◌, ◌≤◌, max, List, [], ◌∷◌, Option, Some, None, refl, sym, subst}
+use Rattle.std.proofs.Common.{◌≡◌, ℕ, ◌+◌, ◌-◌, ◌≤◌, max, List, [], ◌∷◌, Option, Some, None, refl, sym, subst, arith}
 use Rattle.std.specs.Prelude.{MatchOption, ⊤}
 use Rattle.std.specs.Option.{option_map_or}
 use Rattle.taxi_base.specs.declared.numbers.Node.{Node}
@@ -10,7 +10,7 @@ use Rattle.taxi_base.specs.declared.answers.Found.TheVariants as found
 use Rattle.taxi_base.specs.declared.answers.Request.{Request}
 use Rattle.taxi_base.specs.declared.answers.Request.TheVariants as request
 use Rattle.taxi_base.specs.Airport.{layout_of}
-use Rattle.taxi_base.specs.Walks.{Conditions, IsFeasibleWalk, IsRoute, ReachesNode, LeavesNodeWithin, Resumes, Meets, begin_of, end_of}
+use Rattle.taxi_base.specs.Walks.{Conditions, IsFeasibleWalk, IsRoute, ReachesNode, LeavesNodeWithin, Resumes, begin_of, end_of}
 use Rattle.taxi_base.specs.Labels.{AnswersArrival}
 use Rattle.taxi_base.specs.State.{step_begun, steps_done, IsResumed}
 use Rattle.taxi_base.specs.Again.{retargeted, IsBestFor, after_steps, AnswersAgain}
@@ -19,24 +19,29 @@ use Rattle.walk_labels.specs.Requests.{Beginning}
 use Rattle.walk_labels.specs.Requests.Beginning.{at_node, resuming}
 use Rattle.walk_labels.specs.Rules.{IsStartBy, PassesForward, PassesArrival}
 use Rattle.walk_labels.specs.BackwardRules.{IsFinishAt, PassesBackward}
-use Rattle.walk_labels.proofs.CheckedArrivals.{begun_answer_passes, begun_none_sooner, begun_none_at_all, resumed_none_sooner, resumed_none_at_all}
-use Rattle.walk_labels.proofs.CheckedDepartures.{node_answer_passes, ended_none_later, ended_none_at_all}
+use Rattle.walk_labels.proofs.CheckedArrivals.{begun_table_passes, begun_answer_passes, begun_none_sooner, begun_none_at_all, resumed_none_sooner, resumed_none_at_all}
+use Rattle.walk_labels.proofs.CheckedDepartures.{ended_table_passes, node_answer_passes, ended_none_later, ended_none_at_all}
 use Rattle.walk_labels.proofs.FrozenWalks.{end_of-after, step_begun_made, begun_leaves}
-use Rattle.certificate.specs.Asked.{AnswersRequest}
+use Rattle.taxi_base.specs.declared.answers.Chosen.{Chosen}
+use Rattle.taxi_base.specs.declared.answers.Chosen.TheVariants as chosen
+use Rattle.taxi_base.specs.Choices.{AnswersArrivalChoice, AnswersDepartureChoice}
+use Rattle.taxi_base.proofs.ChoiceLaws.{chosen-earliest, chosen-latest}
+use Rattle.certificate.specs.Asked.{AnswersRequest, Choice, arrival_any, departure_any, nodes_of, request_for, AnswersChoice}
 use Rattle.certificate.specs.CarriedOut.{second_of}
-use Rattle.certificate.specs.Sought.{UnderWay, Search, onward, backward, search_of, IsWalkOnFor}
+use Rattle.certificate.specs.Sought.{UnderWay, Search, onward, backward, search_of, MeetsOneOf, IsWalkOnFor}
 use Rattle.certificate.specs.TableRules.{KeepsTable}
-use Rattle.certificate.proofs.FoundLaws.{labels_of}
+use Rattle.certificate.proofs.FoundLaws.{labels_of, labels_of_chosen}
+use Rattle.certificate.proofs.ChoiceNames.{arrival-one, departure-one}
 
 -- ---- the rules, one after the other and at once
 
-from_forward : (c : Conditions) (b : Beginning) (to : Node) (bound : Option ℕ) (rows : List LabelRow) → PassesForward c (IsStartBy c b) (to ∷ []) bound rows
+from_forward : (c : Conditions) (b : Beginning) (to : List Node) (bound : Option ℕ) (rows : List LabelRow) → PassesForward c (IsStartBy c b) to bound rows
     → KeepsTable c (onward b to) bound rows
 from_forward c b to bound rows p =
     record { rows_kept = (p.ordered, p.at_places); start_kept = p.starts_in; step_kept = p.next_in; target_kept = (p.none_reaches, p.short) }
 
-to_forward : (c : Conditions) (b : Beginning) (to : Node) (bound : Option ℕ) (rows : List LabelRow) → KeepsTable c (onward b to) bound rows
-    → PassesForward c (IsStartBy c b) (to ∷ []) bound rows
+to_forward : (c : Conditions) (b : Beginning) (to : List Node) (bound : Option ℕ) (rows : List LabelRow) → KeepsTable c (onward b to) bound rows
+    → PassesForward c (IsStartBy c b) to bound rows
 to_forward c b to bound rows p = record {
   ordered = p.rows_kept.0;
   at_places = p.rows_kept.1;
@@ -46,13 +51,13 @@ to_forward c b to bound rows p = record {
   short = p.target_kept.1;
 }
 
-from_backward : (c : Conditions) (from to : Node) (earliest latest : ℕ) (bound : Option ℕ) (rows : List LabelRow)
-    → PassesBackward c (IsFinishAt c (to ∷ []) earliest latest) from bound rows → KeepsTable c (backward from to earliest latest) bound rows
+from_backward : (c : Conditions) (from : Node) (to : List Node) (earliest latest : ℕ) (bound : Option ℕ) (rows : List LabelRow)
+    → PassesBackward c (IsFinishAt c to earliest latest) from bound rows → KeepsTable c (backward from to earliest latest) bound rows
 from_backward c from to earliest latest bound rows p =
     record { rows_kept = (p.ordered, p.at_places); start_kept = p.finishes_in; step_kept = p.previous_in; target_kept = (p.none_leaves, p.short) }
 
-to_backward : (c : Conditions) (from to : Node) (earliest latest : ℕ) (bound : Option ℕ) (rows : List LabelRow)
-    → KeepsTable c (backward from to earliest latest) bound rows → PassesBackward c (IsFinishAt c (to ∷ []) earliest latest) from bound rows
+to_backward : (c : Conditions) (from : Node) (to : List Node) (earliest latest : ℕ) (bound : Option ℕ) (rows : List LabelRow)
+    → KeepsTable c (backward from to earliest latest) bound rows → PassesBackward c (IsFinishAt c to earliest latest) from bound rows
 to_backward c from to earliest latest bound rows p = record {
   ordered = p.rows_kept.0;
   at_places = p.rows_kept.1;
@@ -69,6 +74,10 @@ abbrev pub bound_of : Request → Found → Option ℕ
 bound_of request (found.Route steps labels) = Some (second_of request steps)
 bound_of request (found.NoRoute labels) = None
 
+abbrev pub bound_of_chosen : Choice → Chosen → Option ℕ
+bound_of_chosen choice (chosen.Route to steps labels) = Some (second_of (request_for choice to) steps)
+bound_of_chosen choice (chosen.NoRoute labels) = None
+
 abbrev pub HasKeptTable : Conditions → Option Search → Option ℕ → List LabelRow → Type 0
 HasKeptTable c search bound labels = MatchOption search ⊥ (λ s. KeepsTable c s bound labels)
 
@@ -79,16 +88,46 @@ IsBefore old time (request.Arrival from to asked hold) = time ≤ end_of old
 IsBefore old time (request.Departure from to asked queue) = ⊤
 
 module _ (c : Conditions) (fit : AreFit c) where
-  pub new-table : (request : Request) (answer : Found) → AnswersRequest c request answer → HasKeptTable c (search_of request None) (bound_of request answer) (labels_of answer)
+  pub new-table : (request : Request) (answer : Found) → AnswersRequest c request answer → HasKeptTable c (search_of request [] None) (bound_of request answer) (labels_of answer)
   new-table request.Filed answer answers = absurd answers
   new-table (request.Arrival from to time hold) (found.Route steps labels) answers =
-      from_forward c (at_node from time (time + hold)) to (Some (end_of steps)) labels (begun_answer_passes c fit (at_node from time (time + hold)) tt tt to (found.Route steps labels) answers)
+      from_forward c (at_node from time (time + hold)) (to ∷ []) (Some (end_of steps)) labels (begun_answer_passes c fit (at_node from time (time + hold)) tt tt to (found.Route steps labels) answers)
   new-table (request.Arrival from to time hold) (found.NoRoute labels) answers =
-      from_forward c (at_node from time (time + hold)) to None labels (begun_answer_passes c fit (at_node from time (time + hold)) tt tt to (found.NoRoute labels) answers)
+      from_forward c (at_node from time (time + hold)) (to ∷ []) None labels (begun_answer_passes c fit (at_node from time (time + hold)) tt tt to (found.NoRoute labels) answers)
   new-table (request.Departure from to time queue) (found.Route steps labels) answers =
-      from_backward c from to (time - queue) time (Some (begin_of steps)) labels (node_answer_passes c fit from to (time - queue) time (found.Route steps labels) answers)
+      from_backward c from (to ∷ []) (time - queue) time (Some (begin_of steps)) labels (node_answer_passes c fit from to (time - queue) time (found.Route steps labels) answers)
   new-table (request.Departure from to time queue) (found.NoRoute labels) answers =
-      from_backward c from to (time - queue) time None labels (node_answer_passes c fit from to (time - queue) time (found.NoRoute labels) answers)
+      from_backward c from (to ∷ []) (time - queue) time None labels (node_answer_passes c fit from to (time - queue) time (found.NoRoute labels) answers)
+
+  -- of a choice of nodes
+  pub arrival-choice-table : (from : Node) (to : List Node) (time hold : ℕ) (answer : Chosen) → AnswersArrivalChoice c (LeavesNodeWithin (layout_of c.airport) from time (time + hold)) to answer
+      → KeepsTable c (onward (at_node from time (time + hold)) to) (bound_of_chosen (arrival_any from to time hold) answer) (labels_of_chosen answer)
+  arrival-choice-table from to time hold (chosen.Route node steps labels) answers =
+      let best = chosen-earliest c (LeavesNodeWithin (layout_of c.airport) from time (time + hold)) to node steps labels answers in
+      from_forward c (at_node from time (time + hold)) to (Some (end_of steps)) labels
+      (begun_table_passes c fit (at_node from time (time + hold)) tt tt to (Some (end_of steps)) labels answers.1.2 (λ others route below. omega (arith, best.earliest others route, below)))
+  arrival-choice-table from to time hold (chosen.NoRoute labels) answers =
+      from_forward c (at_node from time (time + hold)) to None labels
+      (begun_table_passes c fit (at_node from time (time + hold)) tt tt to None labels answers.1 (λ others route below. answers.0 others route))
+
+  pub departure-choice-table : (from : Node) (to : List Node) (time queue : ℕ) (answer : Chosen) → AnswersDepartureChoice c from to (time - queue) time answer
+      → KeepsTable c (backward from to (time - queue) time) (bound_of_chosen (departure_any from to time queue) answer) (labels_of_chosen answer)
+  departure-choice-table from to time queue (chosen.Route node steps labels) answers =
+      let best = chosen-latest c from to (time - queue) time node steps labels answers in
+      from_backward c from to (time - queue) time (Some (begin_of steps)) labels
+      (ended_table_passes c fit to (time - queue) time from (Some (begin_of steps)) labels answers.3 (λ others route above. omega (arith, best.latest others route, above)))
+  departure-choice-table from to time queue (chosen.NoRoute labels) answers =
+      from_backward c from to (time - queue) time None labels (ended_table_passes c fit to (time - queue) time from None labels answers.1 (λ others route above. answers.0 others route))
+
+  -- the table of what is chosen of the node and the others
+  pub choice-table : (choice : Choice) (node : Node) (others : List Node) → nodes_of choice ≡ node ∷ others → (answer : Chosen) → AnswersChoice c choice answer
+      → HasKeptTable c (search_of (request_for choice node) others None) (bound_of_chosen choice answer) (labels_of_chosen answer)
+  choice-table (arrival_any from to time hold) node others are answer answers =
+      subst (λ (ns : List Node). KeepsTable c (onward (at_node from time (time + hold)) ns) (bound_of_chosen (arrival_any from to time hold) answer) (labels_of_chosen answer)) are
+      (arrival-choice-table from to time hold answer answers)
+  choice-table (departure_any from to time queue) node others are answer answers =
+      subst (λ (ns : List Node). KeepsTable c (backward from ns (time - queue) time) (bound_of_chosen (departure_any from to time queue) answer) (labels_of_chosen answer)) are
+      (departure-choice-table from to time queue answer answers)
 
   module _ (old : List Step) (walk : IsFeasibleWalk c old) (time : ℕ) where
     -- of an arrival under way
@@ -97,52 +136,52 @@ module _ (c : Conditions) (fit : AreFit c) where
       at_start = at_node from (max asked time) (asked + hold)
 
       rest-table : (begun : Step) → step_begun time old ≡ Some begun → (answer rest : Found) → answer ≡ after_steps (steps_done time old) rest
-          → AnswersArrival c (Resumes begun time) target rest → KeepsTable c (onward (resuming begun time) target) (bound_of (request.Arrival from target asked hold) answer) (labels_of answer)
+          → AnswersArrival c (Resumes begun time) target rest → KeepsTable c (onward (resuming begun time) (target ∷ [])) (bound_of (request.Arrival from target asked hold) answer) (labels_of answer)
       rest-table begun is answer rest e answers =
-          subst (λ a. KeepsTable c (onward (resuming begun time) target) (bound_of (request.Arrival from target asked hold) a) (labels_of a)) (sym e)
+          subst (λ a. KeepsTable c (onward (resuming begun time) (target ∷ [])) (bound_of (request.Arrival from target asked hold) a) (labels_of a)) (sym e)
           (go rest answers (begun_answer_passes c fit (resuming begun time) (step_begun_made c old walk time begun is) (begun_leaves c fit time begun old walk is before) target rest answers))
         where
           go : (rest : Found) → AnswersArrival c (Resumes begun time) target rest → PassesArrival c (IsStartBy c (resuming begun time)) (target ∷ []) rest
-              → KeepsTable c (onward (resuming begun time) target) (bound_of (request.Arrival from target asked hold) (after_steps (steps_done time old) rest)) (labels_of (after_steps (steps_done time old) rest))
+              → KeepsTable c (onward (resuming begun time) (target ∷ [])) (bound_of (request.Arrival from target asked hold) (after_steps (steps_done time old) rest)) (labels_of (after_steps (steps_done time old) rest))
           go (found.Route [] labels) answers passes = absurd answers.0.one.walk
           go (found.Route (t ∷ steps) labels) answers passes =
-              subst (λ n. KeepsTable c (onward (resuming begun time) target) (Some n) labels) (sym (end_of-after (steps_done time old) t steps))
-              (from_forward c (resuming begun time) target (Some (end_of (t ∷ steps))) labels passes)
-          go (found.NoRoute labels) answers passes = from_forward c (resuming begun time) target None labels passes
+              subst (λ n. KeepsTable c (onward (resuming begun time) (target ∷ [])) (Some n) labels) (sym (end_of-after (steps_done time old) t steps))
+              (from_forward c (resuming begun time) (target ∷ []) (Some (end_of (t ∷ steps))) labels passes)
+          go (found.NoRoute labels) answers passes = from_forward c (resuming begun time) (target ∷ []) None labels passes
 
       under_way-table : (answer : Found) → AnswersAgain c old time target (request.Arrival from target asked hold) answer
-          → HasKeptTable c (search_of (request.Arrival from target asked hold) (Some (record { steps = old; time = time }))) (bound_of (request.Arrival from target asked hold) answer) (labels_of answer)
+          → HasKeptTable c (search_of (request.Arrival from target asked hold) [] (Some (record { steps = old; time = time }))) (bound_of (request.Arrival from target asked hold) answer) (labels_of answer)
       under_way-table answer answers = go (step_begun time old) refl answers where
         go : (o : Option Step) → step_begun time old ≡ o → MatchOption o
             (AnswersArrival c (LeavesNodeWithin (layout_of c.airport) from (max asked time) (asked + hold)) target answer)
             (λ begun. (rest : Found) × (answer ≡ after_steps (steps_done time old) rest) × AnswersArrival c (Resumes begun time) target rest)
-            → KeepsTable c (onward (option_map_or (λ begun. resuming begun time) o at_start) target) (bound_of (request.Arrival from target asked hold) answer) (labels_of answer)
+            → KeepsTable c (onward (option_map_or (λ begun. resuming begun time) o at_start) (target ∷ [])) (bound_of (request.Arrival from target asked hold) answer) (labels_of answer)
         go None e answers = at_node_table answer answers where
           at_node_table : (answer : Found) → AnswersArrival c (LeavesNodeWithin (layout_of c.airport) from (max asked time) (asked + hold)) target answer
-              → KeepsTable c (onward at_start target) (bound_of (request.Arrival from target asked hold) answer) (labels_of answer)
-          at_node_table (found.Route steps labels) answers = from_forward c at_start target (Some (end_of steps)) labels (begun_answer_passes c fit at_start tt tt target (found.Route steps labels) answers)
-          at_node_table (found.NoRoute labels) answers = from_forward c at_start target None labels (begun_answer_passes c fit at_start tt tt target (found.NoRoute labels) answers)
+              → KeepsTable c (onward at_start (target ∷ [])) (bound_of (request.Arrival from target asked hold) answer) (labels_of answer)
+          at_node_table (found.Route steps labels) answers = from_forward c at_start (target ∷ []) (Some (end_of steps)) labels (begun_answer_passes c fit at_start tt tt target (found.Route steps labels) answers)
+          at_node_table (found.NoRoute labels) answers = from_forward c at_start (target ∷ []) None labels (begun_answer_passes c fit at_start tt tt target (found.NoRoute labels) answers)
         go (Some begun) e answers = rest-table begun e answer answers.0 answers.1 answers.2
 
     -- what is found anew, with the node that is meant
     pub again-table : (target : Node) (request : Request) → IsBefore old time request → (answer : Found) → AnswersAgain c old time target request answer
-        → HasKeptTable c (search_of (retargeted request target) (Some (record { steps = old; time = time }))) (bound_of (retargeted request target) answer) (labels_of answer)
+        → HasKeptTable c (search_of (retargeted request target) [] (Some (record { steps = old; time = time }))) (bound_of (retargeted request target) answer) (labels_of answer)
     again-table target request.Filed before answer answers = absurd answers
     again-table target (request.Arrival from to asked hold) before answer answers = under_way-table before from target asked hold answer answers
     again-table target (request.Departure from to asked queue) before (found.Route steps labels) answers =
-        from_backward c from target (asked - queue) asked (Some (begin_of steps)) labels (node_answer_passes c fit from target (asked - queue) asked (found.Route steps labels) answers)
+        from_backward c from (target ∷ []) (asked - queue) asked (Some (begin_of steps)) labels (node_answer_passes c fit from target (asked - queue) asked (found.Route steps labels) answers)
     again-table target (request.Departure from to asked queue) before (found.NoRoute labels) answers =
-        from_backward c from target (asked - queue) asked None labels (node_answer_passes c fit from target (asked - queue) asked (found.NoRoute labels) answers)
+        from_backward c from (target ∷ []) (asked - queue) asked None labels (node_answer_passes c fit from target (asked - queue) asked (found.NoRoute labels) answers)
 
 -- ---- what a table leaves out
 
--- a flight under way has a feasible walk
-abbrev pub IsUnderWay : Conditions → Option UnderWay → Type 0
-IsUnderWay c None = ⊤
-IsUnderWay c (Some way) = IsFeasibleWalk c way.steps
+-- a flight under way has a feasible walk, and seeks one node alone
+abbrev pub IsUnderWay : Conditions → List Node → Option UnderWay → Type 0
+IsUnderWay c others None = ⊤
+IsUnderWay c others (Some way) = (others ≡ []) × IsFeasibleWalk c way.steps
 
-abbrev IsMeant : Conditions → Request → Option UnderWay → List Step → Type 0
-IsMeant c request way steps = MatchOption way (Meets c request steps) (λ w. IsWalkOnFor c request w steps)
+abbrev IsMeant : Conditions → Request → List Node → Option UnderWay → List Step → Type 0
+IsMeant c request others way steps = MatchOption way (MeetsOneOf c request others steps) (λ w. IsWalkOnFor c request w steps)
 
 -- a walk is no better than a second
 abbrev IsNoBetter : Request → ℕ → List Step → Type 0
@@ -151,52 +190,64 @@ IsNoBetter (request.Arrival from to asked hold) second steps = second ≤ end_of
 IsNoBetter (request.Departure from to asked queue) second steps = begin_of steps ≤ second
 
 module _ (c : Conditions) (fit : AreFit c) where
-  table-sooner : (request : Request) (way : Option UnderWay) → IsUnderWay c way → (second : ℕ) (labels : List LabelRow) → HasKeptTable c (search_of request way) (Some second) labels
-      → (steps : List Step) → IsMeant c request way steps → IsNoBetter request second steps
-  table-sooner request.Filed way walk second labels kept steps meant = tt
-  table-sooner (request.Arrival from to asked hold) None walk second labels kept steps meant =
-      begun_none_sooner c fit (at_node from asked (asked + hold)) tt (to ∷ []) second labels (to_forward c (at_node from asked (asked + hold)) to (Some second) labels kept) steps meant
-  table-sooner (request.Arrival from to asked hold) (Some way) walk second labels kept steps meant = go (step_begun way.time way.steps) refl kept meant where
-    at_start : Beginning
-    at_start = at_node from (max asked way.time) (asked + hold)
+  table-sooner : (request : Request) (others : List Node) (way : Option UnderWay) → IsUnderWay c others way → (second : ℕ) (labels : List LabelRow)
+      → HasKeptTable c (search_of request others way) (Some second) labels → (steps : List Step) → IsMeant c request others way steps → IsNoBetter request second steps
+  table-sooner request.Filed others way walk second labels kept steps meant = tt
+  table-sooner (request.Arrival from to asked hold) others None walk second labels kept steps meant =
+      begun_none_sooner c fit (at_node from asked (asked + hold)) tt (to ∷ others) second labels (to_forward c (at_node from asked (asked + hold)) (to ∷ others) (Some second) labels kept) steps
+      (arrival-one c from to others asked hold steps meant)
+  table-sooner (request.Arrival from to asked hold) others (Some way) walk second labels kept steps meant =
+      go (step_begun way.time way.steps) refl
+      (subst (λ (ns : List Node). KeepsTable c (onward (option_map_or (λ begun. resuming begun way.time) (step_begun way.time way.steps) at_start) (to ∷ ns)) (Some second) labels) walk.0 kept) meant
+    where
+      at_start : Beginning
+      at_start = at_node from (max asked way.time) (asked + hold)
 
-    go : (o : Option Step) → step_begun way.time way.steps ≡ o → KeepsTable c (onward (option_map_or (λ begun. resuming begun way.time) o at_start) to) (Some second) labels
-        → MatchOption o (IsRoute c (LeavesNodeWithin (layout_of c.airport) from (max asked way.time) (asked + hold)) (ReachesNode (layout_of c.airport) to) steps)
-        (λ begun. IsResumed c (steps_done way.time way.steps) begun way.time to steps) → second ≤ end_of steps
-    go None e kept meant = begun_none_sooner c fit at_start tt (to ∷ []) second labels (to_forward c at_start to (Some second) labels kept) steps meant
-    go (Some begun) e kept meant =
-        resumed_none_sooner c fit way.steps walk way.time begun e to second labels (to_forward c (resuming begun way.time) to (Some second) labels kept) steps meant
-  table-sooner (request.Departure from to asked queue) None walk second labels kept steps meant =
-      ended_none_later c fit (to ∷ []) (asked - queue) asked from second labels (to_backward c from to (asked - queue) asked (Some second) labels kept) steps meant
-  table-sooner (request.Departure from to asked queue) (Some way) walk second labels kept steps meant =
-      ended_none_later c fit (to ∷ []) (asked - queue) asked from second labels (to_backward c from to (asked - queue) asked (Some second) labels kept) steps meant
+      go : (o : Option Step) → step_begun way.time way.steps ≡ o → KeepsTable c (onward (option_map_or (λ begun. resuming begun way.time) o at_start) (to ∷ [])) (Some second) labels
+          → MatchOption o (IsRoute c (LeavesNodeWithin (layout_of c.airport) from (max asked way.time) (asked + hold)) (ReachesNode (layout_of c.airport) to) steps)
+          (λ begun. IsResumed c (steps_done way.time way.steps) begun way.time to steps) → second ≤ end_of steps
+      go None e kept meant = begun_none_sooner c fit at_start tt (to ∷ []) second labels (to_forward c at_start (to ∷ []) (Some second) labels kept) steps meant
+      go (Some begun) e kept meant =
+          resumed_none_sooner c fit way.steps walk.1 way.time begun e to second labels (to_forward c (resuming begun way.time) (to ∷ []) (Some second) labels kept) steps meant
+  table-sooner (request.Departure from to asked queue) others None walk second labels kept steps meant =
+      ended_none_later c fit (to ∷ others) (asked - queue) asked from second labels (to_backward c from (to ∷ others) (asked - queue) asked (Some second) labels kept) steps
+      (departure-one c from to others asked queue steps meant)
+  table-sooner (request.Departure from to asked queue) others (Some way) walk second labels kept steps meant =
+      ended_none_later c fit (to ∷ []) (asked - queue) asked from second labels
+      (to_backward c from (to ∷ []) (asked - queue) asked (Some second) labels (subst (λ (ns : List Node). KeepsTable c (backward from (to ∷ ns) (asked - queue) asked) (Some second) labels) walk.0 kept)) steps meant
 
   -- where there is no bound there is no walk that is sought
-  pub table-none : (request : Request) (way : Option UnderWay) → IsUnderWay c way → (labels : List LabelRow) → HasKeptTable c (search_of request way) None labels
-      → (steps : List Step) → IsMeant c request way steps → ⊥
-  table-none request.Filed way walk labels kept steps meant = kept
-  table-none (request.Arrival from to asked hold) None walk labels kept steps meant =
-      begun_none_at_all c fit (at_node from asked (asked + hold)) tt (to ∷ []) labels (to_forward c (at_node from asked (asked + hold)) to None labels kept) steps meant
-  table-none (request.Arrival from to asked hold) (Some way) walk labels kept steps meant = go (step_begun way.time way.steps) refl kept meant where
-    at_start : Beginning
-    at_start = at_node from (max asked way.time) (asked + hold)
+  pub table-none : (request : Request) (others : List Node) (way : Option UnderWay) → IsUnderWay c others way → (labels : List LabelRow)
+      → HasKeptTable c (search_of request others way) None labels → (steps : List Step) → IsMeant c request others way steps → ⊥
+  table-none request.Filed others way walk labels kept steps meant = kept
+  table-none (request.Arrival from to asked hold) others None walk labels kept steps meant =
+      begun_none_at_all c fit (at_node from asked (asked + hold)) tt (to ∷ others) labels (to_forward c (at_node from asked (asked + hold)) (to ∷ others) None labels kept) steps
+      (arrival-one c from to others asked hold steps meant)
+  table-none (request.Arrival from to asked hold) others (Some way) walk labels kept steps meant =
+      go (step_begun way.time way.steps) refl
+      (subst (λ (ns : List Node). KeepsTable c (onward (option_map_or (λ begun. resuming begun way.time) (step_begun way.time way.steps) at_start) (to ∷ ns)) None labels) walk.0 kept) meant
+    where
+      at_start : Beginning
+      at_start = at_node from (max asked way.time) (asked + hold)
 
-    go : (o : Option Step) → step_begun way.time way.steps ≡ o → KeepsTable c (onward (option_map_or (λ begun. resuming begun way.time) o at_start) to) None labels
-        → MatchOption o (IsRoute c (LeavesNodeWithin (layout_of c.airport) from (max asked way.time) (asked + hold)) (ReachesNode (layout_of c.airport) to) steps)
-        (λ begun. IsResumed c (steps_done way.time way.steps) begun way.time to steps) → ⊥
-    go None e kept meant = begun_none_at_all c fit at_start tt (to ∷ []) labels (to_forward c at_start to None labels kept) steps meant
-    go (Some begun) e kept meant =
-        resumed_none_at_all c fit way.steps walk way.time begun e to labels (to_forward c (resuming begun way.time) to None labels kept) steps meant
-  table-none (request.Departure from to asked queue) None walk labels kept steps meant =
-      ended_none_at_all c fit (to ∷ []) (asked - queue) asked from labels (to_backward c from to (asked - queue) asked None labels kept) steps meant
-  table-none (request.Departure from to asked queue) (Some way) walk labels kept steps meant =
-      ended_none_at_all c fit (to ∷ []) (asked - queue) asked from labels (to_backward c from to (asked - queue) asked None labels kept) steps meant
+      go : (o : Option Step) → step_begun way.time way.steps ≡ o → KeepsTable c (onward (option_map_or (λ begun. resuming begun way.time) o at_start) (to ∷ [])) None labels
+          → MatchOption o (IsRoute c (LeavesNodeWithin (layout_of c.airport) from (max asked way.time) (asked + hold)) (ReachesNode (layout_of c.airport) to) steps)
+          (λ begun. IsResumed c (steps_done way.time way.steps) begun way.time to steps) → ⊥
+      go None e kept meant = begun_none_at_all c fit at_start tt (to ∷ []) labels (to_forward c at_start (to ∷ []) None labels kept) steps meant
+      go (Some begun) e kept meant =
+          resumed_none_at_all c fit way.steps walk.1 way.time begun e to labels (to_forward c (resuming begun way.time) (to ∷ []) None labels kept) steps meant
+  table-none (request.Departure from to asked queue) others None walk labels kept steps meant =
+      ended_none_at_all c fit (to ∷ others) (asked - queue) asked from labels (to_backward c from (to ∷ others) (asked - queue) asked None labels kept) steps
+      (departure-one c from to others asked queue steps meant)
+  table-none (request.Departure from to asked queue) others (Some way) walk labels kept steps meant =
+      ended_none_at_all c fit (to ∷ []) (asked - queue) asked from labels
+      (to_backward c from (to ∷ []) (asked - queue) asked None labels (subst (λ (ns : List Node). KeepsTable c (backward from (to ∷ ns) (asked - queue) asked) None labels) walk.0 kept)) steps meant
 
   -- a walk that is sought is the best one, where its second is the bound of a table that keeps the rules
-  pub table-best : (request : Request) (way : Option UnderWay) → IsUnderWay c way → (steps : List Step) (labels : List LabelRow) → IsMeant c request way steps
-      → HasKeptTable c (search_of request way) (Some (second_of request steps)) labels → IsBestFor request (IsMeant c request way) steps
-  table-best request.Filed way walk steps labels one kept = kept
-  table-best (request.Arrival from to asked hold) way walk steps labels one kept =
-      record { one = one; earliest = λ others meant. table-sooner (request.Arrival from to asked hold) way walk (end_of steps) labels kept others meant }
-  table-best (request.Departure from to asked queue) way walk steps labels one kept =
-      record { one = one; latest = λ others meant. table-sooner (request.Departure from to asked queue) way walk (begin_of steps) labels kept others meant }
+  pub table-best : (request : Request) (others : List Node) (way : Option UnderWay) → IsUnderWay c others way → (steps : List Step) (labels : List LabelRow) → IsMeant c request others way steps
+      → HasKeptTable c (search_of request others way) (Some (second_of request steps)) labels → IsBestFor request (IsMeant c request others way) steps
+  table-best request.Filed others way walk steps labels one kept = kept
+  table-best (request.Arrival from to asked hold) others way walk steps labels one kept =
+      record { one = one; earliest = λ walks meant. table-sooner (request.Arrival from to asked hold) others way walk (end_of steps) labels kept walks meant }
+  table-best (request.Departure from to asked queue) others way walk steps labels one kept =
+      record { one = one; latest = λ walks meant. table-sooner (request.Departure from to asked queue) others way walk (begin_of steps) labels kept walks meant }

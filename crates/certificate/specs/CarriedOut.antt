@@ -12,6 +12,8 @@ use Rattle.taxi_base.specs.declared.answers.Flight.{Flight}
 use Rattle.taxi_base.specs.declared.answers.Party.{Party}
 use Rattle.taxi_base.specs.declared.answers.Found.{Found}
 use Rattle.taxi_base.specs.declared.answers.Found.TheVariants as found
+use Rattle.taxi_base.specs.declared.answers.Chosen.{Chosen}
+use Rattle.taxi_base.specs.declared.answers.Chosen.TheVariants as chosen
 use Rattle.taxi_base.specs.Airport.{Airport, node_named, class_named, segment_named}
 use Rattle.taxi_base.specs.Windows.{is_free, windows_before}
 use Rattle.taxi_base.specs.Walks.{begin_of, end_of}
@@ -24,7 +26,7 @@ use Rattle.taxi_text.specs.declared.command.Command.{Command}
 use Rattle.taxi_text.specs.declared.command.Command.TheVariants as command
 use Rattle.certificate.specs.declared.block.Block.{Block}
 use Rattle.certificate.specs.declared.block.Block.TheVariants.{Filed, Cancelled, Route, NoRoute, Windows, Occupancy, Timetable}
-use Rattle.certificate.specs.Asked.{filed_steps, party_of, arrival_named, departure_named, AnswersRequest}
+use Rattle.certificate.specs.Asked.{filed_steps, party_of, arrival_named, departure_named, AnswersRequest, Choice, request_for, arrival_any_named, departure_any_named, AnswersChoice}
 
 -- what is answered, and the state afterwards
 pub record Reply : Type 0 where
@@ -77,6 +79,24 @@ pub record IsRouted (airport : Airport) (state : State) (name class_name : List 
   pub found : Found
   pub answers : AnswersRequest (conditions_in airport class state) request found
   pub reply : IsOf (found_reply state name request (λ steps. with_flight (routed_flight name class request steps) state) found) block after
+
+-- A route to the chosen node is in force afterwards, with that node as the one that was asked for.
+abbrev pub chosen_reply : State → List ℕ → Class → Choice → Chosen → Reply
+chosen_reply state name class choice (chosen.Route to steps labels) = record {
+  block = Route name (second_of (request_for choice to) steps) steps labels;
+  after = with_flight (routed_flight name class (request_for choice to) steps) state;
+}
+chosen_reply state name class choice (chosen.NoRoute labels) = record { block = NoRoute labels; after = state }
+
+-- a new flight is routed to the best of several nodes, among all holders
+pub record IsRoutedToOne (airport : Airport) (state : State) (name class_name : List ℕ) (asked : Option Choice) (block : Block) (after : State) : Type 0 where
+  pub class : Class
+  pub choice : Choice
+  pub class_known : class_named airport class_name ≡ Some class
+  pub nodes_known : asked ≡ Some choice
+  pub chosen : Chosen
+  pub answers : AnswersChoice (conditions_in airport class state) choice chosen
+  pub reply : IsOf (chosen_reply state name class choice chosen) block after
 
 -- a flight in force is routed anew from a time on, among the others, to a node that is meant
 pub record IsRoutedAgain (airport : Airport) (state : State) (name : List ℕ) (time : ℕ) (IsMeant : Request → Node → Type 0) (block : Block) (after : State) : Type 0 where
@@ -150,3 +170,7 @@ IsCarriedOut airport state (command.Occupancy segment) = IsOccupancyTold airport
 IsCarriedOut airport state command.Timetable = IsOf (timetable_reply state)
 IsCarriedOut airport state (command.Work name segment from until) = IsShut airport state name segment from until
 IsCarriedOut airport state (command.WorkDone name) = IsOf (opened_reply state name)
+IsCarriedOut airport state (command.ArrivalAny flight class from time hold stands) =
+    IsRoutedToOne airport state flight class (arrival_any_named airport from stands time hold)
+IsCarriedOut airport state (command.DepartureAny flight class from time queue nodes) =
+    IsRoutedToOne airport state flight class (departure_any_named airport from nodes time queue)

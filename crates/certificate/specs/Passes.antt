@@ -51,8 +51,8 @@ KeepsWalk s _ = ⊤
 
 -- a rule for the table of a block, whose bound is the second of its route
 abbrev pub OfTable : (Search → Option ℕ → List LabelRow → Type 0) → Sought → Block → Type 0
-OfTable Holds s (Route name second steps labels) = MatchOption (search_of s.request s.under_way) ⊥ (λ search. Holds search (Some second) labels)
-OfTable Holds s (NoRoute labels) = MatchOption (search_of s.request s.under_way) ⊥ (λ search. Holds search None labels)
+OfTable Holds s (Route name second steps labels) = MatchOption (search_of s.request s.others s.under_way) ⊥ (λ search. Holds search (Some second) labels)
+OfTable Holds s (NoRoute labels) = MatchOption (search_of s.request s.others s.under_way) ⊥ (λ search. Holds search None labels)
 OfTable Holds s _ = ⊤
 
 abbrev pub KeepsSought : Rule → Sought → Block → Type 0

@@ -1,6 +1,7 @@
 -- Which refusal is a command due, of several the first?
 use Rattle.std.specs.Prelude.{ℕ, Bool, true, false, not, ◌&&◌, nat_le, if◌then◌else◌, List, [], ◌∷◌, Option, Some, None, is_some, is_none, slice_get, option_map, option_and_then}
 use Rattle.std.specs.Option.{option_map_or}
+use Rattle.std.specs.List.{list_any}
 use Rattle.taxi_base.specs.declared.rows.Kind.{Kind}
 use Rattle.taxi_base.specs.declared.rows.Kind.TheVariants.{Runway, Stand}
 use Rattle.taxi_base.specs.declared.answers.Request.{Request}
@@ -15,7 +16,7 @@ use Rattle.taxi_base.specs.Faults.{route_fault, hold_fault}
 use Rattle.taxi_text.specs.declared.command.FiledStep.{FiledStep}
 use Rattle.taxi_text.specs.declared.command.Command.{Command}
 use Rattle.taxi_text.specs.declared.command.Command.TheVariants as command
-use Rattle.certificate.specs.Asked.{filed_steps, party_of}
+use Rattle.certificate.specs.Asked.{filed_steps, party_of, nodes_named}
 
 -- a refusal where a test holds
 abbrev pub refused_if : Bool → Refusal → Option Refusal
@@ -78,6 +79,13 @@ no_runway airport node = refused_if (not (is_node_of is_runway airport node)) re
 
 abbrev pub no_stand : Airport → List ℕ → Option Refusal
 no_stand airport node = refused_if (not (is_node_of is_stand airport node)) refusal.WrongKind
+
+-- the same of several names
+abbrev pub unknown_node_of : Airport → List (List ℕ) → Option Refusal
+unknown_node_of airport nodes = refused_if (is_none (nodes_named airport nodes)) refusal.UnknownNode
+
+abbrev pub not_all : (Kind → Bool) → Airport → List (List ℕ) → Option Refusal
+not_all is_kind airport nodes = refused_if (list_any (λ node. not (is_node_of is_kind airport node)) nodes) refusal.WrongKind
 
 abbrev pub unknown_segment : Airport → List ℕ → Option Refusal
 unknown_segment airport segment = refused_if (is_none (segment_named airport segment)) refusal.UnknownSegment
@@ -152,3 +160,9 @@ first_refusal airport state command.Timetable = None
 first_refusal airport state (command.Work name segment from until) =
     first_of (in_force state name ∷ unknown_segment airport segment ∷ full state ∷ hold_fails airport state name segment from until ∷ [])
 first_refusal airport state (command.WorkDone name) = first_of (not_at_work state name ∷ [])
+first_refusal airport state (command.ArrivalAny flight class from time hold stands) =
+    first_of (in_force state flight ∷ unknown_class airport class ∷ unknown_node airport from ∷ unknown_node_of airport stands
+    ∷ no_runway airport from ∷ not_all is_stand airport stands ∷ full state ∷ [])
+first_refusal airport state (command.DepartureAny flight class from time queue nodes) =
+    first_of (in_force state flight ∷ unknown_class airport class ∷ unknown_node airport from ∷ unknown_node_of airport nodes
+    ∷ no_stand airport from ∷ not_all is_runway airport nodes ∷ full state ∷ [])

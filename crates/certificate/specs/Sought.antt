@@ -1,5 +1,5 @@
 -- What does a command seek: which walks of which flight, under which conditions, and by what search?
-use Rattle.std.specs.Prelude.{ℕ, ◌+◌, ◌-◌, max, Bool, true, false, List, Option, Some, None, option_map, option_and_then, MatchOption}
+use Rattle.std.specs.Prelude.{ℕ, ◌+◌, ◌-◌, max, Bool, true, false, List, [], ◌∷◌, map, unwrap_or, Option, Some, None, option_map, option_and_then, MatchOption}
 use Rattle.std.specs.Option.{option_map_or}
 use Rattle.taxi_base.specs.declared.numbers.Class.{Class}
 use Rattle.taxi_base.specs.declared.numbers.Node.{Node}
@@ -7,17 +7,18 @@ use Rattle.taxi_base.specs.declared.rows.Step.{Step}
 use Rattle.taxi_base.specs.declared.answers.Request.{Request}
 use Rattle.taxi_base.specs.declared.answers.Request.TheVariants as request
 use Rattle.taxi_base.specs.declared.answers.Flight.{Flight}
-use Rattle.taxi_base.specs.Airport.{Airport, class_named, node_named}
+use Rattle.taxi_base.specs.Airport.{Airport, Layout, layout_of, head, class_named, node_named}
 use Rattle.taxi_base.specs.Walks.{Conditions, Meets}
 use Rattle.taxi_base.specs.State.{State, flight_named, with_flight, with_route, step_begun, conditions_of, IsFrozenWalk}
 use Rattle.taxi_base.specs.Faults.{conditions_in}
+use Rattle.taxi_base.specs.Choices.{OneOf}
 use Rattle.taxi_base.specs.Again.{retargeted}
 use Rattle.taxi_text.specs.declared.command.Command.{Command}
 use Rattle.taxi_text.specs.declared.command.Command.TheVariants as command
 use Rattle.taxi_text.specs.Commands.{command_of}
 use Rattle.walk_labels.specs.Requests.{Beginning}
 use Rattle.walk_labels.specs.Requests.Beginning.{at_node, resuming}
-use Rattle.certificate.specs.Asked.{arrival_named, departure_named}
+use Rattle.certificate.specs.Asked.{arrival_named, departure_named, Choice, nodes_of, request_for, arrival_any_named, departure_any_named}
 use Rattle.certificate.specs.CarriedOut.{routed_flight}
 
 -- a flight in force that is routed anew: its steps, and the time from which on
@@ -25,12 +26,14 @@ pub record UnderWay : Type 0 where
   pub steps : List Step
   pub time : ℕ
 
--- What a command seeks: a walk of the flight of a name that meets a request, with the node that is meant. The flight may be
--- in force. There may be none, or there must be one. With the walk's steps this is the state afterwards.
+-- What a command seeks: a walk of the flight of a name that meets a request, with the node that is meant, or the same request for
+-- one of other nodes. The flight may be in force. There may be none, or there must be one. With the walk's steps this is the state
+-- afterwards.
 pub record Sought : Type 0 where
   pub name : List ℕ
   pub conditions : Conditions
   pub request : Request
+  pub others : List Node
   pub under_way : Option UnderWay
   pub may_be_none : Bool
   pub with_steps : List Step → State
@@ -41,6 +44,7 @@ sought_new airport state name class request = record {
   name = name;
   conditions = conditions_in airport class state;
   request = request;
+  others = [];
   under_way = None;
   may_be_none = true;
   with_steps = λ steps. with_flight (routed_flight name class request steps) state;
@@ -52,6 +56,7 @@ sought_again airport state name time may_be_none flight request = record {
   name = name;
   conditions = conditions_of airport state flight;
   request = request;
+  others = [];
   under_way = Some (record { steps = flight.steps; time = time });
   may_be_none = may_be_none;
   with_steps = λ steps. with_route flight request steps state;
@@ -61,6 +66,32 @@ sought_again airport state name time may_be_none flight request = record {
 abbrev pub sought_by_class : Airport → State → List ℕ → List ℕ → Option Request → Option Sought
 sought_by_class airport state name class asked =
     option_and_then (λ class. option_map (sought_new airport state name class) asked) (class_named airport class)
+
+-- the node that the last step reaches
+abbrev pub node_reached : Layout → List Step → Option Node
+node_reached layout [] = None
+node_reached layout (s ∷ []) = head layout s.arc
+node_reached layout (s ∷ t ∷ steps) = node_reached layout (t ∷ steps)
+
+-- for a new flight to any of some nodes, of which it asks afterwards for the one that it reaches
+abbrev pub sought_any : Airport → State → List ℕ → Class → Choice → Node → List Node → Sought
+sought_any airport state name class choice node others = record {
+  name = name;
+  conditions = conditions_in airport class state;
+  request = request_for choice node;
+  others = others;
+  under_way = None;
+  may_be_none = true;
+  with_steps = λ steps. with_flight (routed_flight name class (request_for choice (unwrap_or (node_reached (layout_of airport) steps) node)) steps) state;
+}
+
+abbrev pub sought_choice : Airport → State → List ℕ → Class → Choice → List Node → Option Sought
+sought_choice airport state name class choice [] = None
+sought_choice airport state name class choice (node ∷ others) = Some (sought_any airport state name class choice node others)
+
+abbrev pub sought_to_one : Airport → State → List ℕ → List ℕ → Option Choice → Option Sought
+sought_to_one airport state name class asked =
+    option_and_then (λ class. option_and_then (λ choice. sought_choice airport state name class choice (nodes_of choice)) asked) (class_named airport class)
 
 -- What a command seeks; none for the commands that seek no walk. A reroute keeps the request, and the old steps are such a
 -- walk. A divert changes its target.
@@ -72,6 +103,8 @@ sought_of airport state (command.Reroute name time) =
 sought_of airport state (command.Divert name time node) =
     option_and_then (λ flight. option_map (λ target. sought_again airport state name time true flight (retargeted flight.request target)) (node_named airport node))
     (flight_named name state.flights)
+sought_of airport state (command.ArrivalAny flight class from time hold stands) = sought_to_one airport state flight class (arrival_any_named airport from stands time hold)
+sought_of airport state (command.DepartureAny flight class from time queue nodes) = sought_to_one airport state flight class (departure_any_named airport from nodes time queue)
 sought_of airport state _ = None
 
 abbrev pub sought_by : Airport → State → List ℕ → Option Sought
@@ -85,21 +118,25 @@ IsWalkOnFor c request.Filed way steps = ⊥
 IsWalkOnFor c (request.Arrival from to asked hold) way steps = IsFrozenWalk c way.steps way.time to (request.Arrival from to asked hold) steps
 IsWalkOnFor c (request.Departure from to asked queue) way steps = IsFrozenWalk c way.steps way.time to (request.Departure from to asked queue) steps
 
+-- a walk of a new flight that meets the request, or the same request for one of the other nodes
+abbrev pub MeetsOneOf : Conditions → Request → List Node → List Step → Type 0
+MeetsOneOf c request others steps = OneOf (λ asked. Meets c asked steps) (request ∷ map (retargeted request) others)
+
 abbrev pub IsWalkFor : Sought → List Step → Type 0
-IsWalkFor s steps = MatchOption s.under_way (Meets s.conditions s.request steps) (λ way. IsWalkOnFor s.conditions s.request way steps)
+IsWalkFor s steps = MatchOption s.under_way (MeetsOneOf s.conditions s.request s.others steps) (λ way. IsWalkOnFor s.conditions s.request way steps)
 
 -- ---- the search for them
 
--- which way a table is made: from where walks begin to the node that they are to reach, or from the node that they are to
--- reach within a time back to the node that they leave
+-- which way a table is made: from where walks begin to the nodes of which they are to reach one, or from the nodes of which they
+-- are to reach one within a time back to the node that they leave
 pub data Search : Type 0 where
-  onward : (begins : Beginning) (to : Node) → Search
-  backward : (from to : Node) (earliest latest : ℕ) → Search
+  onward : (begins : Beginning) (to : List Node) → Search
+  backward : (from : Node) (to : List Node) (earliest latest : ℕ) → Search
 
 -- an arrival is searched from its begin, or from the step that was begun, and a departure from its end
-abbrev pub search_of : Request → Option UnderWay → Option Search
-search_of request.Filed way = None
-search_of (request.Arrival from to asked hold) None = Some (onward (at_node from asked (asked + hold)) to)
-search_of (request.Arrival from to asked hold) (Some way) =
-    Some (onward (option_map_or (λ begun. resuming begun way.time) (step_begun way.time way.steps) (at_node from (max asked way.time) (asked + hold))) to)
-search_of (request.Departure from to asked queue) way = Some (backward from to (asked - queue) asked)
+abbrev pub search_of : Request → List Node → Option UnderWay → Option Search
+search_of request.Filed others way = None
+search_of (request.Arrival from to asked hold) others None = Some (onward (at_node from asked (asked + hold)) (to ∷ others))
+search_of (request.Arrival from to asked hold) others (Some way) =
+    Some (onward (option_map_or (λ begun. resuming begun way.time) (step_begun way.time way.steps) (at_node from (max asked way.time) (asked + hold))) (to ∷ others))
+search_of (request.Departure from to asked queue) others way = Some (backward from (to ∷ others) (asked - queue) asked)

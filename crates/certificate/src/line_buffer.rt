@@ -106,7 +106,7 @@ impl LineBuffer {
         ensures text { self.new ≡ word_of_arc airport.now arc ++ self.old }
         ensures length { length self.new ≤ length self.old + 17 }
     {
-        self.put(if arc.0 % 2 == 0 { b"+" } else { b"-" });
-        self.put_segment(airport, Segment(arc.0 / 2));
+        self.put(if arc.is_forward() { b"+" } else { b"-" });
+        self.put_segment(airport, arc.segment());
     }
 }

@@ -1,6 +1,8 @@
 -- Flights that are routed anew among the others.
-use Rattle.std.proofs.Common.{◌≡◌, ◌∙◌, ℕ, ◌≤◌, List, [], Option, Some, None, IsTrue, refl, sym, ap, subst, arith}
-use Rattle.std.specs.Prelude.{Result, Ok, Err, IfOk, IfSome, IsSome, All}
+use Rattle.std.proofs.Common.{◌≡◌, ◌∙◌, ℕ, ◌≤◌, List, [], ◌∷◌, Option, Some, None, inl, inr, is_some, IsTrue, IsFalse, refl, sym, ap, subst, arith}
+use Rattle.std.specs.Prelude.{Result, Ok, Err, IfOk, IfSome, IsSome, All, bytes_eq}
+use Rattle.std.specs.Cmp.Lexicographic.{bytes_decides}
+use Rattle.std.proofs.lemmas.Bool.{cases_Bool, cond_both, true≢false}
 use Rattle.taxi_base.specs.declared.collections.Memory.{Memory}
 use Rattle.taxi_base.specs.declared.rows.Step.{Step as Leg}
 use Rattle.taxi_base.specs.declared.rows.LabelRow.{LabelRow}
@@ -8,25 +10,26 @@ use Rattle.taxi_base.specs.declared.answers.Flight.{Flight}
 use Rattle.taxi_base.specs.declared.answers.Request.{Request}
 use Rattle.taxi_base.specs.Airport.{Airport, IsWellFormed, layout_of, arc_exists}
 use Rattle.taxi_base.specs.Walks.{Conditions, conditions_among, Meets}
-use Rattle.taxi_base.specs.State.{State, flight_named, party_named, without, with_route, holds_in, conditions_of, IsSound}
+use Rattle.taxi_base.specs.State.{State, name_precedes, flight_named, party_named, flights_with, flights_without, flight_holds, without, with_route, holds_in, conditions_of, IsSound}
 use Rattle.taxi_base.proofs.StateLaws.{IsSound-with_route}
 use Rattle.taxi_base.proofs.FlightNames.{find-named}
+use Rattle.taxi_base.proofs.NameLaws.{none_left}
 use Rattle.taxi_base.proofs.WalkLaws.{IsFeasibleWalk-steps}
 use Rattle.certificate.specs.declared.block.Block.{Block}
 use Rattle.certificate.specs.declared.block.Block.TheVariants.{Refused, Filed, Cancelled, Route, NoRoute, Windows, Occupancy, Timetable}
 use Rattle.certificate.specs.declared.rule.Rule.{Rule}
-use Rattle.certificate.specs.Sought.{UnderWay, Sought}
+use Rattle.certificate.specs.Sought.{Sought}
 use Rattle.certificate.specs.Passes.{IsFormOf, KeepsSought}
 use Rattle.certificate.proofs.FlightLaws.{flight_named-there}
 use Rattle.certificate.proofs.FoundLaws.{step-enter}
 use Rattle.held_spans.specs.declared.spans.HeldSpans.{HeldSpans}
 use Rattle.held_spans.specs.Spans.{AreSpansOf, holds_in_lists}
-use Rattle.due_refusals.proofs.HeldLaws.{same-conditions, differ-with}
+use Rattle.due_refusals.proofs.HeldLaws.{same-conditions, more-with}
 use Rattle.checked_state.proofs.PlaceLaws.{if-some}
-use Rattle.check_rows.specs.Known.{DifferOn}
+use Rattle.check_rows.specs.Known.{HaveMore}
 use Rattle.check_walks.specs.Told.{IsFirstOf}
 use Rattle.certificate_check.specs.Again.{HasToldSteps}
-use Rattle.certificate_check.specs.Judged.{KeepsTold, IsToldOf}
+use Rattle.certificate_check.specs.Judged.{IsToldOf}
 use Rattle.certificate_check.proofs.DeskLaws.{flight-walk, flight-arcs, flight-alone}
 use Rattle.certificate_check.proofs.JudgedLaws.{told-of}
 use Rattle.check_walks.proofs.StepLaws.{ok-weaker}
@@ -39,26 +42,26 @@ flight-early airport state well sound name flight found k d low =
     let made = IsFeasibleWalk-steps c flight.steps (flight-walk airport state sound name flight found) k d low in
     omega (arith, step-enter c _ made, well.horizon.1)
 
-one-flight : (name : List ℕ) (flights : List Flight) (f g : Flight) → flight_named name flights ≡ Some f → flight_named name flights ≡ Some g → f ≡ g
+pub one-flight : (name : List ℕ) (flights : List Flight) (f g : Flight) → flight_named name flights ≡ Some f → flight_named name flights ≡ Some g → f ≡ g
 one-flight name flights f g a b = cc (sym a ∙ b)
 
 -- the rule that is found among the others' spans
 pub lifted-first : (airport : Airport) (state : State) (name : List ℕ) (f : Flight) → flight_named name state.flights ≡ Some f → (spans : HeldSpans) → AreSpansOf (holds_in airport (without name state)) spans
     → (steps : List Leg) → steps ≡ f.steps → (time : ℕ) (request : Request) (block : Block) {E : Type 0} (r : Result (Option Rule) E)
-    → IfOk r (λ broken. (s : Sought) → s.conditions ≡ conditions_among airport f.class (holds_in_lists spans) → s.request ≡ request → s.under_way ≡ Some (record { steps = steps; time = time }) → IsFirstOf (λ rule. KeepsSought rule s block) broken)
-    → IfOk r (λ broken. (g : Flight) → flight_named name state.flights ≡ Some g → (s : Sought) → s.conditions ≡ conditions_of airport state g → s.request ≡ request → s.under_way ≡ Some (record { steps = g.steps; time = time }) → IsFirstOf (λ rule. KeepsSought rule s block) broken)
-lifted-first airport state name f found spans has steps are time request block r told = ok-weaker r _ _ (λ broken told g there s conditions asked way. by broken told g there s conditions asked way) told where
+    → IfOk r (λ broken. (s : Sought) → s.conditions ≡ conditions_among airport f.class (holds_in_lists spans) → s.request ≡ request → s.others ≡ [] → s.under_way ≡ Some (record { steps = steps; time = time }) → IsFirstOf (λ rule. KeepsSought rule s block) broken)
+    → IfOk r (λ broken. (g : Flight) → flight_named name state.flights ≡ Some g → (s : Sought) → s.conditions ≡ conditions_of airport state g → s.request ≡ request → s.others ≡ [] → s.under_way ≡ Some (record { steps = g.steps; time = time }) → IsFirstOf (λ rule. KeepsSought rule s block) broken)
+lifted-first airport state name f found spans has steps are time request block r told = ok-weaker r _ _ (λ broken told g there s conditions asked alone way. by broken told g there s conditions asked alone way) told where
   by : (broken : Option Rule)
-      → ((s : Sought) → s.conditions ≡ conditions_among airport f.class (holds_in_lists spans) → s.request ≡ request → s.under_way ≡ Some (record { steps = steps; time = time }) → IsFirstOf (λ rule. KeepsSought rule s block) broken)
-      → (g : Flight) → flight_named name state.flights ≡ Some g → (s : Sought) → s.conditions ≡ conditions_of airport state g → s.request ≡ request → s.under_way ≡ Some (record { steps = g.steps; time = time })
+      → ((s : Sought) → s.conditions ≡ conditions_among airport f.class (holds_in_lists spans) → s.request ≡ request → s.others ≡ [] → s.under_way ≡ Some (record { steps = steps; time = time }) → IsFirstOf (λ rule. KeepsSought rule s block) broken)
+      → (g : Flight) → flight_named name state.flights ≡ Some g → (s : Sought) → s.conditions ≡ conditions_of airport state g → s.request ≡ request → s.others ≡ [] → s.under_way ≡ Some (record { steps = g.steps; time = time })
       → IsFirstOf (λ rule. KeepsSought rule s block) broken
-  by broken told g there s conditions asked way =
+  by broken told g there s conditions asked alone way =
       let is : g ≡ f = one-flight name state.flights g f there found in
       let named : f.name ≡ name = find-named name state.flights f found in
       let those : conditions_of airport state g ≡ conditions_among airport f.class (holds_in_lists spans) =
       ap (conditions_of airport state) is ∙ ap (λ n. conditions_among airport f.class (holds_in airport (without n state))) named ∙ sym (same-conditions airport f.class spans (holds_in airport (without name state)) has) in
       let same_steps : g.steps ≡ steps = ap (λ (h : Flight). h.steps) is ∙ sym are in
-      told s (conditions ∙ those) asked (way ∙ (λ i. Some (record { steps = same_steps i; time = time })))
+      told s (conditions ∙ those) asked alone (way ∙ (λ i. Some (record { steps = same_steps i; time = time })))
 
 -- what did not pass is told, and the state stays
 pub told-unpassed : (s : Sought) (block : Block) (state : State) (r : Result (Option Rule) Memory) → IsFormOf s block → (r ≡ Ok None → ⊥) → IfOk r (λ broken. IsFirstOf (λ rule. KeepsSought rule s block) broken) → IsToldOf s block state r state
@@ -90,18 +93,22 @@ pub some-there : {A : Type 0} (o : Option A) → IsSome o → (x : A) × (o ≡ 
 some-there None some = absurd (cc some)
 some-there (Some x) some = (x, refl)
 
-module _ (airport : Airport) (state lifted : State) (is : lifted ≡ state) (sound : IsSound airport state) (name : List ℕ) where
-  pub lifted-arcs : IfSome (flight_named name lifted.flights) (λ flight. All (λ step. IsTrue (arc_exists (layout_of airport) step.arc)) flight.steps)
-  lifted-arcs =
-      subst (λ (s : State). IfSome (flight_named name s.flights) (λ flight. All (λ step. IsTrue (arc_exists (layout_of airport) step.arc)) flight.steps)) (sym is)
-      (if-some (flight_named name state.flights) _ (λ flight found. flight-arcs airport state sound name flight found))
+-- a flight is found by its name among those that it has joined
+pub named-with : (x : Flight) (flights : List Flight) → IsFalse (is_some (flight_named x.name flights)) → flight_named x.name (flights_with x flights) ≡ Some x
+named-with x [] none = rw ((bytes_decides x.name x.name).1 refl) refl
+named-with x (y ∷ ys) none =
+    cond_both (name_precedes x.name y.name) (x ∷ y ∷ ys) (y ∷ flights_with x ys) (λ l. flight_named x.name l ≡ Some x) (λ _. rw ((bytes_decides x.name x.name).1 refl) refl)
+    (λ _. elim (cases_Bool (bytes_eq y.name x.name)) [ inl here ↦ absurd (true≢false (rw here at none)) | inr other ↦ rw other (named-with x ys (rw other at none)) ])
+
+module _ (airport : Airport) (state : State) (sound : IsSound airport state) (name : List ℕ) where
+  pub force-arcs : IfSome (flight_named name state.flights) (λ flight. All (λ step. IsTrue (arc_exists (layout_of airport) step.arc)) flight.steps)
+  force-arcs = if-some (flight_named name state.flights) _ (λ flight found. flight-arcs airport state sound name flight found)
 
   -- no party has the name of a flight
-  pub lifted-alone : IsSome (flight_named name state.flights) → party_named name lifted.parties ≡ None
-  lifted-alone some =
-      let flight = some-there (flight_named name state.flights) some in
-      subst (λ (s : State). party_named name s.parties ≡ None) (sym is) (flight-alone airport state sound name flight.0 flight.1)
+  pub force-alone : IsSome (flight_named name state.flights) → party_named name state.parties ≡ None
+  force-alone some = let flight = some-there (flight_named name state.flights) some in flight-alone airport state sound name flight.0 flight.1
 
+module _ (airport : Airport) (state lifted : State) (is : lifted ≡ state) (sound : IsSound airport state) (name : List ℕ) where
   module _ (flight : Flight) (found : flight_named name state.flights ≡ Some flight) (request : Request) (steps : List Leg) (met : Meets (conditions_of airport state flight) request steps) where
     pub again-sound : IsSound airport (with_route flight request steps state)
     again-sound = IsSound-with_route airport flight state request steps sound (flight_named-there name state.flights flight found) met
@@ -112,10 +119,17 @@ module _ (airport : Airport) (state lifted : State) (is : lifted ≡ state) (sou
         let there : flight_named name lifted.flights ≡ Some flight = ap (λ (s : State). flight_named name s.flights) is ∙ found in
         (rw there at did) ∙ ap (with_route flight request steps) is
 
--- what is held changes on the segments of the new steps
-pub again-differ : (airport : Airport) (state : State) (name : List ℕ) (flight : Flight) → flight_named name state.flights ≡ Some flight → (request : Request) (steps : List Leg)
-    → DifferOn steps (holds_in airport (without name state)) (holds_in airport (with_route flight request steps state))
-again-differ airport state name flight found request steps =
-    subst (λ n. DifferOn steps (holds_in airport (without n state)) (holds_in airport (with_route flight request steps state)))
+-- what is held with the new steps
+pub again-more : (airport : Airport) (state : State) (name : List ℕ) (flight : Flight) → flight_named name state.flights ≡ Some flight → (request : Request) (steps : List Leg)
+    → HaveMore (flight_holds airport (record flight { request = request; steps = steps })) (holds_in airport (without name state)) (holds_in airport (with_route flight request steps state))
+again-more airport state name flight found request steps =
+    subst (λ n. HaveMore (flight_holds airport (record flight { request = request; steps = steps })) (holds_in airport (without n state)) (holds_in airport (with_route flight request steps state)))
     (find-named name state.flights flight found)
-    (differ-with airport (record flight { request = request; steps = steps }) (without flight.name state))
+    (more-with airport (record flight { request = request; steps = steps }) (without flight.name state))
+
+-- the flight that is found there then
+pub again-there : (state : State) (name : List ℕ) (flight : Flight) → flight_named name state.flights ≡ Some flight → (request : Request) (steps : List Leg)
+    → flight_named name (with_route flight request steps state).flights ≡ Some (record flight { request = request; steps = steps })
+again-there state name flight found request steps =
+    subst (λ n. flight_named n (with_route flight request steps state).flights ≡ Some (record flight { request = request; steps = steps })) (find-named name state.flights flight found)
+    (named-with (record flight { request = request; steps = steps }) (flights_without flight.name state.flights) (none_left (λ (f : Flight). f.name) flight.name state.flights))

@@ -1,18 +1,17 @@
 -- What the parts of a checker say of the flights in force.
-use Rattle.std.proofs.Common.{◌≡◌, ◌↔◌, ◌∙◌, ℕ, ◌<◌, ◌≤◌, Bool, true, false, ◌&&◌, eqb, List, length, get_or, Option, Some, None, IsTrue, IsFalse, refl, sym, ap, subst, arith}
-use Rattle.std.specs.Prelude.{Ok, All, Contains, bytes_eq, option_copied}
+use Rattle.std.proofs.Common.{◌≡◌, ◌↔◌, ◌∙◌, ℕ, ◌<◌, Bool, true, false, ◌&&◌, eqb, List, length, Option, Some, None, IsTrue, IsFalse, refl, sym, ap, subst}
+use Rattle.std.specs.Prelude.{Ok, All, bytes_eq}
 use Rattle.std.specs.Cmp.Lexicographic.{bytes_decides}
 use Rattle.std.specs.Bool.{Decides}
 use Rattle.std.proofs.lemmas.Bool.{lt-ltb, false≢true, both_ways, and_parts, and_from, eqb-true, eq-eqb}
 use Rattle.std.proofs.lemmas.List.Elements.{All-contains}
 use Rattle.taxi_base.specs.declared.numbers.Segment.{Segment}
 use Rattle.taxi_base.specs.declared.rows.Span.{Span}
-use Rattle.taxi_base.specs.declared.rows.Step.{Step}
 use Rattle.taxi_base.specs.declared.answers.Flight.{Flight}
 use Rattle.taxi_base.specs.declared.answers.Party.{Party}
-use Rattle.taxi_base.specs.Airport.{Airport, IsWellFormed, layout_of, arc_exists, segment_named}
+use Rattle.taxi_base.specs.Airport.{Airport, layout_of, arc_exists, segment_named}
 use Rattle.taxi_base.specs.Windows.{is_free, AreWindows}
-use Rattle.taxi_base.specs.Walks.{Conditions, IsFeasibleWalk, IsFeasibleStep, free_among}
+use Rattle.taxi_base.specs.Walks.{IsFeasibleWalk, free_among}
 use Rattle.taxi_base.specs.State.{State, flight_named, party_named, holds_in, conditions_of, IsSound}
 use Rattle.taxi_base.proofs.NamedLists.{find-named}
 use Rattle.taxi_base.proofs.WalkLaws.{IsFeasibleWalk-steps}

@@ -1,11 +1,10 @@
 -- A route that is given by hand and not refused: its flight can be put in force, and how the block that answers it is judged.
-use Rattle.std.proofs.Common.{◌≡◌, ◌∙◌, ℕ, ◌<◌, List, [], ◌++◌, length, Option, Some, None, IsTrue, option_map, refl, sym, ap, subst, arith}
-use Rattle.std.specs.Prelude.{Ok, All, MatchOption, nat_lt, nat_le}
-use Rattle.taxi_base.specs.declared.rows.Step.{Step}
+use Rattle.std.proofs.Common.{◌≡◌, ◌∙◌, ℕ, ◌<◌, Bool, true, false, ◌||◌, is_some, List, length, Some, None, IsTrue, refl, sym, ap, subst}
+use Rattle.std.specs.Prelude.{Ok, All, MatchOption}
 use Rattle.taxi_base.specs.declared.answers.Flight.{Flight}
 use Rattle.taxi_base.specs.Airport.{Airport, layout_of, arc_exists}
 use Rattle.taxi_base.specs.Walks.{IsFeasibleWalk, Meets, begin_of, end_of}
-use Rattle.taxi_base.specs.State.{State, with_flight, IsSound}
+use Rattle.taxi_base.specs.State.{State, flight_named, party_named, with_flight, IsSound}
 use Rattle.taxi_base.specs.Faults.{conditions_in}
 use Rattle.taxi_base.proofs.FaultLaws.{route_fault-None}
 use Rattle.taxi_base.proofs.StateLaws.{IsSound-with_flight}
@@ -13,9 +12,8 @@ use Rattle.taxi_text.specs.declared.command.FiledStep.{FiledStep}
 use Rattle.taxi_text.specs.declared.command.Command.TheVariants as command
 use Rattle.taxi_text.specs.Commands.{is_step_count}
 use Rattle.certificate.specs.declared.block.Block.{Block}
-use Rattle.certificate.specs.declared.block.Block.TheVariants.{Refused, Filed}
-use Rattle.certificate.specs.Asked.{filed_steps}
-use Rattle.certificate.specs.CarriedOut.{filed_flight, IsFiled, IsCarriedOut}
+use Rattle.certificate.specs.declared.block.Block.TheVariants.{Filed}
+use Rattle.certificate.specs.CarriedOut.{filed_flight, IsFiled}
 use Rattle.certificate.specs.Replies.{refused, IsDueTo}
 use Rattle.certificate.proofs.FiledLaws.{filed_steps-arcs, filed_steps-joined}
 use Rattle.certificate.proofs.RefusalLaws.{HasRoom, none-fails, file-has_room, file-does_not_fail}
@@ -23,6 +21,7 @@ use Rattle.certificate.specs.CarriedOut.{IsOf}
 use Rattle.due_refusals.specs.Filing.{IsAccepted}
 use Rattle.due_refusals.proofs.FiledLaws.{few-made}
 use Rattle.certificate_check.specs.Judged.{IsAfterFor, IsJudged}
+use Rattle.certificate_check.proofs.AgainLaws.{named-with}
 use Rattle.certificate_check.proofs.JudgedLaws.{done-judged}
 
 module _ (airport : Airport) (state : State) (name class : List ℕ) (start : ℕ) (filed : List FiledStep) (count : IsTrue (is_step_count (length filed)))
@@ -45,6 +44,16 @@ module _ (airport : Airport) (state : State) (name class : List ℕ) (start : �
   accepted-sound sound =
       IsSound-with_flight airport flight state sound room.room room.absent
       (subst (λ r. Meets (conditions_in airport flight.class state) r flight.steps) (sym accepted.by_hand) accepted-walk)
+
+  -- it is found by its name then
+  pub accepted-there : flight_named name (with_flight flight state).flights ≡ Some flight
+  accepted-there =
+      subst (λ n. flight_named n (with_flight flight state).flights ≡ Some flight) accepted.same_name
+      (named-with flight state.flights (or_right_none (is_some (party_named flight.name state.parties)) (is_some (flight_named flight.name state.flights)) room.absent))
+    where
+      or_right_none : (a b : Bool) → (a || b) ≡ false → b ≡ false
+      or_right_none false b none = none
+      or_right_none true b none = absurd (cc none)
 
   flight-is : flight ≡ filed_flight name flight.class flight.steps
   flight-is = λ i. record { name = accepted.same_name i; class = flight.class; request = accepted.by_hand i; steps = flight.steps }

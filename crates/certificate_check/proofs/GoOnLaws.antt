@@ -1,12 +1,12 @@
 -- What flights in force asked for can be sought again, also where one comes or goes.
-use Rattle.std.proofs.Common.{◌≡◌, ℕ, List, not, Some, sym, subst}
-use Rattle.std.specs.Prelude.{All, bytes_eq, Contains}
+use Rattle.std.proofs.Common.{◌≡◌, ℕ, List, not, Some}
+use Rattle.std.specs.Prelude.{All, bytes_eq}
 use Rattle.std.proofs.lemmas.List.Elements.{All-filter, All-contains}
 use Rattle.taxi_base.specs.declared.answers.Flight.{Flight}
 use Rattle.taxi_base.specs.declared.answers.Request.{Request}
 use Rattle.taxi_base.specs.declared.answers.Request.TheVariants as request
 use Rattle.taxi_base.specs.Airport.{Airport}
-use Rattle.taxi_base.specs.State.{State, flight_named, flights_with, flights_without}
+use Rattle.taxi_base.specs.State.{flight_named, flights_with, flights_without}
 use Rattle.taxi_base.proofs.NameLaws.{All-put_in}
 use Rattle.certificate.proofs.FlightLaws.{flight_named-there}
 use Rattle.check_walks.specs.Told.{CanBeSought}

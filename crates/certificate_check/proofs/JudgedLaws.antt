@@ -1,9 +1,7 @@
 -- How a block is judged as the answer to a command, from what was found out about it.
-use Rattle.std.proofs.Common.{◌≡◌, ◌∙◌, ℕ, ◌<◌, List, Option, Some, None, inl, inr, refl, sym, subst, arith}
+use Rattle.std.proofs.Common.{◌≡◌, Option, Some, None, refl, sym, subst, arith}
 use Rattle.std.specs.Prelude.{Result, Ok, Err, MatchOption, ⊤}
 use Rattle.taxi_base.specs.declared.collections.Memory.{Memory}
-use Rattle.taxi_base.specs.declared.rows.Step.{Step as Leg}
-use Rattle.taxi_base.specs.declared.rows.LabelRow.{LabelRow}
 use Rattle.taxi_base.specs.declared.answers.Refusal.{Refusal}
 use Rattle.taxi_base.specs.Airport.{Airport}
 use Rattle.taxi_base.specs.State.{State}
@@ -14,11 +12,10 @@ use Rattle.certificate.specs.declared.rule.Rule.{Rule}
 use Rattle.certificate.specs.declared.rule.Rule.TheVariants as rule
 use Rattle.certificate.specs.Refusals.{first_refusal}
 use Rattle.certificate.specs.CarriedOut.{IsCarriedOut}
-use Rattle.certificate.specs.Replies.{IsDueTo}
 use Rattle.certificate.specs.Sought.{Sought, sought_of}
-use Rattle.certificate.specs.Passes.{IsFormOf, IsAsAsked, KeepsSought, turn_of}
+use Rattle.certificate.specs.Passes.{IsFormOf, KeepsSought}
 use Rattle.check_walks.specs.Told.{IsFirstOf}
-use Rattle.certificate_check.specs.Judged.{KeepsTold, IsAfterTold, IsToldOf, IsDueForm, KeepsFor, IsAfterFor, IsJudged}
+use Rattle.certificate_check.specs.Judged.{KeepsTold, IsAfterTold, IsToldOf, KeepsFor, IsAfterFor, IsJudged}
 
 -- the first rule is broken
 pub reply-first : (IsKept : Rule → Type 0) → (IsKept rule.Reply → ⊥) → IsFirstOf IsKept (Some rule.Reply)

@@ -7,3 +7,4 @@ mod GoOnLaws
 mod AnewLaws
 mod FilingLaws
 mod PartyLaws
+mod ChoiceLaws

@@ -1,5 +1,5 @@
 -- A work party that is not refused can be put in force, and one in force taken out.
-use Rattle.std.proofs.Common.{◌≡◌, ◌∙◌, ℕ, ◌<◌, List, length, Option, Some, None, is_some, IsTrue, IsFalse, refl, sym, ap, subst}
+use Rattle.std.proofs.Common.{◌≡◌, ℕ, ◌<◌, List, length, Option, Some, None, is_some, IsFalse, refl, sym, subst}
 use Rattle.std.specs.Prelude.{Ok, MatchOption, bytes_eq}
 use Rattle.std.proofs.lemmas.Bool.{or_parts}
 use Rattle.std.proofs.lemmas.List.Elements.{All-contains}
@@ -11,7 +11,7 @@ use Rattle.taxi_base.proofs.FaultLaws.{hold_fault-None}
 use Rattle.taxi_base.proofs.StateLaws.{IsSound-with_party, IsSound-without}
 use Rattle.taxi_text.specs.declared.command.Command.TheVariants as command
 use Rattle.certificate.specs.declared.block.Block.{Block}
-use Rattle.certificate.specs.declared.block.Block.TheVariants.{Refused, Filed, Cancelled}
+use Rattle.certificate.specs.declared.block.Block.TheVariants.{Filed, Cancelled}
 use Rattle.certificate.specs.Asked.{party_of}
 use Rattle.certificate.specs.CarriedOut.{IsOf, IsShut}
 use Rattle.certificate.specs.Replies.{refused, IsDueTo}

@@ -1,6 +1,6 @@
 -- What a line is answered, from how the block is judged as the answer to its command.
-use Rattle.std.proofs.Common.{◌≡◌, ℕ, ◌<◌, List, Option, Some, None, inl, inr, refl, sym, subst, arith}
-use Rattle.std.specs.Prelude.{Result, Ok, Err, MatchOption}
+use Rattle.std.proofs.Common.{◌≡◌, ℕ, List, Option, Some, None, inl, inr, refl, sym, subst, arith}
+use Rattle.std.specs.Prelude.{Result, Ok, Err}
 use Rattle.taxi_base.specs.declared.collections.Memory.{Memory}
 use Rattle.taxi_base.specs.declared.answers.Refusal.TheVariants as refusal
 use Rattle.taxi_base.specs.Airport.{Airport, IsWellFormed}
@@ -11,8 +11,8 @@ use Rattle.certificate.specs.declared.block.Block.{Block}
 use Rattle.certificate.specs.declared.block.Block.TheVariants.{Refused, Filed, Cancelled, Route, NoRoute, Windows, Occupancy, Timetable}
 use Rattle.certificate.specs.declared.rule.Rule.{Rule}
 use Rattle.certificate.specs.declared.rule.Rule.TheVariants as rule
-use Rattle.certificate.specs.Replies.{IsDue, IsReply, as_due, no_memory, NeedsNoMemory}
-use Rattle.certificate.specs.Passes.{KeepsReply, Keeps, IsAfter, IsPassed, IsFirstBroken, turn_of}
+use Rattle.certificate.specs.Replies.{IsDue, as_due, no_memory, NeedsNoMemory}
+use Rattle.certificate.specs.Passes.{KeepsReply, Keeps, IsAfter, IsPassed, IsFirstBroken}
 use Rattle.certificate.proofs.PassLaws.{reply-passes}
 use Rattle.certificate.proofs.BestLaws.{passed-best, passed-sound}
 use Rattle.certificate_check.specs.declared.checker.CheckRefused.{CheckRefused}

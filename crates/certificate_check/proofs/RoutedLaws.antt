@@ -1,27 +1,19 @@
 -- Routes that are told, and the state with them.
-use Rattle.std.proofs.Common.{◌≡◌, ◌↔◌, ◌∙◌, ℕ, ◌<◌, ◌⊎◌, inl, inr, Bool, true, false, List, Option, Some, None, is_some, IsTrue, IsFalse, refl, sym, subst}
-use Rattle.std.specs.Prelude.{Result, Ok, Err, OnOk, OnErr, All, MatchOption}
-use Rattle.taxi_base.specs.declared.collections.Memory.{Memory}
-use Rattle.taxi_base.specs.declared.numbers.Class.{Class}
+use Rattle.std.proofs.Common.{◌≡◌, ℕ, ◌⊎◌, inl, inr, true, false, List, Option, Some, None, is_some, IsTrue, refl, sym, subst}
+use Rattle.std.specs.Prelude.{Result, Ok, Err, OnOk, OnErr, All}
 use Rattle.taxi_base.specs.declared.rows.Step.{Step as Leg}
 use Rattle.taxi_base.specs.declared.rows.LabelRow.{LabelRow}
-use Rattle.taxi_base.specs.declared.answers.Flight.{Flight}
-use Rattle.taxi_base.specs.declared.answers.Request.{Request}
 use Rattle.taxi_base.specs.Airport.{Airport, layout_of, arc_exists}
-use Rattle.taxi_base.specs.Walks.{Conditions, IsFeasibleWalk, Meets, free_among}
-use Rattle.taxi_base.specs.State.{State, holds_in, has_holder, holder_count, with_flight, flights_hold, IsSound}
-use Rattle.taxi_base.specs.Faults.{conditions_in}
-use Rattle.taxi_base.proofs.StateLaws.{IsSound-with_flight}
-use Rattle.taxi_base.proofs.WalkLaws.{IsFeasibleWalk-steps, Meets-IsFeasibleWalk}
+use Rattle.taxi_base.specs.Walks.{Conditions, IsFeasibleWalk}
+use Rattle.taxi_base.specs.State.{State, IsSound}
+use Rattle.taxi_base.proofs.WalkLaws.{IsFeasibleWalk-steps}
 use Rattle.certificate.specs.declared.block.Block.{Block}
 use Rattle.certificate.specs.declared.block.Block.TheVariants.{Refused, Filed, Cancelled, Route, NoRoute, Windows, Occupancy, Timetable}
 use Rattle.certificate.specs.declared.rule.Rule.{Rule}
 use Rattle.certificate.specs.declared.rule.Rule.TheVariants as rule
 use Rattle.certificate.specs.Sought.{Sought, IsWalkFor}
-use Rattle.certificate.specs.Passes.{IsFormOf, KeepsSought}
-use Rattle.check_rows.specs.Known.{AreKnown}
+use Rattle.certificate.specs.Passes.{IsFormOf}
 use Rattle.check_rows.specs.declared.known.KnownWindows.{KnownWindows}
-use Rattle.check_rows.proofs.LoopLaws.{says-no}
 use Rattle.checked_state.specs.declared.flights.HeldFlights.{HeldFlights}
 use Rattle.checked_state.specs.Flights.{state_of, HasSpansOf}
 use Rattle.check_walks.specs.Told.{IsFirstOf}
@@ -38,21 +30,14 @@ pub either-way : {A E : Type 0} (r : Result A E) (P Q : Type 0) → OnOk r P →
 either-way (Ok x) P Q did not_done = inl did
 either-way (Err e) P Q did not_done = inr not_done
 
--- the parts are in order where the state is one of two
-pub ready-either : (airport : Airport) (held : HeldFlights) (known : KnownWindows) (one other : State) → (state_of held ≡ one) ⊎ (state_of held ≡ other) → IsSound airport one → IsSound airport other
-    → All (λ f. CanGoOn airport f.request) one.flights → All (λ f. CanGoOn airport f.request) other.flights
-    → AreKnownIn airport one known → AreKnownIn airport other known → HasSpansOf airport (state_of held) held → IsReady airport held known
-ready-either airport held known one other (inl is) sound_one sound_other go_on_one go_on_other known_one known_other spans = record {
-  is_sound = subst (IsSound airport) (sym is) sound_one;
+-- the parts are in order where they are right for a state
+pub ready-by : (airport : Airport) (held : HeldFlights) (known : KnownWindows) (state : State) → state_of held ≡ state → IsSound airport state → All (λ f. CanGoOn airport f.request) state.flights → AreKnownIn airport state known
+    → HasSpansOf airport (state_of held) held → IsReady airport held known
+ready-by airport held known state is sound go_on are_known spans = record {
+  is_sound = subst (IsSound airport) (sym is) sound;
   has_spans = spans;
-  can_go_on = subst (λ (s : State). All (λ f. CanGoOn airport f.request) s.flights) (sym is) go_on_one;
-  are_known = subst (λ (s : State). AreKnownIn airport s known) (sym is) known_one;
-}
-ready-either airport held known one other (inr is) sound_one sound_other go_on_one go_on_other known_one known_other spans = record {
-  is_sound = subst (IsSound airport) (sym is) sound_other;
-  has_spans = spans;
-  can_go_on = subst (λ (s : State). All (λ f. CanGoOn airport f.request) s.flights) (sym is) go_on_other;
-  are_known = subst (λ (s : State). AreKnownIn airport s known) (sym is) known_other;
+  can_go_on = subst (λ (s : State). All (λ f. CanGoOn airport f.request) s.flights) (sym is) go_on;
+  are_known = subst (λ (s : State). AreKnownIn airport s known) (sym is) are_known;
 }
 
 -- ---- what is told

@@ -1,10 +1,10 @@
 -- Which rule does a block break first, as the answer to a command, and what is the state then? Beside `refused memory`.
-use Rattle.std.specs.Prelude.{ℕ, ◌≡◌, Bool, true, false, if◌then◌else◌, List, Option, Some, None, Result, Ok, Err, MatchOption, ⊤}
+use Rattle.std.specs.Prelude.{◌≡◌, Bool, true, false, if◌then◌else◌, Option, Some, None, Result, Ok, Err, MatchOption, ⊤}
 use Rattle.taxi_base.specs.Airport.{Airport}
 use Rattle.taxi_base.specs.State.{State}
 use Rattle.taxi_base.specs.declared.collections.Memory.{Memory}
 use Rattle.taxi_text.specs.declared.command.Command.{Command}
-use Rattle.taxi_text.specs.declared.command.Command.TheVariants.{File, Arrival, Departure}
+use Rattle.taxi_text.specs.declared.command.Command.TheVariants.{File, Arrival, Departure, ArrivalAny, DepartureAny}
 use Rattle.certificate.specs.declared.block.Block.{Block}
 use Rattle.certificate.specs.declared.block.Block.TheVariants.{Refused, Filed, Cancelled, Route}
 use Rattle.certificate.specs.declared.rule.Rule.{Rule}
@@ -47,6 +47,8 @@ abbrev pub brings_flight : Command → Bool
 brings_flight (File flight class start steps) = true
 brings_flight (Arrival flight class from to time hold) = true
 brings_flight (Departure flight class from to time queue) = true
+brings_flight (ArrivalAny flight class from time hold stands) = true
+brings_flight (DepartureAny flight class from time queue nodes) = true
 brings_flight _ = false
 
 -- where a refusal is due, the block is that refusal

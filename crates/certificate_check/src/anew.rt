@@ -1,6 +1,5 @@
 //! Lines that route a flight in force anew: as it asked, or to another node.
 ghost use Rattle.std.specs.Prelude.{◌≡◌};
-ghost use Rattle.taxi_base.specs.Again.{retargeted};
 ghost use Rattle.taxi_text.specs.declared.command.Command.TheVariants as command;
 ghost use Rattle.checked_state.specs.Flights.{state_of};
 ghost use Rattle.certificate_check.specs.Desk.{IsReady};
@@ -12,6 +11,7 @@ use crate::reply::is_refusal;
 use airport_file::Airport;
 use certificate::{Block, Rule};
 use check_rows::KnownWindows;
+use check_walks::retargeted;
 use checked_state::HeldFlights;
 use due_refusals::{divert_refused, is_stand, reroute_refused};
 use std::alloc::Global;
@@ -74,39 +74,8 @@ pub fn check_divert(
     if let Some(why) = divert_refused(flight, time) {
         return Ok(broken_unless(is_refusal(block, &why)));
     }
-    let request = retargeted(&flight.request, target);
+    let request = retargeted(flight.request, target);
     check_again(
         alloc, airport, held, known, name, time, true, request, block,
     )
-}
-
-// The same request, for another node to reach.
-fn retargeted(request: &Request, target: Node) -> Request
-    ensures { result ≡ retargeted request.now target }
-{
-    match *request {
-        Request::Filed => Request::Filed,
-        Request::Arrival {
-            from,
-            time,
-            hold,
-            ..
-        } => Request::Arrival {
-            from,
-            to: target,
-            time,
-            hold,
-        },
-        Request::Departure {
-            from,
-            time,
-            queue,
-            ..
-        } => Request::Departure {
-            from,
-            to: target,
-            time,
-            queue,
-        },
-    }
 }

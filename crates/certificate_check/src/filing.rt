@@ -8,6 +8,7 @@ ghost use Rattle.checked_state.specs.Flights.{state_of};
 ghost use Rattle.certificate_check.specs.Desk.{IsReady};
 ghost use Rattle.certificate_check.specs.Judged.{IsJudged};
 
+use crate::again::cut_out;
 use crate::plain::broken_unless;
 use crate::reply::is_refusal;
 use airport_file::Airport;
@@ -43,8 +44,8 @@ pub fn check_file(
             if !is_filed(block, &flight.name, steps) {
                 return Ok(Some(Rule::Reply));
             }
-            known.forget(airport, steps);
             held.put_in(airport, flight)?;
+            cut_out(airport, held, known, new.name);
             Ok(None)
         }
     }

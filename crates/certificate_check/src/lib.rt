@@ -4,6 +4,7 @@
 mod again;
 mod anew;
 mod checker;
+mod choice;
 mod filing;
 mod line;
 mod lines;

@@ -12,6 +12,7 @@ ghost use Rattle.certificate_check.specs.Checker.{ChecksIn, IsBadLineChecked, an
 
 use crate::CheckRefused;
 use crate::anew::{check_divert, check_reroute};
+use crate::choice::{NewChoice, check_arrival_any, check_departure_any};
 use crate::filing::check_file;
 use crate::lines::{NewFlight, check_arrival_block, check_departure_block};
 use crate::parties::{check_work, check_work_done};
@@ -131,6 +132,28 @@ fn judge(
             let route = filed_route(flight, class, *start, steps.as_slice());
             check_file(alloc, airport, held, known, &route, block)
         }
+        Command::ArrivalAny {
+            flight,
+            class,
+            from,
+            time,
+            hold,
+            stands,
+        } => {
+            let new = new_choice(flight, class, from, stands.as_slice(), *time, *hold);
+            check_arrival_any(alloc, airport, held, known, &new, block)
+        }
+        Command::DepartureAny {
+            flight,
+            class,
+            from,
+            time,
+            queue,
+            nodes,
+        } => {
+            let new = new_choice(flight, class, from, nodes.as_slice(), *time, *queue);
+            check_departure_any(alloc, airport, held, known, &new, block)
+        }
         _ => judge_other(alloc, airport, held, known, command, block),
     }
 }
@@ -171,7 +194,11 @@ fn judge_other(
         }
         Command::WorkDone { name } => check_work_done(airport, held, known, name, block),
         // These bring one.
-        Command::Arrival { .. } | Command::Departure { .. } | Command::File { .. } => Ok(None),
+        Command::Arrival { .. }
+        | Command::Departure { .. }
+        | Command::File { .. }
+        | Command::ArrivalAny { .. }
+        | Command::DepartureAny { .. } => Ok(None),
     }
 }
 
@@ -190,6 +217,26 @@ fn new_flight<'a>(
         class,
         from,
         to,
+        time,
+        slack,
+    }
+}
+
+fn new_choice<'a>(
+    name: &'a Name,
+    class: &'a Name,
+    from: &'a Name,
+    nodes: &'a [Name],
+    time: Time,
+    slack: Time,
+) -> NewChoice<'a>
+    ensures { result ≡ record { name = name.entry; class = class.entry; from = from.entry; nodes = nodes.entry; time = time; slack = slack } }
+{
+    NewChoice {
+        name,
+        class,
+        from,
+        nodes,
         time,
         slack,
     }

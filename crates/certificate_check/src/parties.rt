@@ -67,8 +67,12 @@ fn put_party(
         from: new.from,
         until: new.until,
     };
-    known.forget_segment(airport, segment);
+    let span = Span {
+        from: new.from,
+        until: new.until,
+    };
     held.shut(party)?;
+    known.cut_segment(airport, segment, span);
     Ok(None)
 }
 

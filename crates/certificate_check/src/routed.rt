@@ -54,7 +54,7 @@ pub fn check_new(
 }
 
 // Puts a new flight in force on the steps of a route. Where memory runs out the flights stay as they are.
-fn take_route(
+pub(crate) fn take_route(
     alloc: Global,
     airport: &Airport,
     held: &mut HeldFlights,
@@ -73,15 +73,15 @@ fn take_route(
     ensures err { OnErr result (state_of held.new ≡ state_of held.old) }
     ensures ready { IsReady airport.now held.new known.new }
 {
-    let steps = copied(alloc, steps)?;
-    known.forget(airport, steps.as_slice());
     let flight = Flight {
         name: *name,
         class,
         request,
-        steps,
+        steps: copied(alloc, steps)?,
     };
-    held.put_in(airport, flight)
+    held.put_in(airport, flight)?;
+    known.cut(airport, airport.clearance(class), steps);
+    Ok(())
 }
 
 /// A copy of some steps.

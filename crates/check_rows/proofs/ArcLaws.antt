@@ -10,7 +10,7 @@ use Rattle.taxi_base.specs.Airport.{Layout, Ends, layout_of, ends, meet, head, p
 use Rattle.taxi_base.specs.Walks.{Conditions}
 use Rattle.walk_labels.specs.Rules.{IsStartAtNode}
 use Rattle.walk_labels.specs.BackwardRules.{IsFinishAt}
-use Rattle.walk_labels.proofs.OneOfLaws.{OneOf-found, OneOf-member}
+use Rattle.taxi_base.proofs.OneOfLaws.{OneOf-found, OneOf-member}
 use Rattle.segment_graph.specs.Graphs.{AreLeaving, AreEntering}
 use Rattle.check_rows.specs.declared.reach.Way.{Way}
 use Rattle.check_rows.specs.declared.reach.Way.TheVariants.{Forward, Backward}

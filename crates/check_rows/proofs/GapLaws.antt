@@ -45,7 +45,7 @@ rising-before low t (s ∷ busy) rising before =
 
 -- ---- the gaps lie apart
 
-AreApart-lower : (low high : ℕ) (ws : List Span) → low ≤ high → AreApart high ws → AreApart low ws
+pub AreApart-lower : (low high : ℕ) (ws : List Span) → low ≤ high → AreApart high ws → AreApart low ws
 AreApart-lower low high [] under apart = tt
 AreApart-lower low high (w ∷ ws) under apart = (omega arith, apart.1, apart.2)
 
@@ -67,7 +67,7 @@ gaps-apart low from horizon (s ∷ busy) rising =
 
 -- ---- they have just the seconds that are not busy
 
-gap-covers : (from until t : ℕ) → covers (gap from until) t ≡ (nat_le from t && nat_lt t until)
+pub gap-covers : (from until t : ℕ) → covers (gap from until) t ≡ (nat_le from t && nat_lt t until)
 gap-covers from until t =
     cond_both (nat_lt from until) (record { from = from; until = until } ∷ []) [] (λ g. covers g t ≡ (nat_le from t && nat_lt t until))
     (λ some. grind (arith, nat_tests)) (λ none. let over : until ≤ from = ltb-false from until none in grind (arith, nat_tests))

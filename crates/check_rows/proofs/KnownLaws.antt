@@ -23,11 +23,11 @@ use Rattle.check_rows.specs.Known.{AreKnown, is_known, DifferOn, DifferAt, AreSt
 
 -- ---- what stands in a list
 
-get-at : {X : Type 0} (xs : List X) (k : ℕ) (x d : X) → slice_get xs k ≡ Some x → (k < length xs) × (get_or xs k d ≡ x)
+pub get-at : {X : Type 0} (xs : List X) (k : ℕ) (x d : X) → slice_get xs k ≡ Some x → (k < length xs) × (get_or xs k d ≡ x)
 get-at xs k x d e = (slice_get_within xs k x e, get_or_from_slice_get xs k x d e)
 
 -- after one is set
-set-cases : {X : Type 0} (xs : List X) (i k : ℕ) (x new : X) → i < length xs → slice_get (set xs i new) k ≡ Some x → ((k ≡ i) × (new ≡ x)) ⊎ (slice_get xs k ≡ Some x)
+pub set-cases : {X : Type 0} (xs : List X) (i k : ℕ) (x new : X) → i < length xs → slice_get (set xs i new) k ≡ Some x → ((k ≡ i) × (new ≡ x)) ⊎ (slice_get xs k ≡ Some x)
 set-cases xs i k x new on e =
     let found = get-at (set xs i new) k x x e in
     elim (cases_eq k i) [
@@ -151,7 +151,7 @@ AreStill-more sets steps i d old now new segments on all are left = record {
 
 -- ---- windows of segments away from where the holds change
 
-conflict-other_way : (sets : List (List Segment)) (s r : Segment) → IsTrue (conflict sets s r) → IsTrue (conflict sets r s)
+pub conflict-other_way : (sets : List (List Segment)) (s r : Segment) → IsTrue (conflict sets s r) → IsTrue (conflict sets r s)
 unfolding conflict
 conflict-other_way sets s r h =
     elim (or_cases (eqb s.0 r.0) (list_any (λ set. has_member set s && has_member set r) sets) h) [

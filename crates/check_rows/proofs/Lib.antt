@@ -1,9 +1,11 @@
 pub mod LoopLaws
 pub mod GapLaws
+pub mod CutLaws
 pub mod RowLaws
 pub mod PlaceLaws
 pub mod NearLaws
 pub mod KnownLaws
+pub mod ListCuts
 pub mod EachLaws
 pub mod ReachLaws
 pub mod ArcLaws

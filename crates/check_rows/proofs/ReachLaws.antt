@@ -1,8 +1,10 @@
 -- It is enough to go through the windows of an arc that can be reached in time.
-use Rattle.std.proofs.Common.{◌≡◌, ◌↔◌, ℕ, ◌+◌, ◌≤◌, max, Option, Some, List, All, is_some, unwrap_or, IsTrue, refl, sym, ◌∙◌, ap, subst, arith}
+use Rattle.std.proofs.Common.{◌≡◌, ◌↔◌, ℕ, ◌+◌, ◌≤◌, max, [], ◌∷◌, get_or, Option, Some, None, List, All, is_some, unwrap_or, IsTrue, refl, sym, ◌∙◌, ap, subst, arith}
 use Rattle.std.specs.Prelude.{Contains, ◌==◌, ◌-◌}
 use Rattle.std.proofs.lemmas.Bool.{cond_both, eqb-true}
+use Rattle.std.proofs.lemmas.List.{get_or_default}
 use Rattle.std.proofs.lemmas.List.Elements.{All-contains}
+use Rattle.taxi_base.proofs.ListLaws.{Contains-first}
 use Rattle.taxi_base.specs.declared.numbers.Arc.{Arc}
 use Rattle.taxi_base.specs.declared.rows.Span.{Span}
 use Rattle.taxi_base.specs.declared.rows.Step.{Step}
@@ -18,7 +20,8 @@ use Rattle.check_rows.specs.declared.reach.Way.{Way}
 use Rattle.check_rows.specs.declared.reach.Way.TheVariants.{Forward, Backward}
 use Rattle.check_rows.specs.declared.reach.Reach.{Reach}
 use Rattle.check_rows.specs.Rules.{HasEach}
-use Rattle.check_rows.specs.Reached.{IsReachedBy, IsReachedAt, IsValueIn, label_in, IsReachedIn, IsAround}
+use Rattle.check_rows.specs.Reached.{until_bound, short_part, IsRowAround, IsReachedBy, IsReachedAt, IsValueIn, label_in, IsReachedIn, IsAround}
+use Rattle.check_rows.proofs.PlaceLaws.{apart-same}
 use Rattle.check_rows.proofs.EachLaws.{each-by_parts}
 
 -- no step inside a window leaves behind its end
@@ -86,6 +89,38 @@ module _ (c : Conditions) (arc : Arc) (n : ℕ) (takes : seconds c.airport c.cla
 
     pub arc-by_windows : All (λ w. HasEach reach.way (IsReachedIn c reach arc n w) bound rows) near ↔ HasEach reach.way (IsReachedAt c reach arc) bound rows
     arc-by_windows = each-by_parts reach.way bound rows near (IsReachedIn c reach arc n) (IsReachedAt c reach arc) part one
+
+  -- where the window of a row holds the whole reach, it is enough to look at that row
+  pub arc-by_row : (reach : Reach) (bound : Option ℕ) (rows : List LabelRow) (row : LabelRow) → IsRowAround reach arc rows row → IsPlace c (place_of row)
+      → HasEach reach.way (IsReachedIn c reach arc n (window_of row)) bound rows ↔ HasEach reach.way (IsReachedAt c reach arc) bound rows
+  arc-by_row reach bound rows row around is =
+      let there : Contains windows (window_of row) = place-listed row around.on is in
+      let near : List Span = window_of row ∷ [] in
+      let all = arc-by_windows reach bound rows near (λ k d on. let e : k ≡ 0 = omega arith in subst (λ i. Contains windows (get_or near i d)) (sym e) there)
+      (λ k d on late early.
+      let same : get_or windows k d ≡ window_of row = apart-same windows are.apart (window_of row) (get_or windows k d) reach.from reach.by there (k, on, get_or_default windows k (get_or windows k d) d on) around.begins around.ends late early in
+      subst (Contains near) (sym same) (Contains-first (window_of row) [])) in (
+        λ one. all.0 (λ k d on. let e : k ≡ 0 = omega arith in subst (λ i. HasEach reach.way (IsReachedIn c reach arc n (get_or near i d)) bound rows) (sym e) one),
+        λ each. all.1 each 0 (window_of row) (omega arith),
+      )
+
+-- ---- the labels that are short of a bound are reached in a part of a reach
+
+pub each-short : (c : Conditions) (arc : Arc) (reach : Reach) (bound : Option ℕ) (rows : List LabelRow)
+    → HasEach (short_part bound reach).way (IsReachedAt c (short_part bound reach) arc) bound rows ↔ HasEach reach.way (IsReachedAt c reach arc) bound rows
+each-short c arc reach None rows = (λ each. each, λ each. each)
+each-short c arc reach (Some bound) rows = go reach.way reach.from reach.by where
+  go : (way : Way) (from by : ℕ)
+      → HasEach (until_bound way bound (record { way = way; from = from; by = by })).way (IsReachedAt c (until_bound way bound (record { way = way; from = from; by = by })) arc) (Some bound) rows
+      ↔ HasEach way (IsReachedAt c (record { way = way; from = from; by = by }) arc) (Some bound) rows
+  go Forward from by = (
+    λ each label at short. each label (at.0, record { is_place = at.1.is_place; in_time = omega (arith, at.1.in_time, at.1.value, short); value = at.1.value; in_window = at.1.in_window }) short,
+    λ each label at short. each label (at.0, record { is_place = at.1.is_place; in_time = omega (arith, at.1.in_time); value = at.1.value; in_window = at.1.in_window }) short,
+  )
+  go Backward from by = (
+    λ each label at short. each label (at.0, record { is_place = at.1.is_place; in_time = omega (arith, at.1.in_time, at.1.value, short); value = at.1.value; in_window = at.1.in_window }) short,
+    λ each label at short. each label (at.0, record { is_place = at.1.is_place; in_time = omega (arith, at.1.in_time); value = at.1.value; in_window = at.1.in_window }) short,
+  )
 
 -- ---- a step that was begun, by the windows of its segment
 

@@ -26,8 +26,8 @@ rows-parted rows label ordered i j d le on is =
       | inr above ↦ (let e : j ≡ i = omega arith in subst (λ k. precedes (get_or rows k d) label ≡ true) e is)
     ]
 
-module _ (rows : List LabelRow) (label : LabelRow) (ordered : AreOrdered rows) (at : ℕ)
-    (point : IsPartitionPoint (λ row. precedes row label ≡ true) (λ row. precedes row label ≡ false) rows at) where
+-- a row at a label's place does not stand before it, and stands behind what does
+module _ (label : LabelRow) where
   not_before : (row : LabelRow) → IsTrue (is_at_place row label) → precedes row label ≡ false
   not_before row same = numbers row.arc.0 row.from row.until label.arc.0 label.from label.until same where
     numbers : (a b u c d v : ℕ) → IsTrue (a == c && (b == d && u == v)) → (nat_lt a c || (a == c && nat_lt b d)) ≡ false
@@ -38,17 +38,24 @@ module _ (rows : List LabelRow) (label : LabelRow) (ordered : AreOrdered rows) (
     numbers : (x y a b u c d v : ℕ) → IsTrue (a == c && (b == d && u == v)) → IsTrue (nat_lt x a || (x == a && nat_lt y b)) → IsTrue (nat_lt x c || (x == c && nat_lt y d))
     numbers x y a b u c d v h k = grind (arith, nat_tests)
 
+  after_not : (other row : LabelRow) → IsTrue (is_at_place row label) → IsTrue (precedes row other) → precedes other label ≡ false
+  after_not other row same is = numbers other.arc.0 other.from row.arc.0 row.from row.until label.arc.0 label.from label.until same is where
+    numbers : (x y a b u c d v : ℕ) → IsTrue (a == c && (b == d && u == v)) → IsTrue (nat_lt a x || (a == x && nat_lt b y)) → (nat_lt x c || (x == c && nat_lt y d)) ≡ false
+    numbers x y a b u c d v h k = grind (arith, nat_tests)
+
+module _ (rows : List LabelRow) (label : LabelRow) (ordered : AreOrdered rows) (at : ℕ)
+    (point : IsPartitionPoint (λ row. precedes row label ≡ true) (λ row. precedes row label ≡ false) rows at) where
   -- a row at the label's place stands where the rows before it end
   row-there : (row : LabelRow) → Contains rows row → IsTrue (is_at_place row label) → (at < length rows) × (get_or rows at row ≡ row)
   row-there row there same =
       let k = there.0 in
-      let no : precedes (get_or rows k row) label ≡ false = subst (λ r. precedes r label ≡ false) (sym there.2) (not_before row same) in
+      let no : precedes (get_or rows k row) label ≡ false = subst (λ r. precedes r label ≡ false) (sym there.2) (not_before label row same) in
       elim (cases_lt k at) [
         | inl below ↦ absurd (both_ways _ no (point.0 k row (omega arith) below))
         | inr above ↦ elim (cases_lt at k) [
           | inl beyond ↦
               let first : IsTrue (precedes (get_or rows at row) row) = subst (λ r. IsTrue (precedes (get_or rows at row) r)) there.2 (ordered at k row beyond there.1) in
-              absurd (both_ways _ (point.1 at row (omega arith) (omega (arith, there.1))) (before_too (get_or rows at row) row same first))
+              absurd (both_ways _ (point.1 at row (omega arith) (omega (arith, there.1))) (before_too label (get_or rows at row) row same first))
           | inr same_place ↦ (let e : k ≡ at = omega arith in (omega (arith, there.1), subst (λ n. get_or rows n row ≡ row) e there.2))
         ]
       ]
@@ -97,3 +104,21 @@ module _ (rows : List LabelRow) (label : LabelRow) (ordered : AreOrdered rows) (
   pub good-none : (way : Way) → length rows ≤ at → HasAsGood way rows label → ⊥
   good-none Forward = early-none
   good-none Backward = late-none
+
+-- a row at the label's place that is known
+pub good-row : (rows : List LabelRow) (label row : LabelRow) → AreOrdered rows → Contains rows row → IsTrue (is_at_place row label) → (way : Way) → IsTrue (is_as_good way row label) ↔ HasAsGood way rows label
+good-row rows label row ordered there same way = good-some rows label ordered k point way row there.1 there.2 where
+  k : ℕ
+  k = there.0
+
+  is_row : (d : LabelRow) → get_or rows k d ≡ row
+  is_row d = get_or_default rows k d row there.1 ∙ there.2
+
+  point : IsPartitionPoint (λ r. precedes r label ≡ true) (λ r. precedes r label ≡ false) rows k
+  point = (
+    λ j d low before. before_too label (get_or rows j d) row same (subst (λ r. IsTrue (precedes (get_or rows j d) r)) (is_row d) (ordered j k d before there.1)),
+    λ j d from on. elim (cases_lt k j) [
+      | inl beyond ↦ after_not label (get_or rows j d) row same (subst (λ r. IsTrue (precedes r (get_or rows j d))) (is_row d) (ordered k j d beyond on))
+      | inr here ↦ (let e : k ≡ j = omega arith in subst (λ n. precedes (get_or rows n d) label ≡ false) e (subst (λ r. precedes r label ≡ false) (sym (is_row d)) (not_before label row same)))
+    ],
+  )

@@ -1,5 +1,5 @@
 -- Which windows are known, and what is still known where some holds have changed?
-use Rattle.std.specs.Prelude.{ℕ, ◌≡◌, ◌≢◌, Bool, false, IsTrue, IsFalse, List, length, map, Some, slice_get, All, Contains}
+use Rattle.std.specs.Prelude.{ℕ, ◌≡◌, ◌≢◌, Bool, false, IsTrue, IsFalse, List, ◌++◌, length, map, Some, slice_get, All, Contains}
 use Rattle.std.specs.Option.{option_map_or}
 use Rattle.taxi_base.specs.declared.numbers.Segment.{Segment}
 use Rattle.taxi_base.specs.declared.rows.Step.{Step}
@@ -25,6 +25,10 @@ DifferOn steps holds others = (s : Segment) (t : ℕ) → (Contains (map (λ ste
 -- the holds differ on a segment alone
 abbrev pub DifferAt : Segment → List Hold → List Hold → Type 0
 DifferAt segment holds others = (s : Segment) (t : ℕ) → s ≢ segment → held_at holds s t ≡ held_at others s t
+
+-- the others hold what the holds do, and more
+abbrev pub HaveMore : List Hold → List Hold → List Hold → Type 0
+HaveMore more holds others = (s : Segment) (t : ℕ) → held_at others s t ≡ held_at (holds ++ more) s t
 
 -- ---- what is forgotten; no public clause cites these
 

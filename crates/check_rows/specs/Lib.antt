@@ -1,5 +1,6 @@
 pub mod Gaps
 pub mod Known
+pub mod Cuts
 pub mod Rows
 pub mod Verdict
 pub mod Rules

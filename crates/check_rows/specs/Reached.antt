@@ -1,5 +1,5 @@
 -- Which labels of an arc are reached in time, and with which value in a window? No public clause cites these.
-use Rattle.std.specs.Prelude.{ℕ, ◌≡◌, ◌+◌, ◌≤◌, Bool, max, min, List, Option, Some}
+use Rattle.std.specs.Prelude.{ℕ, ◌≡◌, ◌+◌, ◌≤◌, Bool, max, min, List, Option, Some, None, Contains}
 use Rattle.taxi_base.specs.declared.numbers.Node.{Node}
 use Rattle.taxi_base.specs.declared.numbers.Segment.{Segment}
 use Rattle.taxi_base.specs.declared.numbers.Class.{Class}
@@ -11,7 +11,7 @@ use Rattle.taxi_base.specs.Airport.{Airport, Layout, layout_of, clearance_of}
 use Rattle.taxi_base.specs.Walks.{Conditions, IsInside, last_of}
 use Rattle.taxi_base.specs.Labels.{window_of, seconds_of}
 use Rattle.walk_labels.specs.Places.{IsPlace, place_of}
-use Rattle.walk_labels.specs.Requests.{OneOf}
+use Rattle.taxi_base.specs.Choices.{OneOf}
 use Rattle.segment_graph.specs.Graphs.{AreNext, ArePrevious}
 use Rattle.check_rows.specs.declared.reach.Way.{Way}
 use Rattle.check_rows.specs.declared.reach.Way.TheVariants.{Forward, Backward}
@@ -45,6 +45,22 @@ IsReachedBy Backward c from by label = IsLeft c from by label
 -- at an arc
 abbrev pub IsReachedAt : Conditions → Reach → Arc → LabelRow → Type 0
 IsReachedAt c reach arc label = (label.arc ≡ arc) × IsReachedBy reach.way c reach.from reach.by label
+
+-- the part of a reach in which a label can be short of a bound
+abbrev pub until_bound : Way → ℕ → Reach → Reach
+until_bound Forward bound reach = record { way = Forward; from = reach.from; by = min reach.by bound }
+until_bound Backward bound reach = record { way = Backward; from = max reach.from bound; by = reach.by }
+
+abbrev pub short_part : Option ℕ → Reach → Reach
+short_part None reach = reach
+short_part (Some bound) reach = until_bound reach.way bound reach
+
+-- a row of an arc, whose window holds the whole of a reach
+pub record IsRowAround (reach : Reach) (arc : Arc) (rows : List LabelRow) (row : LabelRow) : Type 0 where
+  pub there : Contains rows row
+  pub on : row.arc ≡ arc
+  pub begins : row.from ≤ reach.from
+  pub ends : reach.by ≤ row.until
 
 -- ---- in one window
 

@@ -8,7 +8,8 @@ use Rattle.taxi_base.specs.Walks.{Conditions}
 use Rattle.label_core.specs.Tables.{IsBelow}
 use Rattle.label_core.specs.BackwardTables.{IsAbove}
 use Rattle.walk_labels.specs.Places.{IsPlace, place_of}
-use Rattle.walk_labels.specs.Requests.{Beginning, OneOf}
+use Rattle.taxi_base.specs.Choices.{OneOf}
+use Rattle.walk_labels.specs.Requests.{Beginning}
 use Rattle.walk_labels.specs.Requests.Beginning.{at_node, resuming}
 use Rattle.walk_labels.specs.Rules.{IsNext, HasAsEarly}
 use Rattle.walk_labels.specs.BackwardRules.{IsPrevious, HasAsLate}

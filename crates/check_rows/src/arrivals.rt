@@ -1,7 +1,8 @@
 //! The rules for the labels of walks that begin as is asked.
-ghost use Rattle.std.specs.Prelude.{◌↔◌, IfOk, IsTrue, length};
+ghost use Rattle.std.specs.Prelude.{All, ◌↔◌, IfOk, IsTrue, length};
 ghost use Rattle.taxi_base.specs.Walks.{conditions_among, free_among};
 ghost use Rattle.walk_labels.specs.Rules.{IsStartBy};
+ghost use Rattle.walk_labels.specs.Places.{IsPlace, place_of};
 ghost use Rattle.check_rows.specs.declared.reach.Way.TheVariants.{Forward};
 ghost use Rattle.check_rows.specs.Rows.{AreOrdered};
 ghost use Rattle.check_rows.specs.Known.{AreKnown};
@@ -50,7 +51,6 @@ pub fn check_arrival<H: HoldsOf>(
     ensures known { AreKnown (length airport.now.segments) (free_among airport.now (H.held holds.now)) known.new }
     ensures verdict { IfOk result (IsTableVerdict Forward (conditions_among airport.now class (H.held holds.now)) (IsStartBy (conditions_among airport.now class (H.held holds.now)) (beginning_of begin)) to.now bound rows.now) }
 {
-    let table = Table { rows, bound };
     if !are_ordered(rows) {
         return Ok(Some(RowRule::Rows));
     }
@@ -58,15 +58,43 @@ pub fn check_arrival<H: HoldsOf>(
     if !there {
         return Ok(Some(RowRule::Rows));
     }
-    let begun = starts_have_rows(airport, class, holds, known, &table, begin)?;
+    let firsts = known.take_firsts(rows);
+    let table = Table {
+        rows,
+        bound,
+        firsts: &firsts,
+    };
+    let broken = broken_by_places(airport, class, holds, known, &table, begin, to);
+    known.put_firsts(firsts);
+    broken
+}
+
+/// The first rule that fails of a table whose rows are of places, in order.
+fn broken_by_places<H: HoldsOf>(
+    airport: &Airport,
+    class: Class,
+    holds: &H,
+    known: &mut KnownWindows,
+    table: &Table<'_>,
+    begin: Begin,
+    to: &[Node],
+) -> Result<Option<RowRule>, Memory>
+    requires begin { CanCheck airport.now begin }
+    requires ordered { AreOrdered table.now.rows.now }
+    requires places { All (λ row. IsPlace (conditions_among airport.now class (H.held holds.now)) (place_of row)) table.now.rows.now }
+    requires known { AreKnown (length airport.now.segments) (free_among airport.now (H.held holds.now)) known.old }
+    ensures known { AreKnown (length airport.now.segments) (free_among airport.now (H.held holds.now)) known.new }
+    ensures verdict { IfOk result (IsTableVerdict Forward (conditions_among airport.now class (H.held holds.now)) (IsStartBy (conditions_among airport.now class (H.held holds.now)) (beginning_of begin)) to.now table.now.bound table.now.rows.now) }
+{
+    let begun = starts_have_rows(airport, class, holds, known, table, begin)?;
     if !begun {
         return Ok(Some(RowRule::Start));
     }
-    let closed = rows_are_closed(airport, class, holds, known, &table, Way::Forward)?;
+    let closed = rows_are_closed(airport, class, holds, known, table, Way::Forward)?;
     if !closed {
         return Ok(Some(RowRule::Step));
     }
-    if !all_fall_short(airport, &table, Way::Forward, to) {
+    if !all_fall_short(airport, table, Way::Forward, to) {
         return Ok(Some(RowRule::Target));
     }
     Ok(None)
@@ -82,6 +110,7 @@ fn starts_have_rows<H: HoldsOf>(
 ) -> Result<bool, Memory>
     requires can { CanCheck airport.now begin }
     requires ordered { AreOrdered table.now.rows.now }
+    requires places { All (λ row. IsPlace (conditions_among airport.now class (H.held holds.now)) (place_of row)) table.now.rows.now }
     requires known { AreKnown (length airport.now.segments) (free_among airport.now (H.held holds.now)) known.old }
     ensures known { AreKnown (length airport.now.segments) (free_among airport.now (H.held holds.now)) known.new }
     ensures begun { IfOk result (λ yes. IsTrue yes ↔ HasEach Forward (IsStartBy (conditions_among airport.now class (H.held holds.now)) (beginning_of begin)) table.now.bound table.now.rows.now) }

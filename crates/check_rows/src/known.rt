@@ -1,17 +1,21 @@
 //! The windows of the segments that were asked for, kept until the holds change.
-ghost use Rattle.std.specs.Prelude.{◌≡◌, ◌<◌, ℕ, Bool, List, All, IfOk, IsTrue, OnOk, length};
+ghost use Rattle.std.specs.Prelude.{◌≡◌, ◌<◌, ◌∷◌, [], ℕ, Bool, List, All, IfOk, IsTrue, OnOk, length};
 ghost use Rattle.taxi_base.specs.declared.numbers.Segment.{Segment};
 ghost use Rattle.taxi_base.specs.Airport.{layout_of, arc_exists};
-ghost use Rattle.taxi_base.specs.Windows.{Hold, AreWindows};
+ghost use Rattle.taxi_base.specs.Windows.{Hold, holds_of, AreWindows};
 ghost use Rattle.taxi_base.specs.Walks.{free_among};
-ghost use Rattle.check_rows.specs.Known.{AreKnown, is_known, DifferOn, DifferAt, AreLeft};
+ghost use Rattle.check_rows.specs.Known.{AreKnown, is_known, DifferOn, DifferAt, HaveMore, AreLeft};
+ghost use Rattle.check_rows.specs.Cuts.{IsApart, IsListCut, AreListsCut};
 
+use crate::around::note_firsts;
+use crate::cuts::cut_windows;
 use crate::windows::fill_windows;
 use airport_file::Airport;
 use held_spans::HoldsOf;
 use segment_graph::segment_of;
 use std::alloc::Global;
-use taxi_base::{Memory, Segment, Span, Step};
+use std::mem::replace;
+use taxi_base::{LabelRow, Memory, Segment, Span, Step, Time};
 
 /// The windows of each segment for which they were made. Their memory is used again when they are made anew.
 #[derive(Drop)]
@@ -19,6 +23,8 @@ pub struct KnownWindows {
     lists: Vec<SegmentWindows>,
     // The spans of which windows are being made.
     busy: Vec<Span>,
+    // Where the rows of each arc begin in the table that is being checked.
+    firsts: Vec<usize>,
 }
 
 /// The windows of one segment, where they were made.
@@ -34,15 +40,40 @@ impl KnownWindows {
         ensures { IfOk result (λ known. (free : Segment → ℕ → Bool) → AreKnown (length airport.now.segments) free known) }
     {
         let mut lists = Vec::new(alloc);
+        let mut firsts = Vec::new(alloc);
         for _ in 0..airport.graph().segments() {
             let windows = Vec::new(alloc);
             lists.push(SegmentWindows {
                 windows,
                 is_made: false,
             })?;
+            // An arc each way.
+            firsts.push(0)?;
+            firsts.push(0)?;
         }
         let busy = Vec::new(alloc);
-        Ok(KnownWindows { lists, busy })
+        Ok(KnownWindows {
+            lists,
+            busy,
+            firsts,
+        })
+    }
+
+    /// Hands out where the rows of each arc begin in a table, until it is put back.
+    pub(crate) fn take_firsts(&mut self, rows: &[LabelRow]) -> Vec<usize>
+        ensures { (segments : ℕ) (free : Segment → ℕ → Bool) → AreKnown segments free self.old → AreKnown segments free self.new }
+    {
+        let none = Vec::new(*self.firsts.allocator());
+        let mut firsts = replace(&mut self.firsts, none);
+        note_firsts(&mut firsts, rows);
+        firsts
+    }
+
+    /// Takes it back, to be used again.
+    pub(crate) fn put_firsts(&mut self, firsts: Vec<usize>)
+        ensures { (segments : ℕ) (free : Segment → ℕ → Bool) → AreKnown segments free self.old → AreKnown segments free self.new }
+    {
+        self.firsts = firsts;
     }
 
     /// Makes a segment's windows, unless they are there.
@@ -71,6 +102,28 @@ impl KnownWindows {
         ensures { (segments : ℕ) (free : Segment → ℕ → Bool) → AreKnown segments free self.now → AreWindows (free segment) result.now }
     {
         &self.lists[segment.0 as usize].windows
+    }
+
+    /// Cuts what some steps hold out of the windows that are known.
+    pub fn cut(&mut self, airport: &Airport, clearance: Time, steps: &[Step])
+        requires arcs { All (λ step. IsTrue (arc_exists (layout_of airport.now) step.arc)) steps.now }
+        requires known { (holds : List Hold) × AreKnown (length airport.now.segments) (free_among airport.now holds) self.old }
+        ensures { (holds others : List Hold) → HaveMore (holds_of airport.now.horizon clearance steps.now) holds others → AreKnown (length airport.now.segments) (free_among airport.now holds) self.old → AreKnown (length airport.now.segments) (free_among airport.now others) self.new }
+    {
+        for step in steps {
+            let held = step.held(airport.horizon(), clearance);
+            self.cut_segment(airport, segment_of(step.arc), held);
+        }
+    }
+
+    /// Cuts a span for which a segment is held out of the windows that are known.
+    pub fn cut_segment(&mut self, airport: &Airport, segment: Segment, span: Span)
+        requires on { segment.0 < length airport.now.segments }
+        requires known { (holds : List Hold) × AreKnown (length airport.now.segments) (free_among airport.now holds) self.old }
+        ensures { (holds others : List Hold) → HaveMore (record { segment = segment; span = span } ∷ []) holds others → AreKnown (length airport.now.segments) (free_among airport.now holds) self.old → AreKnown (length airport.now.segments) (free_among airport.now others) self.new }
+    {
+        let conflicting = airport.conflicts().of(segment);
+        cut_lists(&mut self.lists, conflicting, span);
     }
 
     /// Forgets the windows of all segments in conflict with those of some steps. The others stay right where the holds change
@@ -104,6 +157,34 @@ fn forget_lists(lists: &mut Vec<SegmentWindows>, segments: &[Segment])
         let at = segment.0 as usize;
         if at < lists.len() {
             lists[at].is_made = false;
+        }
+    }
+}
+
+/// Cuts a span out of the lists of some segments.
+fn cut_lists(lists: &mut Vec<SegmentWindows>, segments: &[Segment], span: Span)
+    requires { All IsApart lists.old.items }
+    ensures { AreListsCut segments.now span lists.old.items lists.new.items }
+{
+    for segment in segments {
+        let at = segment.0 as usize;
+        if at < lists.len() {
+            lists[at].cut(span);
+        }
+    }
+}
+
+impl SegmentWindows {
+    /// Cuts a span out of the windows, if they were made. Where memory runs out they are forgotten.
+    fn cut(&mut self, span: Span)
+        requires { IsApart self.old }
+        ensures { IsListCut span self.old self.new }
+    {
+        if !self.is_made {
+            return;
+        }
+        if cut_windows(&mut self.windows, span).is_err() {
+            self.is_made = false;
         }
     }
 }

@@ -1,8 +1,10 @@
 //! The rules by which a table of labels is checked, over plain rows and a bare list of holds.
 #![tactic(auto)]
 
+mod around;
 mod arrivals;
 mod closed;
+mod cuts;
 mod departures;
 mod known;
 mod laws;

@@ -2,7 +2,7 @@
 ghost use Rattle.std.specs.Prelude.{◌≡◌, ◌↔◌, ◌+◌, ◌≤◌, ◌&&◌, ℕ, Bool, Some, nat_le, max, min};
 ghost use Rattle.taxi_base.specs.declared.numbers.Segment.{Segment};
 ghost use Rattle.taxi_base.specs.Walks.{last_of};
-ghost use Rattle.check_rows.specs.Reached.{conditions_at, IsValueIn};
+ghost use Rattle.check_rows.specs.Reached.{conditions_at, short_part, until_bound, IsValueIn};
 
 use airport_file::Airport;
 use std::cmp::{max, min};
@@ -23,6 +23,33 @@ pub struct Reach {
     pub way: Way,
     pub from: Time,
     pub by: Time,
+}
+
+/// The part of a reach in which a label can be short of a bound, if there is one.
+pub fn short_part(reach: Reach, bound: Option<Time>) -> Reach
+    ensures { result ≡ short_part bound reach }
+{
+    match bound {
+        Some(bound) => until_bound(reach, bound),
+        None => reach,
+    }
+}
+
+fn until_bound(reach: Reach, bound: Time) -> Reach
+    ensures { result ≡ until_bound reach.way bound reach }
+{
+    match reach.way {
+        Way::Forward => Reach {
+            way: Way::Forward,
+            from: reach.from,
+            by: sooner(reach.by, bound),
+        },
+        Way::Backward => Reach {
+            way: Way::Backward,
+            from: later(reach.from, bound),
+            by: reach.by,
+        },
+    }
 }
 
 /// The value of a label in a window, if the window can be reached in time and the class can stay in it for these seconds.

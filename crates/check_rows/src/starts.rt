@@ -7,6 +7,7 @@ ghost use Rattle.taxi_base.specs.Windows.{AreWindows};
 ghost use Rattle.taxi_base.specs.Walks.{conditions_among, free_among, IsInside};
 ghost use Rattle.walk_labels.specs.Rules.{IsStartAtNode, IsStartResuming};
 ghost use Rattle.walk_labels.specs.BackwardRules.{IsFinishAt};
+ghost use Rattle.walk_labels.specs.Places.{IsPlace, place_of};
 ghost use Rattle.check_rows.specs.declared.reach.Way.TheVariants.{Forward, Backward};
 ghost use Rattle.check_rows.specs.Rows.{AreOrdered};
 ghost use Rattle.check_rows.specs.Known.{AreKnown};
@@ -35,6 +36,7 @@ pub fn leaving_have_rows<H: HoldsOf>(
 ) -> Result<bool, Memory>
     requires node { node.0 < length airport.now.nodes }
     requires ordered { AreOrdered table.now.rows.now }
+    requires places { All (λ row. IsPlace (conditions_among airport.now class (H.held holds.now)) (place_of row)) table.now.rows.now }
     requires known { AreKnown (length airport.now.segments) (free_among airport.now (H.held holds.now)) known.old }
     ensures known { AreKnown (length airport.now.segments) (free_among airport.now (H.held holds.now)) known.new }
     ensures begun { IfOk result (λ yes. IsTrue yes ↔ HasEach Forward (IsStartAtNode (conditions_among airport.now class (H.held holds.now)) node from by) table.now.bound table.now.rows.now) }
@@ -62,6 +64,7 @@ pub fn entering_have_rows<H: HoldsOf>(
 ) -> Result<bool, Memory>
     requires nodes { All (λ node. node.0 < length airport.now.nodes) nodes.now }
     requires ordered { AreOrdered table.now.rows.now }
+    requires places { All (λ row. IsPlace (conditions_among airport.now class (H.held holds.now)) (place_of row)) table.now.rows.now }
     requires known { AreKnown (length airport.now.segments) (free_among airport.now (H.held holds.now)) known.old }
     ensures known { AreKnown (length airport.now.segments) (free_among airport.now (H.held holds.now)) known.new }
     ensures begun { IfOk result (λ yes. IsTrue yes ↔ HasEach Backward (IsFinishAt (conditions_among airport.now class (H.held holds.now)) nodes.now from by) table.now.bound table.now.rows.now) }

@@ -3,6 +3,7 @@ ghost use Rattle.std.specs.Prelude.{◌≡◌, ◌↔◌, ℕ, Bool, All, IfOk, 
 ghost use Rattle.taxi_base.specs.declared.numbers.Segment.{Segment};
 ghost use Rattle.taxi_base.specs.Airport.{layout_of, arc_exists};
 ghost use Rattle.taxi_base.specs.Walks.{conditions_among, free_among};
+ghost use Rattle.walk_labels.specs.Places.{IsPlace, place_of};
 ghost use Rattle.check_rows.specs.Rows.{AreOrdered};
 ghost use Rattle.check_rows.specs.Known.{AreKnown};
 ghost use Rattle.check_rows.specs.Rules.{HasEach, ComesOf, AreClosed};
@@ -29,6 +30,7 @@ pub fn rows_are_closed<H: HoldsOf>(
 ) -> Result<bool, Memory>
     requires exist { All (λ row. IsTrue (arc_exists (layout_of airport.now) row.arc)) table.now.rows.now }
     requires ordered { AreOrdered table.now.rows.now }
+    requires places { All (λ row. IsPlace (conditions_among airport.now class (H.held holds.now)) (place_of row)) table.now.rows.now }
     requires known { AreKnown (length airport.now.segments) (free_among airport.now (H.held holds.now)) known.old }
     ensures known { AreKnown (length airport.now.segments) (free_among airport.now (H.held holds.now)) known.new }
     ensures closed { IfOk result (λ yes. IsTrue yes ↔ AreClosed way (conditions_among airport.now class (H.held holds.now)) table.now.bound table.now.rows.now) }
@@ -53,6 +55,7 @@ fn labels_of_row_have_rows<H: HoldsOf>(
 ) -> Result<bool, Memory>
     requires exists { IsTrue (arc_exists (layout_of airport.now) row.arc) }
     requires ordered { AreOrdered table.now.rows.now }
+    requires places { All (λ row. IsPlace (conditions_among airport.now class (H.held holds.now)) (place_of row)) table.now.rows.now }
     requires known { AreKnown (length airport.now.segments) (free_among airport.now (H.held holds.now)) known.old }
     ensures known { AreKnown (length airport.now.segments) (free_among airport.now (H.held holds.now)) known.new }
     ensures closed { IfOk result (λ yes. IsTrue yes ↔ HasEach way (ComesOf way (conditions_among airport.now class (H.held holds.now)) row) table.now.bound table.now.rows.now) }

@@ -1,19 +1,20 @@
 //! A table to be checked: its rows, and the bound of which they fall short.
-ghost use Rattle.std.specs.Prelude.{◌≡◌, ◌↔◌, ◌≤◌, ◌&&◌, nat_le, true, false, length, IsTrue};
+ghost use Rattle.std.specs.Prelude.{◌≡◌, ◌↔◌, ◌≤◌, ◌&&◌, nat_le, true, false, length, Contains, IsTrue};
 ghost use Rattle.std.specs.List.Sorted.{IsPartitionPoint};
 ghost use Rattle.taxi_base.specs.Labels.{precedes};
-ghost use Rattle.check_rows.specs.Rows.{AreOrdered, is_before};
+ghost use Rattle.check_rows.specs.Rows.{AreOrdered, is_at_place, is_before};
 ghost use Rattle.check_rows.specs.Rules.{IsShort, HasAsGood};
 
 use crate::reach::Way;
 use crate::rows::{is_as_good, precedes};
 use taxi_base::{LabelRow, Time};
 
-/// Rows, and a bound if there is one.
+/// Rows, and a bound if there is one. Where the rows of an arc begin may be noted by its number.
 #[derive(Clone, Copy)]
 pub struct Table<'a> {
     pub rows: &'a [LabelRow],
     pub bound: Option<Time>,
+    pub firsts: &'a [usize],
 }
 
 impl<'a> Table<'a> {
@@ -33,6 +34,16 @@ impl<'a> Table<'a> {
         ensures { IsTrue result ↔ (IsShort way self.now.bound label.value → HasAsGood way self.now.rows.now label) }
     {
         !self.is_short(way, label.value) || self.has_as_good(way, label)
+    }
+
+    /// The same where a row at the label's place is known.
+    pub fn is_served(&self, way: Way, row: LabelRow, label: LabelRow) -> bool
+        requires ordered { AreOrdered self.now.rows.now }
+        requires there { Contains self.now.rows.now row }
+        requires same { IsTrue (is_at_place row label) }
+        ensures { IsTrue result ↔ (IsShort way self.now.bound label.value → HasAsGood way self.now.rows.now label) }
+    {
+        !self.is_short(way, label.value) || is_as_good(way, row, label)
     }
 
     fn has_as_good(&self, way: Way, label: LabelRow) -> bool

@@ -3,7 +3,7 @@ ghost use Rattle.std.specs.Prelude.{◌≡◌, ◌↔◌, ℕ, Bool, Some, All, 
 ghost use Rattle.taxi_base.specs.declared.numbers.Segment.{Segment};
 ghost use Rattle.taxi_base.specs.declared.numbers.Class.{Class};
 ghost use Rattle.taxi_base.specs.Airport.{layout_of, arc_exists};
-ghost use Rattle.walk_labels.specs.Requests.{OneOf};
+ghost use Rattle.taxi_base.specs.Choices.{OneOf};
 ghost use Rattle.check_rows.specs.Rules.{FallShort, far_end};
 ghost use Rattle.check_rows.specs.Reached.{conditions_at, FallsShort};
 

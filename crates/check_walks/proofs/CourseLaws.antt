@@ -69,7 +69,7 @@ leads-not layout begin to rest d some other = (λ e. absurd (false≢true e), λ
 -- ---- the walks of an arrival
 
 module _ (c : Conditions) (from to : Node) (asked hold : ℕ) where
-  pub arrival-search : (way : Option UnderWay) → search_of (Arrival from to asked hold) way ≡ Some (onward (beginning_for from asked hold way) to)
+  pub arrival-search : (way : Option UnderWay) → search_of (Arrival from to asked hold) [] way ≡ Some (onward (beginning_for from asked hold way) (to ∷ []))
   arrival-search None = refl
   arrival-search (Some way) = refl
 

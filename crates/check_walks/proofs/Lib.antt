@@ -5,3 +5,4 @@ pub mod CourseLaws
 pub mod ToldLaws
 mod TableLaws
 mod AskedLaws
+mod ChoiceLaws

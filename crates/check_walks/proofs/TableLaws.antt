@@ -58,7 +58,7 @@ can-begin airport from asked hold way begin is on early = can-check airport begi
 -- the first rule that the table breaks is that for the search
 pub arrival-verdict : (c : Conditions) (from to : Node) (asked hold : ℕ) (way : Option UnderWay) (begin : Begin) → beginning_of begin ≡ beginning_for from asked hold way
     → (bound : Option ℕ) (rows : List LabelRow) {E : Type 0} (r : Result (Option RowRule) E) → IfOk r (IsTableVerdict Forward c (IsStartBy c (beginning_of begin)) (to ∷ []) bound rows)
-    → IfOk r (IsVerdictOn c (Arrival from to asked hold) way bound rows)
+    → IfOk r (IsVerdictOn c (Arrival from to asked hold) [] way bound rows)
 arrival-verdict c from to asked hold way begin is bound rows (Err e) told = tt
 arrival-verdict c from to asked hold way begin is bound rows (Ok verdict) told =
     subst

@@ -1,6 +1,7 @@
 -- The first rule that a block breaks, from what is known of its walk and of its table.
-use Rattle.std.proofs.Common.{◌≡◌, ℕ, ◌<◌, List, Option, Some, None, arith}
+use Rattle.std.proofs.Common.{◌≡◌, ℕ, ◌<◌, List, [], Option, Some, None, arith}
 use Rattle.std.specs.Prelude.{MatchOption}
+use Rattle.taxi_base.specs.declared.numbers.Node.{Node}
 use Rattle.taxi_base.specs.declared.rows.Step.{Step as Leg}
 use Rattle.taxi_base.specs.declared.rows.LabelRow.{LabelRow}
 use Rattle.taxi_base.specs.declared.answers.Request.{Request}
@@ -15,7 +16,7 @@ use Rattle.certificate.specs.Passes.{KeepsSought, turn_of}
 use Rattle.check_rows.specs.declared.verdict.RowRule.{RowRule}
 use Rattle.check_rows.specs.declared.verdict.RowRule.TheVariants.{Rows, Start, Step, Target}
 use Rattle.check_rows.specs.Verdict.{IsVerdict}
-use Rattle.check_walks.specs.Course.{IsWalkIn}
+use Rattle.check_walks.specs.Course.{IsWalkIn, IsWalkAmong}
 use Rattle.check_walks.specs.Told.{IsFirstOf, IsVerdictOn, rule_of}
 
 -- the rules for rows, where there is a search
@@ -81,33 +82,39 @@ module _ (IsKept : Rule → Type 0) (reply : IsKept rule.Reply) where
 
 -- ---- what is sought
 
+-- a walk that is sought where there are no other nodes
+pub among-alone : (c : Conditions) (request : Request) (way : Option UnderWay) (steps : List Leg) (second : ℕ) → IsWalkIn c request way steps × (second_of request steps ≡ second)
+    → IsWalkAmong c request [] way steps × (second_of request steps ≡ second)
+among-alone c request None steps second is = is
+among-alone c request (Some way) steps second is = is
+
 -- the same walk with the conditions and the request that are known
-module _ (s : Sought) (c : Conditions) (request : Request) (way : Option UnderWay) (same : s.conditions ≡ c) (asked : s.request ≡ request) (by_way : s.under_way ≡ way) where
+module _ (s : Sought) (c : Conditions) (request : Request) (others : List Node) (way : Option UnderWay) (same : s.conditions ≡ c) (asked : s.request ≡ request) (among : s.others ≡ others) (by_way : s.under_way ≡ way) where
   abbrev IsWalkOf : List Leg → ℕ → Type 0
-  IsWalkOf steps second = IsWalkIn c request way steps × (second_of request steps ≡ second)
+  IsWalkOf steps second = IsWalkAmong c request others way steps × (second_of request steps ≡ second)
 
   pub route-walk : (name : List ℕ) (second : ℕ) (steps : List Leg) (labels : List LabelRow) → IsWalkOf steps second → KeepsSought rule.Walk s (Route name second steps labels)
-  route-walk name second steps labels is = rw (same, asked, by_way) is
+  route-walk name second steps labels is = rw (same, asked, among, by_way) is
 
   pub walk-route : (name : List ℕ) (second : ℕ) (steps : List Leg) (labels : List LabelRow) → KeepsSought rule.Walk s (Route name second steps labels) → IsWalkOf steps second
-  walk-route name second steps labels keeps = rw (same, asked, by_way) at keeps
+  walk-route name second steps labels keeps = rw (same, asked, among, by_way) at keeps
 
   abbrev search : Option Search
-  search = search_of request way
+  search = search_of request others way
 
-  on-search : (bound : Option ℕ) (labels : List LabelRow) (verdict : Option RowRule) → IsVerdictOn c request way bound labels verdict
-      → IsVerdict (MatchOption (search_of s.request s.under_way) ⊥ (λ x. KeepsRows s.conditions labels)) (MatchOption (search_of s.request s.under_way) ⊥ (λ x. KeepsStart s.conditions x bound labels))
-      (MatchOption (search_of s.request s.under_way) ⊥ (λ x. KeepsStep s.conditions x bound labels)) (MatchOption (search_of s.request s.under_way) ⊥ (λ x. KeepsTarget s.conditions x bound labels)) verdict
+  on-search : (bound : Option ℕ) (labels : List LabelRow) (verdict : Option RowRule) → IsVerdictOn c request others way bound labels verdict
+      → IsVerdict (MatchOption (search_of s.request s.others s.under_way) ⊥ (λ x. KeepsRows s.conditions labels)) (MatchOption (search_of s.request s.others s.under_way) ⊥ (λ x. KeepsStart s.conditions x bound labels))
+      (MatchOption (search_of s.request s.others s.under_way) ⊥ (λ x. KeepsStep s.conditions x bound labels)) (MatchOption (search_of s.request s.others s.under_way) ⊥ (λ x. KeepsTarget s.conditions x bound labels)) verdict
   on-search bound labels verdict is =
-      rw (same, asked, by_way)
+      rw (same, asked, among, by_way)
       (match-verdict search (λ x. KeepsRows c labels) (λ x. KeepsStart c x bound labels) (λ x. KeepsStep c x bound labels) (λ x. KeepsTarget c x bound labels) verdict is)
 
   pub route-first : (name : List ℕ) (second : ℕ) (steps : List Leg) (labels : List LabelRow) (verdict : Option RowRule) → IsWalkOf steps second
-      → IsVerdictOn c request way (Some second) labels verdict → IsFirstOf (λ r. KeepsSought r s (Route name second steps labels)) (rule_of verdict)
+      → IsVerdictOn c request others way (Some second) labels verdict → IsFirstOf (λ r. KeepsSought r s (Route name second steps labels)) (rule_of verdict)
   route-first name second steps labels verdict walk is =
       rows-first (λ r. KeepsSought r s (Route name second steps labels)) tt (route-walk name second steps labels walk) verdict (on-search (Some second) labels verdict is)
 
-  pub no_route-first : (labels : List LabelRow) (verdict : Option RowRule) → IsVerdictOn c request way None labels verdict → IsFirstOf (λ r. KeepsSought r s (NoRoute labels)) (rule_of verdict)
+  pub no_route-first : (labels : List LabelRow) (verdict : Option RowRule) → IsVerdictOn c request others way None labels verdict → IsFirstOf (λ r. KeepsSought r s (NoRoute labels)) (rule_of verdict)
   no_route-first labels verdict is = rows-first (λ r. KeepsSought r s (NoRoute labels)) tt tt verdict (on-search None labels verdict is)
 
   pub route-broken : (name : List ℕ) (second : ℕ) (steps : List Leg) (labels : List LabelRow) → (IsWalkOf steps second → ⊥)

@@ -1,3 +1,4 @@
 pub mod Course
 pub mod Told
 pub mod Steps
+pub mod Choice

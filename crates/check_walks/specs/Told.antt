@@ -1,5 +1,6 @@
 -- Which rule does a block break first, where it tells of a search?
 use Rattle.std.specs.Prelude.{ℕ, ◌<◌, List, length, Option, Some, None, MatchOption}
+use Rattle.taxi_base.specs.declared.numbers.Node.{Node}
 use Rattle.taxi_base.specs.declared.answers.Request.{Request}
 use Rattle.taxi_base.specs.declared.answers.Request.TheVariants as request
 use Rattle.taxi_base.specs.declared.rows.LabelRow.{LabelRow}
@@ -37,7 +38,7 @@ rule_of (Some Step) = Some rule.Step
 rule_of (Some Target) = Some rule.Target
 
 -- the first rule for rows that the table of a search breaks
-abbrev pub IsVerdictOn : Conditions → Request → Option UnderWay → Option ℕ → List LabelRow → Option RowRule → Type 0
-IsVerdictOn c request way bound rows verdict =
-    MatchOption (search_of request way) ⊥
+abbrev pub IsVerdictOn : Conditions → Request → List Node → Option UnderWay → Option ℕ → List LabelRow → Option RowRule → Type 0
+IsVerdictOn c request others way bound rows verdict =
+    MatchOption (search_of request others way) ⊥
     (λ search. IsVerdict (KeepsRows c rows) (KeepsStart c search bound rows) (KeepsStep c search bound rows) (KeepsTarget c search bound rows) verdict)

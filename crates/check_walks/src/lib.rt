@@ -1,6 +1,7 @@
 //! Whether what a block tells of a search is right: its walk and its table, over a bare list of holds.
 #![tactic(auto)]
 
+mod choice;
 mod course;
 mod feasible;
 mod inside;
@@ -9,6 +10,7 @@ mod tables;
 mod told;
 mod walk;
 
+pub use choice::{AskedAny, check_told_any, retargeted};
 pub use course::{Asked, OnTheWay};
 pub use feasible::is_feasible_walk;
 pub use laws::what_breaks_no_rule_is_best;

@@ -1,5 +1,5 @@
 //! The rules for the table of a search.
-ghost use Rattle.std.specs.Prelude.{◌≡◌, ◌≤◌, All, IfOk, length};
+ghost use Rattle.std.specs.Prelude.{◌≡◌, ◌≤◌, [], All, IfOk, length};
 ghost use Rattle.std.specs.Option.{ForSome};
 ghost use Rattle.taxi_base.specs.Walks.{conditions_among, free_among};
 ghost use Rattle.check_rows.specs.Known.{AreKnown};
@@ -27,7 +27,7 @@ pub fn check_table<H: HoldsOf>(
     requires early { ForSome (way_of asked.now.way) (λ way. All (λ step. step.enter ≤ 9999999) way.steps) }
     requires known { AreKnown (length airport.now.segments) (free_among airport.now (H.held holds.now)) known.old }
     ensures known { AreKnown (length airport.now.segments) (free_among airport.now (H.held holds.now)) known.new }
-    ensures verdict { IfOk result (IsVerdictOn (conditions_among airport.now class (H.held holds.now)) asked.now.request (way_of asked.now.way) bound labels.now) }
+    ensures verdict { IfOk result (IsVerdictOn (conditions_among airport.now class (H.held holds.now)) asked.now.request [] (way_of asked.now.way) bound labels.now) }
 {
     match asked.request {
         Request::Filed => Ok(None),

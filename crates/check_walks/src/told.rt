@@ -1,5 +1,5 @@
 //! Whether what a block tells of a search is right.
-ghost use Rattle.std.specs.Prelude.{◌≡◌, ◌≤◌, All, IfOk, length};
+ghost use Rattle.std.specs.Prelude.{◌≡◌, ◌≤◌, [], All, IfOk, length};
 ghost use Rattle.std.specs.Option.{ForSome};
 ghost use Rattle.taxi_base.specs.Walks.{conditions_among, free_among};
 ghost use Rattle.certificate.specs.Sought.{Sought};
@@ -32,7 +32,7 @@ pub fn check_told<H: HoldsOf>(
     requires early { ForSome (way_of asked.now.way) (λ way. All (λ step. step.enter ≤ 9999999) way.steps) }
     requires known { AreKnown (length airport.now.segments) (free_among airport.now (H.held holds.now)) known.old }
     ensures known { AreKnown (length airport.now.segments) (free_among airport.now (H.held holds.now)) known.new }
-    ensures first { IfOk result (λ broken. (s : Sought) → s.conditions ≡ conditions_among airport.now class (H.held holds.now) → s.request ≡ asked.now.request → s.under_way ≡ way_of asked.now.way → IsFirstOf (λ rule. KeepsSought rule s block.now) broken) }
+    ensures first { IfOk result (λ broken. (s : Sought) → s.conditions ≡ conditions_among airport.now class (H.held holds.now) → s.request ≡ asked.now.request → s.others ≡ [] → s.under_way ≡ way_of asked.now.way → IsFirstOf (λ rule. KeepsSought rule s block.now) broken) }
 {
     match block {
         Block::Route {

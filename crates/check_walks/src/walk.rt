@@ -42,7 +42,7 @@ pub fn keeps_walk<H: HoldsOf>(
 }
 
 /// Whether a walk begins and ends as was asked.
-fn goes_as_asked(airport: &Airport, asked: &Asked<'_>, steps: &[Step]) -> bool
+pub(crate) fn goes_as_asked(airport: &Airport, asked: &Asked<'_>, steps: &[Step]) -> bool
     requires sought { CanBeSought airport.now asked.now.request }
     requires some { 0 < length steps.now }
     requires arcs { All (λ step. IsTrue (arc_exists (layout_of airport.now) step.arc)) steps.now }
@@ -95,7 +95,7 @@ fn is_joined(tail: Node, from: Node, head: Node, to: Node) -> bool
 }
 
 /// The second that is told of a walk: where a departure begins, and where an arrival ends.
-fn second_at(request: &Request, steps: &[Step]) -> Time
+pub(crate) fn second_at(request: &Request, steps: &[Step]) -> Time
     requires { 0 < length steps.now }
     ensures { result ≡ second_of request.now steps.now }
 {

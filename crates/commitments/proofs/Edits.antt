@@ -1,21 +1,19 @@
 -- What a place among the names says of the flights in the slab, and what they are after an edit there.
-use Rattle.std.proofs.Common.{◌≡◌, ◌≢◌, ℕ, zero, suc, ◌+◌, add-one, ap, ◌<◌, ◌≤◌, IsTrue, List, [], ◌∷◌, length, get_or, insert, take, drop, Some, None, refl, sym, ◌∙◌, arith}
-use Rattle.std.specs.Prelude.{All, AllPairs, IsSome, Result, Ok, Err, IsErr, slice_get}
-use Rattle.std.specs.List.{AllWithin, remove}
+use Rattle.std.proofs.Common.{◌≡◌, ℕ, suc, ◌<◌, ◌≤◌, List, [], length, get_or, insert, take, drop, Some, None, refl, sym, ◌∙◌, arith}
+use Rattle.std.specs.Prelude.{IsSome, Result, Ok, Err, IsErr, slice_get}
+use Rattle.std.specs.List.{remove}
 use Rattle.std.specs.Result.{result_ok}
-use Rattle.std.proofs.lemmas.List.Elements.{All-cons, All-append, All-take, All-drop}
-use Rattle.std.proofs.lemmas.List.Kept.{AllPairs-cons}
+use Rattle.std.proofs.lemmas.List.Elements.{All-append, All-take, All-drop}
 use Rattle.std.proofs.lemmas.List.Quantifiers.{all_pairs_remove}
 use Rattle.std.proofs.lemmas.Option.{slice_get-get_or}
 use Rattle.slab.specs.Slab.{Slab, get, Updates}
 use Rattle.taxi_base.specs.declared.answers.Flight.{Flight}
-use Rattle.taxi_base.specs.State.{name_precedes, flight_named, flights_with}
-use Rattle.taxi_base.proofs.ListLaws.{AllPairs-first, AllPairs-rest}
+use Rattle.taxi_base.specs.State.{flight_named, flights_with}
 use Rattle.commitments.specs.Book.{IsBook, flights_of, AreNamed}
 use Rattle.commitments.specs.Places.{AreInOrder, IsPlace, IsFlightPlace, key_name}
 use Rattle.commitments.proofs.Names.{named-place, is-gap, put-in-gap}
 use Rattle.commitments.proofs.Inserted.{All-insert, ordered-insert}
-use Rattle.taxi_base.proofs.FlightNames.{Precedes, find-here, remove-here, absent-find, absent-without, gap-absent, insert-gap}
+use Rattle.taxi_base.proofs.FlightNames.{Precedes}
 use Rattle.commitments.proofs.Stored.{Names, AreStored, stored_from_named, view-stored, named_from_stored, length-stored, get-stored, some_flight, names-ordered, vacant-other, stored-insert, stored-remove}
 
 -- ---- the flights of a ledger

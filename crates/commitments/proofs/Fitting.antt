@@ -1,5 +1,5 @@
 -- What fits an airport: a ledger with none lifted, one with a lifted flight, and what they become after each call.
-use Rattle.std.proofs.Common.{◌≡◌, ℕ, ◌+◌, ◌<◌, Bool, false, List, [], ◌∷◌, ◌++◌, length, IsFalse, Option, Some, None, refl, sym, ◌∙◌, ap, subst, arith}
+use Rattle.std.proofs.Common.{◌≡◌, ℕ, ◌+◌, ◌<◌, false, List, [], ◌∷◌, ◌++◌, length, IsFalse, Option, Some, None, refl, sym, ◌∙◌, ap, subst, arith}
 use Rattle.std.specs.Prelude.{remove, slice_get, IsSome, IfSome, IsSomeAnd}
 use Rattle.std.specs.Option.{is_some, option_and_then}
 use Rattle.std.specs.List.Sorted.{IsPermutation}

@@ -1,5 +1,5 @@
 -- A search among things in the order of their names, and what the place that it gives says of them.
-use Rattle.std.proofs.Common.{◌≡◌, ◌≢◌, ℕ, ◌+◌, ◌<◌, ◌≤◌, List, [], ◌∷◌, length, get_or, insert, Option, Some, None, refl, sym, ap, ◌∙◌, arith}
+use Rattle.std.proofs.Common.{◌≡◌, ◌≢◌, ℕ, ◌+◌, ◌<◌, List, [], ◌∷◌, length, get_or, insert, None, refl, sym, ap, ◌∙◌, arith}
 use Rattle.std.specs.Ordering.{nat_cmp, is_lt, is_eq, ordering_index, ordering_reverse}
 use Rattle.std.specs.Cmp.Lexicographic.{slice_cmp, bytes_decides}
 use Rattle.std.specs.Result.{result_ok}
@@ -9,7 +9,7 @@ use Rattle.std.specs.Prelude.{Result, Ok, Err, All, IsErr, slice_get}
 use Rattle.std.proofs.lemmas.Map.Text.{is_eq-slice_cmp}
 use Rattle.std.proofs.lemmas.List.Sorted.{searchable_from_sorted}
 use Rattle.std.proofs.lemmas.Option.{slice_get-get_or}
-use Rattle.taxi_base.specs.State.{named, left_out, put_in}
+use Rattle.taxi_base.specs.State.{named, put_in}
 use Rattle.taxi_base.proofs.FlightNames.{precedes_back}
 use Rattle.taxi_base.proofs.NamedLists.{find-here, remove-here, gap-absent, absent-find, absent-without, insert-gap}
 use Rattle.commitments.specs.Places.{AreInOrder, IsPlace, IsNamedPlace}

@@ -1,13 +1,13 @@
 -- The holders of a state as routes: what they hold, what one of them is, and what is left without it.
 use Rattle.std.proofs.Common.{◌≡◌, ◌≢◌, ℕ, zero, suc, ◌+◌, ◌-◌, ◌<◌, ◌≤◌, List, [], ◌∷◌, ◌++◌, length, map, get_or, Option, Some, None, true, IsFalse, refl, sym, ap, ◌∙◌, subst, arith}
-use Rattle.std.specs.Prelude.{All, bytes_eq, flat_map, option_map, remove, slice_get}
+use Rattle.std.specs.Prelude.{All, bytes_eq, option_map, remove, slice_get}
 use Rattle.std.specs.List.Sorted.{IsPermutation}
 use Rattle.std.specs.Cmp.Lexicographic.{bytes_decides}
 use Rattle.std.proofs.lemmas.Bool.{both_ways}
 use Rattle.std.proofs.lemmas.List.{length-append, length-map}
 use Rattle.std.proofs.lemmas.List.Concat.{flat_map-append}
 use Rattle.std.proofs.lemmas.List.Edits.{remove-append_left, remove-append_right}
-use Rattle.std.proofs.lemmas.List.Elements.{All-map, All-append, All-weaker}
+use Rattle.std.proofs.lemmas.List.Elements.{All-weaker}
 use Rattle.std.proofs.lemmas.List.Folds.{flat_map-map}
 use Rattle.std.proofs.lemmas.Option.{get_or_from_slice_get, slice_get-map, slice_get_within}
 use Rattle.taxi_base.specs.declared.numbers.Segment.{Segment}
@@ -16,7 +16,7 @@ use Rattle.taxi_base.specs.declared.answers.Flight.{Flight}
 use Rattle.taxi_base.specs.declared.answers.Party.{Party}
 use Rattle.taxi_base.specs.Airport.{Airport, arc_of}
 use Rattle.taxi_base.specs.Windows.{Hold, HeldRoute, holds_of}
-use Rattle.taxi_base.specs.State.{State, left_out, without, flights_without, parties_without, party_hold, party_step, holds_in, IsFeasibleHold, IsFeasibleState}
+use Rattle.taxi_base.specs.State.{State, without, flights_without, parties_without, party_hold, party_step, holds_in, IsFeasibleHold, IsFeasibleState}
 use Rattle.taxi_base.proofs.NamedLists.{absent-without}
 use Rattle.taxi_base.proofs.StateLaws.{party_step-holds, IsFeasibleState-without}
 use Rattle.window_store.specs.Store.{Store}
@@ -29,17 +29,17 @@ use Rattle.commitments.proofs.SameHolds.{remove-holds}
 
 -- ---- lists
 
-there : {X : Type 0} (xs : List X) (k : ℕ) → k < length xs → (x : X) × (slice_get xs k ≡ Some x)
+pub there : {X : Type 0} (xs : List X) (k : ℕ) → k < length xs → (x : X) × (slice_get xs k ≡ Some x)
 there [] k low = absurd (omega arith)
 there (x ∷ xs) zero low = (x, refl)
 there (x ∷ xs) (suc k) low = there xs k (omega arith)
 
-slice_get-left : {X : Type 0} (xs ys : List X) (k : ℕ) → k < length xs → slice_get (xs ++ ys) k ≡ slice_get xs k
+pub slice_get-left : {X : Type 0} (xs ys : List X) (k : ℕ) → k < length xs → slice_get (xs ++ ys) k ≡ slice_get xs k
 slice_get-left [] ys k low = absurd (omega arith)
 slice_get-left (x ∷ xs) ys zero low = refl
 slice_get-left (x ∷ xs) ys (suc k) low = slice_get-left xs ys k (omega arith)
 
-slice_get-right : {X : Type 0} (xs ys : List X) (k : ℕ) → length xs ≤ k → slice_get (xs ++ ys) k ≡ slice_get ys (k - length xs)
+pub slice_get-right : {X : Type 0} (xs ys : List X) (k : ℕ) → length xs ≤ k → slice_get (xs ++ ys) k ≡ slice_get ys (k - length xs)
 slice_get-right [] ys k low = let e : k ≡ k - 0 = omega arith in ap (λ j. slice_get ys j) e
 slice_get-right (x ∷ xs) ys zero low = absurd (omega arith)
 slice_get-right (x ∷ xs) ys (suc k) low =

@@ -1,5 +1,5 @@
 -- The holds of flights and parties that come and go are the same in another order, and a store stands for holds in any order.
-use Rattle.std.proofs.Common.{◌≡◌, ℕ, zero, suc, ◌<◌, List, [], ◌∷◌, ◌++◌, length, map, Some, refl, sym, ap, ◌∙◌, inl, inr, subst, cond, append_assoc, arith}
+use Rattle.std.proofs.Common.{◌≡◌, ℕ, zero, suc, ◌<◌, List, [], ◌∷◌, ◌++◌, length, map, Some, refl, sym, ap, inl, inr, subst, cond, append_assoc, arith}
 use Rattle.std.specs.Prelude.{flat_map, remove, slice_get}
 use Rattle.std.specs.List.Sorted.{IsPermutation}
 use Rattle.std.proofs.lemmas.Bool.{cases_Bool}
@@ -40,7 +40,7 @@ HasRoomFor-fewer sets horizon holds left gone old new moved before after kept st
 -- ---- holders and their holds
 
 -- what is put in by its name adds its holds
-put_in-holds : {X : Type 0} (name_of : X → List ℕ) (holds : X → List Hold) (x : X) (xs : List X) → IsPermutation (flat_map holds xs ++ holds x) (flat_map holds (put_in name_of x xs))
+pub put_in-holds : {X Y : Type 0} (name_of : X → List ℕ) (holds : X → List Y) (x : X) (xs : List X) → IsPermutation (flat_map holds xs ++ holds x) (flat_map holds (put_in name_of x xs))
 put_in-holds name_of holds x [] = IsPermutation-append_comm [] (holds x)
 put_in-holds name_of holds x (y ∷ ys) =
     elim (cases_Bool (name_precedes (name_of x) (name_of y))) [
@@ -49,7 +49,7 @@ put_in-holds name_of holds x (y ∷ ys) =
     ]
 
 -- what is at a place, taken out, leaves the holds of the others
-pub remove-holds : {X : Type 0} (holds : X → List Hold) (xs : List X) (place : ℕ) (x : X) → slice_get xs place ≡ Some x
+pub remove-holds : {X Y : Type 0} (holds : X → List Y) (xs : List X) (place : ℕ) (x : X) → slice_get xs place ≡ Some x
     → IsPermutation (flat_map holds xs) (flat_map holds (remove xs place) ++ holds x)
 remove-holds holds [] place x found = absurd (cc found)
 remove-holds holds (y ∷ ys) zero x found =

@@ -1,8 +1,7 @@
 -- The cause of a step whose segment is taken, from the first second and holder that were found.
-use Rattle.std.proofs.Common.{◌≡◌, ℕ, ◌<◌, ◌≤◌, Bool, ◌||◌, List, [], ◌∷◌, ◌++◌, length, map, IsTrue, IsFalse, Option, Some, None, refl, sym, ap, ◌∙◌, inl, inr, arith}
+use Rattle.std.proofs.Common.{◌≡◌, ℕ, ◌<◌, ◌≤◌, Bool, List, [], ◌∷◌, length, map, IsTrue, IsFalse, Option, Some, None, refl, sym, ap, ◌∙◌, inl, inr, arith}
 use Rattle.std.specs.Prelude.{option_map, option_and_then, find, flat_map}
 use Rattle.std.specs.List.{list_any}
-use Rattle.std.specs.Option.{is_some}
 use Rattle.std.proofs.lemmas.Bool.{cases_Bool, and_parts, and_from, or_left, or_right, lt-ltb, false_from_ne_true, both_ways}
 use Rattle.std.proofs.lemmas.List.Folds.{list_any-append}
 use Rattle.taxi_base.specs.declared.answers.Flight.{Flight}
@@ -17,13 +16,10 @@ use Rattle.taxi_base.specs.State.{State, flight_holds, flights_hold, party_hold,
 use Rattle.taxi_base.specs.Faults.{first_taken, first_name, party_at, flight_at, holder_at, taken_by, hold_cause, hold_fault}
 use Rattle.taxi_base.proofs.HoldLaws.{is_free-true}
 use Rattle.taxi_base.proofs.FaultLaws.{first_taken-None, first_taken-at, holder_at-some}
-use Rattle.taxi_base.proofs.ListLaws.{Contains-map}
 use Rattle.taxi_base.proofs.WindowLaws.{AreWindows-member}
-use Rattle.interval_list.specs.declared.window.Window.{Window}
-use Rattle.interval_list.specs.Intervals.{span_of}
-use Rattle.window_store.specs.Store.{Store, windows_at, spans_at}
+use Rattle.window_store.specs.Store.{Store, spans_at}
 use Rattle.window_store.specs.Stands.{StandsFor}
-use Rattle.window_store.specs.Kept.{IsWindowAt}
+use Rattle.window_store.specs.Kept.{LiesInOne}
 use Rattle.commitments.specs.Taken.{IsFirstTaken}
 
 -- where some holder is named, some of the holds passes the test
@@ -89,14 +85,12 @@ module _ (airport : Airport) (state : State) (hold : Hold) (on_segment : hold.se
       ap (option_and_then causes) first ∙ ap (option_map (λ name. Taken t name)) taken.2
 
   -- nothing is taken where the span lies in one of its segment's free windows
-  pub taken_by-in_window : (store : Store) (o : Option Window) → StandsFor airport.conflicts airport.horizon (holds_in airport state) store → hold.segment.0 < length store.lists
-      → IsWindowAt (windows_at store hold.segment) hold.span o → IsTrue (is_some o) → taken_by airport state hold ≡ None
-  taken_by-in_window store None stands on_list none some = absurd (cc some)
-  taken_by-in_window store (Some w) stands on_list inside some =
-      let window = AreWindows-member (is_free airport.conflicts airport.horizon (holds_in airport state) hold.segment) (spans_at store hold.segment) (span_of w) (stands hold.segment on_list).windows
-      (Contains-map span_of (windows_at store hold.segment) w inside.0) in
+  pub taken_by-in_window : (store : Store) → StandsFor airport.conflicts airport.horizon (holds_in airport state) store → hold.segment.0 < length store.lists
+      → LiesInOne (spans_at store hold.segment) hold.span → taken_by airport state hold ≡ None
+  taken_by-in_window store stands on_list inside =
+      let window = AreWindows-member (is_free airport.conflicts airport.horizon (holds_in airport state) hold.segment) (spans_at store hold.segment) inside.0 (stands hold.segment on_list).windows inside.1 in
       let unfound : first_taken free hold.span ≡ None = (first_taken-None free hold.span).1
-      (λ t low high. and_from _ _ (lt-ltb _ _ on_segment) (window.all t (omega (arith, inside.1.0)) (omega (arith, inside.1.1)))) in
+      (λ t low high. and_from _ _ (lt-ltb _ _ on_segment) (window.all t (omega (arith, inside.2.0)) (omega (arith, inside.2.1)))) in
       ap (option_and_then causes) unfound
 
 -- the cause, told as of a first step

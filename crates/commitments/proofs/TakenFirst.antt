@@ -1,18 +1,21 @@
 -- The first second at which a segment is taken, over holds and holders one by one, and over parties and flights together.
-use Rattle.std.proofs.Common.{◌≡◌, ℕ, ◌+◌, ◌<◌, ◌≤◌, ◌==◌, Bool, true, false, ◌||◌, List, [], ◌∷◌, ◌++◌, IsTrue, IsFalse, Option, Some, None, min, length, take, get_or, refl, sym, ap, ◌∙◌, subst, inl, inr, arith}
+use Rattle.std.proofs.Common.{◌≡◌, ℕ, ◌+◌, ◌-◌, ◌<◌, ◌≤◌, ◌==◌, Bool, true, false, ◌||◌, List, [], ◌∷◌, ◌++◌, IsTrue, IsFalse, Option, Some, None, min, length, take, get_or, refl, sym, ap, ◌∙◌, subst, inl, inr, arith}
 use Rattle.std.specs.Prelude.{option_map, find, nat_lt, slice_get}
 use Rattle.std.specs.Option.{option_or}
-use Rattle.std.proofs.lemmas.Bool.{cases_lt, cases_Bool, cond_both, ltb-true, ltb-false, lt-ltb, le-ltb, eqb-true, eq-eqb, false_from_ne_true, or_left, or_right}
-use Rattle.std.proofs.lemmas.List.Folds.{find-append, list_any-append}
+use Rattle.std.proofs.lemmas.Bool.{cases_lt, cases_Bool, cond_both, ltb-true, ltb-false, lt-ltb, le-ltb, eqb-true, eq-eqb, false_from_ne_true, and_parts, or_left, or_right}
+use Rattle.std.proofs.lemmas.List.Folds.{find-append, list_any-append, list_any_none}
 use Rattle.std.proofs.lemmas.List.{map_more, take_more}
 use Rattle.std.proofs.lemmas.Option.{get_or_from_slice_get}
 use Rattle.taxi_base.specs.declared.numbers.Segment.{Segment}
 use Rattle.taxi_base.specs.declared.rows.Span.{Span}
 use Rattle.taxi_base.specs.declared.rows.Step.{Step}
+use Rattle.taxi_base.specs.Airport.{conflict, segment_of}
+use Rattle.taxi_base.proofs.WindowLaws.{span_has-true}
+use Rattle.std.proofs.lemmas.List.Elements.{All-map}
 use Rattle.taxi_base.specs.Windows.{Hold, blocks, hold_of, holds_of}
 use Rattle.taxi_base.specs.State.{name_precedes}
 use Rattle.taxi_base.specs.Faults.{first_name}
-use Rattle.commitments.specs.Taken.{IsFirst, earlier, sooner, takes, first_of, IsFirstTaken}
+use Rattle.commitments.specs.Taken.{IsFirst, AreInTurn, no_step, earlier, sooner, takes, first_of, IsFirstTaken}
 
 -- ---- several tests
 
@@ -169,3 +172,22 @@ module _ (party flight : ℕ → Option (List ℕ)) (span : Span) where
 
       by-party : t ≤ u → either t ≡ Some m → IsFirstTaken either span (Some (t, m))
       by-party early is = (fp.0, fp.1, is, λ v low high. neither-named v (fp.3 v low high) (ff.3 v low (omega (arith, high, early))))
+
+-- ---- a route at other times
+
+module _ (sets : List (List Segment)) (s : Segment) (span : Span) (horizon clearance : ℕ) (steps : List Step) where
+  none-takes : ((k : ℕ) (d : Step) (t : ℕ) → k < length steps → span.from ≤ t → t < span.until → (get_or steps k d).enter ≤ t → t < (get_or steps k d).leave + clearance → ⊥)
+      → IsFirst (takes sets s (holds_of horizon clearance steps)) span None
+  none-takes apart t low high =
+      list_any_none (blocks sets s t) (holds_of horizon clearance steps)
+      (All-map (λ (h : Hold). IsFalse (blocks sets s t h)) (hold_of horizon clearance) steps (λ k d on.
+      false_from_ne_true _ (λ blocked.
+      let inside = span_has-true (hold_of horizon clearance (get_or steps k d)).span t (and_parts (conflict sets s (segment_of (get_or steps k d).arc)) _ blocked).1 in
+      apart k d t on low high inside.0 (omega (arith, inside.1)))))
+
+  -- a route that begins when the span is over, and one that is over when the span begins
+  pub route-early : AreInTurn steps → span.until ≤ (get_or steps 0 no_step).enter → IsFirst (takes sets s (holds_of horizon clearance steps)) span None
+  route-early turn early = none-takes (λ k d t on low high begun ends. omega (arith, turn.begins k d on, early, begun, high))
+
+  pub route-over : AreInTurn steps → (get_or steps (length steps - 1) no_step).leave + clearance ≤ span.from → IsFirst (takes sets s (holds_of horizon clearance steps)) span None
+  route-over turn over = none-takes (λ k d t on low high begun ends. omega (arith, turn.ends k d on, over, low, ends))

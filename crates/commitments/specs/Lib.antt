@@ -2,3 +2,4 @@ pub mod Book
 pub mod Places
 pub mod Taken
 pub mod Holders
+pub mod Held

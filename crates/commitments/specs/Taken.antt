@@ -1,16 +1,20 @@
 -- The first second of a span at which a segment is taken, and by whom.
-use Rattle.std.specs.Prelude.{ℕ, ◌≡◌, ◌<◌, ◌≤◌, Bool, min, IsTrue, IsFalse, List, Option, Some, None, option_map, find, nat_lt, if◌then◌else◌}
+use Rattle.std.specs.Prelude.{ℕ, ◌≡◌, ◌-◌, ◌<◌, ◌≤◌, All, length, slice_index_or, Bool, min, IsTrue, IsFalse, List, Option, Some, None, option_map, find, nat_lt, if◌then◌else◌}
 use Rattle.std.specs.List.{list_any}
 use Rattle.std.specs.Ordering.{nat_cmp, is_lt, ordering_then}
 use Rattle.std.specs.declared.cmp.Ordering.{Ordering}
 use Rattle.std.specs.Cmp.Lexicographic.{slice_cmp}
 use Rattle.taxi_base.specs.declared.numbers.Segment.{Segment}
 use Rattle.taxi_base.specs.declared.rows.Span.{Span}
+use Rattle.taxi_base.specs.declared.rows.Step.{Step}
 use Rattle.taxi_base.specs.declared.answers.Flight.{Flight}
 use Rattle.taxi_base.specs.declared.answers.Party.{Party}
 use Rattle.taxi_base.specs.Airport.{Airport}
 use Rattle.taxi_base.specs.Windows.{Hold, blocks}
 use Rattle.taxi_base.specs.State.{flight_holds, party_hold}
+
+abbrev pub no_step : Step
+no_step = record { arc = record { 0 = 0 }; enter = 0; leave = 0 }
 
 -- the first second of a span that passes a test; none where no second of it does
 abbrev pub IsFirst : (ℕ → Bool) → Span → Option ℕ → Type 0
@@ -21,6 +25,12 @@ abbrev pub earlier : Option ℕ → Option ℕ → Option ℕ
 earlier None b = b
 earlier (Some a) None = Some a
 earlier (Some a) (Some b) = Some (min a b)
+
+-- the steps of a route come in turn: there is one, none begins before the first, and none ends after the last
+pub record AreInTurn (steps : List Step) : Type 0 where
+  pub some : 1 ≤ length steps
+  pub begins : All (λ s. (slice_index_or steps 0 no_step).enter ≤ s.enter) steps
+  pub ends : All (λ s. s.leave ≤ (slice_index_or steps (length steps - 1) no_step).leave) steps
 
 -- whether one of some holds is of a segment in conflict with this one at a second
 abbrev pub takes : List (List Segment) → Segment → List Hold → ℕ → Bool

@@ -10,8 +10,9 @@ ghost use Rattle.window_store.specs.Stands.{HasRoomFor};
 ghost use Rattle.window_store.specs.Kept.{IsApartFrom, IsClearOf, KeepsWindows, KeepsNodes, GainsRoom};
 ghost use Rattle.commitments.specs.Book.{Book, Fits, IsPrepared, IsBook, lifted_flight};
 
+use crate::held_segments::HeldSegments;
 use crate::holders::Holders;
-use crate::holds::{free_holder, hold_flight, ruled_conflicts};
+use crate::holds::{free_holder, hold_flight, keep_rules};
 use airport_file::Airport;
 use std::alloc::Global;
 use std::marker::Model;
@@ -24,11 +25,13 @@ use window_store::WindowStore;
 pub struct Ledger {
     pub(crate) holders: Holders,
     pub(crate) lifted: Option<Name>,
-    pub(crate) store: WindowStore,
+    // All that the holders hold, but for the lifted flight.
+    pub(crate) held: HeldSegments,
 }
 
 impl Model for Ledger {
-    ghost use Rattle.commitments.specs.Book.{Book};
+    ghost use Rattle.commitments.specs.Book.{Book, without_lifted};
+    ghost use Rattle.commitments.specs.Held.{AreAsMany, steps_in};
     ghost use Rattle.commitments.specs.Holders.{state_of};
 
     ghost Value = { Book };
@@ -38,8 +41,10 @@ impl Model for Ledger {
       lifted = l.lifted;
       room = l.holders.flights.room;
       party_room = l.holders.parties.room;
-      store = l.store;
+      store = l.held.store;
     } };
+
+    ghost invariant = { λ l. AreAsMany l.held.steps (steps_in (without_lifted l.lifted (state_of l.holders))) };
 }
 
 impl Ledger {
@@ -49,12 +54,10 @@ impl Ledger {
         ensures unlifted { IfOk result (λ l. l.lifted ≡ None) }
         ensures fits { IfOk result (Fits airport.now) }
     {
-        let segments = airport.graph().segments();
-        let store = WindowStore::new(alloc, segments, airport.horizon())?;
         Ok(Ledger {
             holders: Holders::new(alloc),
             lifted: None,
-            store,
+            held: HeldSegments::new(alloc, airport)?,
         })
     }
 
@@ -85,7 +88,7 @@ impl Ledger {
     pub fn store(&self) -> &WindowStore
         ensures { result.now ≡ self.now.store }
     {
-        &self.store
+        self.held.store()
     }
 
     /// Makes room for one more flight with these steps. All holders and windows stay, also where memory runs out.
@@ -101,9 +104,9 @@ impl Ledger {
         ensures windows { GainsRoom self.old.store self.new.store }
         ensures fits { Fits airport.now self.new }
     {
+        keep_rules(airport);
         self.holders.flights.prepare()?;
-        self.store.reserve(ruled_conflicts(airport), steps)?;
-        Ok(())
+        self.held.reserve(airport, steps)
     }
 
     /// Puts a flight in force. It needs no memory. A window that has no second of its route stays as it is.
@@ -122,7 +125,7 @@ impl Ledger {
         ensures nodes { KeepsNodes self.old.store self.new.store }
         ensures fits { Fits airport.now self.new }
     {
-        hold_flight(&mut self.store, airport, &flight);
+        hold_flight(&mut self.held, airport, &flight);
         self.holders.flights.insert(flight);
     }
 
@@ -144,7 +147,7 @@ impl Ledger {
     {
         let place = self.holders.flights.place(name)?;
         let number = self.holders.parties.count() + place;
-        free_holder(&mut self.store, airport, &self.holders, number);
+        free_holder(&mut self.held, airport, &self.holders, number);
         Some(self.holders.flights.remove(place))
     }
 
@@ -164,7 +167,7 @@ impl Ledger {
     {
         let place = self.holders.flights.place(name).unwrap();
         let number = self.holders.parties.count() + place;
-        free_holder(&mut self.store, airport, &self.holders, number);
+        free_holder(&mut self.held, airport, &self.holders, number);
         self.lifted = Some(*name);
     }
 
@@ -182,7 +185,7 @@ impl Ledger {
         let name = self.lifted.take().unwrap();
         let place = self.holders.flights.place(&name).unwrap();
         let flight = self.holders.flights.at(place);
-        hold_flight(&mut self.store, airport, flight);
+        hold_flight(&mut self.held, airport, flight);
     }
 
     /// Puts the lifted flight back with another request and other steps. It needs no memory.
@@ -203,7 +206,7 @@ impl Ledger {
         let mut flight = self.holders.flights.remove(place);
         flight.request = request;
         flight.steps = steps;
-        hold_flight(&mut self.store, airport, &flight);
+        hold_flight(&mut self.held, airport, &flight);
         self.holders.flights.insert(flight);
     }
 }

@@ -3,12 +3,15 @@
 #![tactic(auto)]
 
 mod flight_list;
+mod held_segments;
+mod hold_index;
 mod holders;
 mod holds;
 mod laws;
 mod ledger;
 mod party_list;
 mod route;
+mod segment_holds;
 mod shutting;
 mod taken;
 #[cfg(test)]

@@ -6,6 +6,7 @@ ghost use Rattle.commitments.specs.Book.{Fits};
 ghost use Rattle.taxi_base.specs.Faults.{conditions_in, may_follow, taken_by, taken_cause, cause_of, route_fault};
 
 use crate::Ledger;
+use crate::holds::keep_rules;
 use airport_file::Airport;
 use segment_graph::segment_of;
 use taxi_base::{Arc, Class, Segment, Span, Step, StepCause, StepFault, Time};
@@ -86,13 +87,10 @@ impl Ledger {
         ensures { result ≡ taken_by airport.now self.now.state (record { segment = segment; span = span }) }
     {
         // Where the span lies in a free window, no holder needs to be looked at.
-        if self
-            .store
-            .window_at(segment, span.from, span.until)
-            .is_some()
-        {
+        if self.held.store().is_free(segment, span.from, span.until) {
             return None;
         }
+        keep_rules(airport);
         let (at, by) = self.holders.first_taken(airport, segment, span)?;
         Some(StepCause::Taken { at, by })
     }

@@ -6,7 +6,7 @@ ghost use Rattle.window_store.specs.Kept.{IsApartFrom, IsClearOf, KeepsWindows, 
 ghost use Rattle.commitments.specs.Book.{Fits, AreParties, IsPreparedForParty};
 
 use crate::Ledger;
-use crate::holds::{forward, free_holder, hold_party, ruled_conflicts};
+use crate::holds::{forward, free_holder, hold_party, keep_rules};
 use airport_file::Airport;
 use std::slice;
 use taxi_base::{Memory, Name, Party, Segment, Span, Step, StepCause, StepFault, Time};
@@ -88,9 +88,8 @@ impl Ledger {
             enter: 0,
             leave: 0,
         };
-        self.store
-            .reserve(ruled_conflicts(airport), slice::from_ref(&step))?;
-        Ok(())
+        keep_rules(airport);
+        self.held.reserve(airport, slice::from_ref(&step))
     }
 
     /// Puts a party in force. It needs no memory. A window that has no second of it stays as it is.
@@ -109,7 +108,7 @@ impl Ledger {
         ensures nodes { KeepsNodes self.old.store self.new.store }
         ensures fits { Fits airport.now self.new }
     {
-        let step = hold_party(&mut self.store, airport, &party);
+        let step = hold_party(&mut self.held, airport, &party);
         self.holders.parties.insert(party, step);
     }
 
@@ -130,7 +129,7 @@ impl Ledger {
         ensures fits { Fits airport.now self.new }
     {
         let number = self.holders.parties.place(name)?;
-        free_holder(&mut self.store, airport, &self.holders, number);
+        free_holder(&mut self.held, airport, &self.holders, number);
         Some(self.holders.parties.remove(number))
     }
 }

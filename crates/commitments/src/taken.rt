@@ -1,8 +1,8 @@
 //! When, and by whom, a segment is taken first.
-ghost use Rattle.std.specs.Prelude.{◌≡◌, ◌<◌, length};
-ghost use Rattle.taxi_base.specs.Windows.{blocks};
+ghost use Rattle.std.specs.Prelude.{◌≡◌, ◌↔◌, ◌+◌, ◌<◌, ◌≤◌, length, All, IsTrue};
+ghost use Rattle.taxi_base.specs.Windows.{blocks, holds_of};
 ghost use Rattle.taxi_base.specs.Faults.{holder_at};
-ghost use Rattle.commitments.specs.Taken.{IsFirst, earlier, sooner, first_of, flight_takes, first_flight, first_party, IsFirstTaken};
+ghost use Rattle.commitments.specs.Taken.{IsFirst, AreInTurn, earlier, sooner, first_of, takes, flight_takes, first_flight, first_party, IsFirstTaken};
 ghost use Rattle.commitments.specs.Holders.{state_of};
 
 use crate::flight_list::FlightList;
@@ -11,7 +11,7 @@ use crate::party_list::PartyList;
 use airport_file::Airport;
 use conflict_sets::Conflicts;
 use segment_graph::segment_of;
-use taxi_base::{Flight, Name, Segment, Span, Time};
+use taxi_base::{Flight, Name, Segment, Span, Step, Time};
 
 impl Holders {
     // The first second of a span at which a segment in conflict with this one is held, and the first holder by name.
@@ -21,7 +21,8 @@ impl Holders {
         segment: Segment,
         span: Span,
     ) -> Option<(Time, Name)>
-        requires { segment.0 < length airport.now.segments }
+        requires segment { segment.0 < length airport.now.segments }
+        requires in_turn { All (λ f. AreInTurn f.steps) self.now.flights.flights }
         ensures { IsFirstTaken (holder_at airport.now (state_of self.now) segment) span result }
     {
         let party = self.parties.first_taken(airport.conflicts(), segment, span);
@@ -58,7 +59,8 @@ impl PartyList {
 impl FlightList {
     // The first second of a span at which a flight holds a segment in conflict with this one, and the first such flight.
     fn first_taken(&self, airport: &Airport, segment: Segment, span: Span) -> Option<(Time, Name)>
-        requires { segment.0 < length airport.now.segments }
+        requires segment { segment.0 < length airport.now.segments }
+        requires in_turn { All (λ f. AreInTurn f.steps) self.now.flights }
         ensures { IsFirstTaken (first_flight airport.now segment self.now.flights) span result }
     {
         let mut first = None;
@@ -95,14 +97,46 @@ fn first_of(party: Option<(Time, Name)>, flight: Option<(Time, Name)>) -> Option
 
 // The first second of a span at which a flight holds a segment in conflict with this one.
 fn first_second_of(airport: &Airport, segment: Segment, span: Span, flight: &Flight) -> Option<Time>
-    requires { segment.0 < length airport.now.segments }
+    requires segment { segment.0 < length airport.now.segments }
+    requires in_turn { AreInTurn flight.now.steps }
     ensures { IsFirst (flight_takes airport.now segment flight.now) span result }
 {
-    let horizon = airport.horizon();
+    let steps = flight.steps.as_slice();
     let clearance = airport.clearance(flight.class);
+    // Most flights are not on their way then.
+    let begin = steps[0].enter;
+    if span.until <= begin {
+        return None;
+    }
+    let end = steps[steps.len() - 1].leave;
+    if is_over_by(end, clearance, span.from) {
+        return None;
+    }
+    first_second_among(airport, segment, span, steps, clearance)
+}
+
+// Whether a clearance after a second is over by another.
+fn is_over_by(end: Time, clearance: Time, second: Time) -> bool
+    ensures { IsTrue result ↔ end + clearance ≤ second }
+{
+    end <= second && clearance <= second - end
+}
+
+// The first second of a span at which steps hold a segment in conflict with this one.
+fn first_second_among(
+    airport: &Airport,
+    segment: Segment,
+    span: Span,
+    steps: &[Step],
+    clearance: Time,
+) -> Option<Time>
+    requires { segment.0 < length airport.now.segments }
+    ensures { IsFirst (takes airport.now.conflicts segment (holds_of airport.now.horizon clearance steps.now)) span result }
+{
+    let horizon = airport.horizon();
     let conflicts = airport.conflicts();
     let mut first = None;
-    for step in flight.steps.as_slice() {
+    for step in steps {
         let held = step.held(horizon, clearance);
         let at = first_second(conflicts, segment, span, segment_of(step.arc), held);
         first = earlier(first, at);

@@ -1,5 +1,5 @@
 -- What is held changes on the segments of a flight, or of a work party, alone; the spans of the lists leave the same seconds free, so the same windows are known by them.
-use Rattle.std.proofs.Common.{◌≡◌, ◌≢◌, ◌↔◌, ◌∙◌, ℕ, ◌<◌, Bool, true, false, ◌&&◌, ◌==◌, eqb, cond, not, ltb, List, [], ◌∷◌, length, map, IsTrue, Some, None, refl, sym, ap, subst, arith}
+use Rattle.std.proofs.Common.{◌≡◌, ◌≢◌, ◌↔◌, ◌∙◌, ℕ, ◌<◌, Bool, true, false, ◌&&◌, ◌==◌, eqb, cond, not, ltb, List, [], ◌∷◌, ◌++◌, length, map, IsTrue, Some, None, refl, sym, ap, subst, arith}
 use Rattle.std.specs.Prelude.{Contains}
 use Rattle.std.specs.List.{list_any}
 use Rattle.std.proofs.lemmas.Bool.{eqb-true, false_from_ne_true}
@@ -17,13 +17,13 @@ use Rattle.taxi_base.specs.Walks.{free_among, conditions_among}
 use Rattle.taxi_base.specs.State.{State, flight_named, party_named, parties_without, with_flight, with_party, without, flight_holds, party_hold, holds_in}
 use Rattle.held_spans.specs.Holds.{held_at}
 use Rattle.check_rows.specs.declared.known.KnownWindows.{KnownWindows}
-use Rattle.check_rows.specs.Known.{AreKnown, DifferOn, DifferAt}
+use Rattle.check_rows.specs.Known.{AreKnown, DifferOn, DifferAt, HaveMore}
 use Rattle.check_rows.proofs.KnownLaws.{blocked}
 use Rattle.held_spans.specs.declared.spans.HeldSpans.{HeldSpans}
 use Rattle.held_spans.specs.Spans.{weight_on, AreSpansOf, holds_in_lists}
 use Rattle.checked_state.specs.Flights.{AreInOrder, ArePartiesInOrder}
 use Rattle.held_spans.proofs.SumLaws.{any-sum}
-use Rattle.held_spans.proofs.SpanLaws.{covers-held, AreSpansOf-own, weight-cons}
+use Rattle.held_spans.proofs.SpanLaws.{covers-held, AreSpansOf-own, weight-cons, weight-append}
 use Rattle.checked_state.proofs.FlightLaws.{held-with, held-without, held-with_party, held-without_party}
 use Rattle.due_refusals.specs.KnownIn.{AreKnownIn}
 
@@ -69,14 +69,22 @@ module _ (airport : Airport) (x : Flight) (state : State) where
   its-none : (s : Segment) (t : ℕ) → (Contains (map (λ (step : Step). segment_of step.arc) x.steps) s → ⊥) → weight_on (second t) s (flight_holds airport x) ≡ 0
   its-none s t away = away-weight (second t) s airport.horizon (clearance_of airport x.class) x.steps away
 
-  pub differ-with : DifferOn x.steps (holds_in airport state) (holds_in airport (with_flight x state))
-  differ-with s t away =
-      held-same (holds_in airport state) (holds_in airport (with_flight x state)) s t (omega (arith, its-none s t away, held-with airport s (second t) x state))
-
   pub differ-without : (name : List ℕ) → AreInOrder state.flights → party_named name state.parties ≡ None → flight_named name state.flights ≡ Some x
       → DifferOn x.steps (holds_in airport state) (holds_in airport (without name state))
   differ-without name ordered alone found s t away =
       held-same (holds_in airport state) (holds_in airport (without name state)) s t (omega (arith, its-none s t away, held-without airport s (second t) name state x ordered alone found))
+
+  -- with it the others hold what it holds, and without it all hold that beside the others
+  pub more-with : HaveMore (flight_holds airport x) (holds_in airport state) (holds_in airport (with_flight x state))
+  more-with s t =
+      held-same (holds_in airport (with_flight x state)) (holds_in airport state ++ flight_holds airport x) s t
+      (omega (arith, weight-append (second t) s (holds_in airport state) (flight_holds airport x), held-with airport s (second t) x state))
+
+  pub more-without : (name : List ℕ) → AreInOrder state.flights → party_named name state.parties ≡ None → flight_named name state.flights ≡ Some x
+      → HaveMore (flight_holds airport x) (holds_in airport (without name state)) (holds_in airport state)
+  more-without name ordered alone found s t =
+      held-same (holds_in airport state) (holds_in airport (without name state) ++ flight_holds airport x) s t
+      (omega (arith, weight-append (second t) s (holds_in airport (without name state)) (flight_holds airport x), held-without airport s (second t) name state x ordered alone found))
 
 -- a party shuts its own segment alone
 module _ (airport : Airport) (x : Party) (state : State) where
@@ -85,21 +93,16 @@ module _ (airport : Airport) (x : Party) (state : State) where
     alone : eqb x.segment.0 s.0 ≡ false → weight_on (second t) s (party_hold x ∷ []) ≡ 0
     alone other = rw other (omega arith)
 
-  pub differ-with_party : DifferAt x.segment (holds_in airport state) (holds_in airport (with_party x state))
-  differ-with_party s t away =
-      held-same (holds_in airport state) (holds_in airport (with_party x state)) s t (omega (arith, shut-none s t away, held-with_party airport s (second t) x state))
+  pub more-with_party : HaveMore (party_hold x ∷ []) (holds_in airport state) (holds_in airport (with_party x state))
+  more-with_party s t =
+      held-same (holds_in airport (with_party x state)) (holds_in airport state ++ party_hold x ∷ []) s t
+      (omega (arith, weight-append (second t) s (holds_in airport state) (party_hold x ∷ []), held-with_party airport s (second t) x state))
 
   pub differ-without_party : (name : List ℕ) → ArePartiesInOrder state.parties → party_named name state.parties ≡ Some x
       → DifferAt x.segment (holds_in airport state) (holds_in airport (record state { parties = parties_without name state.parties }))
   differ-without_party name ordered found s t away =
       held-same (holds_in airport state) (holds_in airport (record state { parties = parties_without name state.parties })) s t
       (omega (arith, shut-none s t away, held-without_party airport s (second t) name state x ordered found))
-
-pub differ-none : (steps : List Step) (holds : List Hold) → DifferOn steps holds holds
-differ-none steps holds s t away = refl
-
-pub differ-back : (steps : List Step) (holds others : List Hold) → DifferOn steps holds others → DifferOn steps others holds
-differ-back steps holds others differ s t away = sym (differ s t away)
 
 -- ---- what the lists leave free
 

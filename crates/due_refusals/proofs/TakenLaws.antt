@@ -1,12 +1,9 @@
 -- The first second outside windows, and when a hold is taken first.
-use Rattle.std.proofs.Common.{◌≡◌, ◌∙◌, ℕ, suc, ◌+◌, ◌<◌, ◌≤◌, Bool, true, false, ◌||◌, List, [], ◌∷◌, length, get_or, drop, map, inl, inr, Option, Some, None, IsTrue, IsFalse, refl, sym, ap, arith}
+use Rattle.std.proofs.Common.{◌≡◌, ◌∙◌, ℕ, ◌<◌, ◌≤◌, true, false, List, length, get_or, inl, inr, Option, IsFalse, refl, sym, ap, arith}
 use Rattle.std.specs.Prelude.{nat_le, nat_lt, option_map, option_and_then}
-use Rattle.std.specs.List.{list_any, find}
 use Rattle.std.specs.List.Sorted.{IsPartitionPoint}
 use Rattle.std.proofs.lemmas.Bool.{cases_lt, both_ways, false_from_ne_true, leb-true, le-leb, lt-ltb}
 use Rattle.std.proofs.lemmas.List.{get_or_default}
-use Rattle.std.proofs.Math.ListN.{drop_of_length-le}
-use Rattle.std.proofs.Math.Seq.{drop-cons}
 use Rattle.taxi_base.specs.declared.rows.Span.{Span}
 use Rattle.taxi_base.specs.declared.answers.StepCause.{StepCause}
 use Rattle.taxi_base.specs.declared.answers.StepCause.TheVariants.{Taken}

@@ -1,3 +1,4 @@
 pub mod KnownIn
 pub mod Asked
 pub mod Filing
+pub mod Choice

@@ -120,7 +120,7 @@ pub fn is_stand(airport: &Airport, node: Node) -> bool
 }
 
 // No further flight or party may be in force.
-fn is_full(held: &HeldFlights) -> bool
+pub(crate) fn is_full(held: &HeldFlights) -> bool
     ensures { result ≡ nat_le most_holders (holder_count (state_of held.now)) }
 {
     held.count() >= MOST_HOLDERS

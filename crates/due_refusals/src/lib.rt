@@ -3,6 +3,7 @@
 
 mod again;
 mod asked;
+mod choice;
 mod faults;
 mod filed;
 mod holder;
@@ -11,5 +12,6 @@ mod taken;
 
 pub use again::{begin_of, divert_refused, end_of, reroute_refused};
 pub use asked::{Named, is_stand, named_arrival, named_departure};
+pub use choice::{NamedAny, named_arrival_any, named_departure_any};
 pub use filed::{Due, FiledRoute, find_due};
 pub use shut::{NewParty, hold_fault, named_party};

@@ -3,7 +3,7 @@ ghost use Rattle.std.specs.Prelude.{◌≡◌, ◌≤◌, ◌<◌, [], IfOk, OnO
 ghost use Rattle.std.specs.List.{list_any};
 ghost use Rattle.std.specs.List.Sorted.{IsPartitionPoint};
 ghost use Rattle.taxi_base.specs.Airport.{arc_exists, layout_of};
-ghost use Rattle.taxi_base.specs.Windows.{AreApart, covers, blocks};
+ghost use Rattle.taxi_base.specs.Windows.{AreApart, span_has, covers, blocks};
 ghost use Rattle.taxi_base.specs.State.{flight_holds};
 ghost use Rattle.taxi_base.specs.Faults.{first_taken, flight_at, taken_by, taken_cause};
 ghost use Rattle.check_rows.specs.Known.{is_known};
@@ -161,6 +161,15 @@ pub(crate) fn blocks(
     requires { segment.0 < conflicts.now.segments }
     ensures { result ≡ blocks conflicts.now.sets segment second (record { segment = other; span = held }) }
 {
-    let has = held.from <= second && second < held.until;
-    conflicts.conflict(segment, other) && has
+    // Most holds are over or have not begun, so the time is looked at first.
+    if !has_second(held, second) {
+        return false;
+    }
+    conflicts.conflict(segment, other)
+}
+
+fn has_second(span: Span, second: Time) -> bool
+    ensures { result ≡ span_has span second }
+{
+    span.from <= second && second < span.until
 }

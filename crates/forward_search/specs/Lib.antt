@@ -1,2 +1,2 @@
 pub mod Arrivals
-pub mod OneOf
+pub mod Reached

@@ -1,5 +1,5 @@
 //! The search for an arrival's route.
-ghost use Rattle.std.specs.Prelude.{◌≡◌, ℕ, ◌≤◌, [], ◌∷◌, length, All, IfOk};
+ghost use Rattle.std.specs.Prelude.{◌≡◌, ℕ, ◌≤◌, [], ◌∷◌, length, All, Contains, IfOk};
 ghost use Rattle.taxi_base.specs.declared.numbers.Node.{Node as NodeNumber};
 ghost use Rattle.taxi_base.specs.Airport.{layout_of, IsWellFormed};
 ghost use Rattle.taxi_base.specs.Walks.{conditions_in_windows};
@@ -8,7 +8,8 @@ ghost use Rattle.walk_labels.specs.Requests.{BeginsBy};
 ghost use Rattle.walk_labels.specs.PlacesInWindows.{AreWindowLists};
 ghost use Rattle.place_cells.specs.Laid.{windows_of, HaveNumbers};
 ghost use Rattle.forward_search.specs.Arrivals.{beginning_of};
-ghost use Rattle.forward_search.specs.OneOf.{AnswersArrivalToOneOf};
+ghost use Rattle.taxi_base.specs.Choices.{AnswersArrivalToOneOf};
+ghost use Rattle.forward_search.specs.Reached.{LeadsTo};
 
 use crate::cells::ArrivalCells;
 use crate::starting::Start;
@@ -59,8 +60,8 @@ pub fn arrive_in(
     arrive_to_one_of(alloc, room, airport, store, start, class, &[to], clearance)
 }
 
-/// The same where walks may reach any of some nodes: one that reaches any of them soonest, and where there is one node alone, the
-/// picked one. A label is short of the end of the best of all of them.
+/// The same where walks may reach any of some nodes: one that reaches any of them soonest. It is the picked one of those that
+/// reach the node at its end, and where there is one node alone, of all. A label is short of the end of the best of all of them.
 pub fn arrive_to_one_of(
     alloc: Global,
     room: &mut SearchRoom,
@@ -75,6 +76,7 @@ pub fn arrive_to_one_of(
     requires horizon { All (All (λ w. w.until ≤ airport.now.horizon)) (windows_of store.now) }
     ensures any { (leave : ℕ) → IfOk result (AnswersArrivalToOneOf (conditions_in_windows airport.now class clearance (windows_of store.now)) (BeginsBy (layout_of airport.now) (beginning_of start leave)) to.now) }
     ensures one { (leave : ℕ) (node : NodeNumber) → to.now ≡ node ∷ [] → IfOk result (AnswersArrival (conditions_in_windows airport.now class clearance (windows_of store.now)) (BeginsBy (layout_of airport.now) (beginning_of start leave)) node) }
+    ensures last { (leave : ℕ) (node : NodeNumber) → Contains to.now node → IfOk result (λ found. LeadsTo (layout_of airport.now) node found → AnswersArrival (conditions_in_windows airport.now class clearance (windows_of store.now)) (BeginsBy (layout_of airport.now) (beginning_of start leave)) node found) }
 {
     // With the horizon comes that the airport keeps the rules.
     let _horizon = airport.horizon();
@@ -109,6 +111,7 @@ fn search_among<'x>(
     requires rules { IsWellFormed airport.now }
     ensures any { (leave : ℕ) → IfOk result (AnswersArrivalToOneOf (conditions_in_windows airport.now class clearance (windows_of store.now)) (BeginsBy (layout_of airport.now) (beginning_of start leave)) to.now) }
     ensures one { (leave : ℕ) (node : NodeNumber) → to.now ≡ node ∷ [] → IfOk result (AnswersArrival (conditions_in_windows airport.now class clearance (windows_of store.now)) (BeginsBy (layout_of airport.now) (beginning_of start leave)) node) }
+    ensures last { (leave : ℕ) (node : NodeNumber) → Contains to.now node → IfOk result (λ found. LeadsTo (layout_of airport.now) node found → AnswersArrival (conditions_in_windows airport.now class clearance (windows_of store.now)) (BeginsBy (layout_of airport.now) (beginning_of start leave)) node found) }
 {
     let ground = SearchGround {
         graph: airport.graph(),

@@ -28,6 +28,13 @@ impl ForwardCells for ArrivalCells<'_> {
         self.ground.count()
     }
 
+    fn begins(&self) -> u32 {
+        match self.start {
+            Start::Node { earliest, .. } => earliest,
+            Start::Frozen { enter, .. } => enter,
+        }
+    }
+
     fn cell(&self, cell: usize) -> Cell {
         self.ground.cell(cell)
     }

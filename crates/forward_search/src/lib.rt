@@ -7,3 +7,6 @@ mod starting;
 
 pub use arriving::{arrive, arrive_in, arrive_to_one_of};
 pub use starting::Start;
+
+#[cfg(test)]
+mod tests;

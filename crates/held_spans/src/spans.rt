@@ -111,11 +111,24 @@ fn place_in_order(spans: &[Span], span: Span) -> usize
     spans.partition_point(|other| other.from <= span.from)
 }
 
-// The place of a span among some.
+// The place of a span among some. They are in order, so it mostly stands where those end that begin sooner.
 fn place_of(spans: &[Span], span: Span) -> Option<usize>
     ensures there { Contains spans.now span → IsSome result }
     ensures low { IfSome result (λ place. place < length spans.now) }
     ensures place { IfSome result (λ place. slice_index_or spans.now place span ≡ span) }
 {
+    let near = place_before(spans, span);
+    if let Some(other) = spans.get(near) {
+        if *other == span {
+            return Some(near);
+        }
+    }
     spans.iter().position(|other| *other == span)
+}
+
+// How many spans stand before the first that begins no sooner.
+fn place_before(spans: &[Span], span: Span) -> usize
+    ensures { result ≤ length spans.now }
+{
+    spans.partition_point(|other| other.from < span.from)
 }

@@ -5,8 +5,9 @@ pub mod Traced
 pub mod Steps
 pub mod Begins
 pub mod Picking
-pub mod MarkLaws
+pub mod GroupLaws
 pub mod ValueLaws
 pub mod Ends
 pub mod Mirroring
 pub mod Lists
+pub mod CutLaws

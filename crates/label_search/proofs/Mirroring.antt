@@ -31,10 +31,10 @@ steps_in_mirror : (steps : List CellStep) → map step_of (map mirror_cell_step 
 steps_in_mirror steps = map-reverse_onto steps [] [] refl
 
 -- the part of a run in the mirror
-pub part_in_mirror : (b : BackwardProblem) → IsUpTo mirror_second b.network b.finishes → (c ready : ℕ) (whole part : Run) → IsBackwardPartOf b c (mirror_second - ready) whole part → IsPartOf (mirror_problem b) c ready whole part
-part_in_mirror b fits c ready whole part is_part = record {
+pub part_in_mirror : (b : BackwardProblem) → IsUpTo mirror_second b.network b.finishes → (c ready last : ℕ) (whole part : Run) → IsBackwardPartOf b c (mirror_second - ready) (mirror_second - last) whole part → IsPartOf (mirror_problem b) c ready last whole part
+part_in_mirror b fits c ready last whole part is_part = record {
   permitted = is_part.permitted;
-  expansions_in = λ d t is e. is_part.expansions_in d (mirror_second - t) is (expansion_from_mirror b.network b.finishes mirror_second fits c ready d t (omega (arith, e.still_held)) e);
+  expansions_in = λ d t is e by. is_part.expansions_in d (mirror_second - t) is (expansion_from_mirror b.network b.finishes mirror_second fits c ready d t (omega (arith, e.still_held)) e) (omega (arith, by, fits.windows_last d));
 }
 
 module _ (b : BackwardProblem) (sound : IsBackwardProblem b) where

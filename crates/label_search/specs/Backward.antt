@@ -1,5 +1,5 @@
 -- What is a search backward asked? A network of numbered cells, how walks may end, and where they shall begin.
-use Rattle.std.specs.Prelude.{◌≡◌, ℕ, ◌^◌, ◌-◌, ◌<◌, ◌≤◌, Bool, IsTrue, Option, Some}
+use Rattle.std.specs.Prelude.{◌≡◌, ℕ, ◌^◌, ◌-◌, ◌<◌, ◌≤◌, min, Bool, IsTrue, Option, Some}
 use Rattle.label_core.specs.Walks.{Network}
 use Rattle.label_core.specs.BackwardWalks.{Finish}
 use Rattle.label_core.specs.BackwardLabels.{IsExpansionBack}
@@ -40,10 +40,10 @@ abbrev pub finish_of : Closing → Finish
 finish_of o = record { earliest_out = o.earliest_out; latest_out = o.latest_out }
 
 -- the part is of cells that may come before cell d, and has each cell of the whole run that cell d, entered by `ready`,
--- expands back to
-pub record IsBackwardPartOf (b : BackwardProblem) (d ready : ℕ) (whole part : Run) : Type 0 where
+-- expands back to, if that can be left from `from` on
+pub record IsBackwardPartOf (b : BackwardProblem) (d ready from : ℕ) (whole part : Run) : Type 0 where
   pub permitted : (c : ℕ) → IsIn part c → IsTrue (b.network.turn c d)
-  pub expansions_in : (c t : ℕ) → IsIn whole c → IsExpansionBack b.network d ready c t → IsIn part c
+  pub expansions_in : (c t : ℕ) → IsIn whole c → IsExpansionBack b.network d ready c t → from ≤ min ready (b.network.last c) → IsIn part c
 
 -- ---- the mirror
 

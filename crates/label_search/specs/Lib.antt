@@ -6,5 +6,6 @@ pub mod Answer
 pub mod Backward
 pub mod Listed
 pub mod Values
-pub mod Marks
+pub mod Groups
 pub mod Begun
+pub mod Cut

@@ -1,7 +1,7 @@
 -- What is a search asked? A network of numbered cells, how walks may begin, and where they shall end.
 use Rattle.std.specs.Prelude.{◌≡◌, ℕ, ◌^◌, ◌<◌, ◌≤◌, Bool, IsTrue, Option, Some}
 use Rattle.label_core.specs.Walks.{Network, Start}
-use Rattle.label_core.specs.Labels.{IsExpansion}
+use Rattle.label_core.specs.Labels.{entry, IsExpansion}
 use Rattle.label_search.specs.declared.cells.Cell.{Cell}
 use Rattle.label_search.specs.declared.cells.Opening.{Opening}
 use Rattle.label_search.specs.declared.cells.Run.{Run}
@@ -41,7 +41,8 @@ cell_of network c = record { from = network.from c; last = network.last c; secon
 abbrev pub start_of : Opening → Start
 start_of o = record { earliest = o.earliest; latest = o.latest; exit_from = o.exit_from }
 
--- the part is of permitted next cells, and has each cell of the whole run to which cell c, left at `ready`, expands
-pub record IsPartOf (p : Problem) (c ready : ℕ) (whole part : Run) : Type 0 where
+-- the part is of permitted next cells, and has each cell of the whole run to which cell c, left at `ready`, expands, if that can be
+-- entered until `last`
+pub record IsPartOf (p : Problem) (c ready last : ℕ) (whole part : Run) : Type 0 where
   pub permitted : (d : ℕ) → IsIn part d → IsTrue (p.network.turn c d)
-  pub expansions_in : (d t : ℕ) → IsIn whole d → IsExpansion p.network c ready d t → IsIn part d
+  pub expansions_in : (d t : ℕ) → IsIn whole d → IsExpansion p.network c ready d t → entry p.network d ready ≤ last → IsIn part d

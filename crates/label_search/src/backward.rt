@@ -32,6 +32,10 @@ impl<C: BackwardCells> ForwardCells for Mirror<'_, C> {
         self.cells.count()
     }
 
+    fn begins(&self) -> u32 {
+        MIRROR.saturating_sub(self.cells.ends())
+    }
+
     fn cell(&self, cell: usize) -> Cell {
         let cell = self.cells.cell(cell);
         Cell {

@@ -41,6 +41,9 @@ pub trait ForwardCells {
     fn count(&self) -> usize
         ensures { result ≡ (problem self.now).count };
 
+    /// A second near which walks begin. Nothing but the time that a search takes rests on it.
+    fn begins(&self) -> u32;
+
     fn cell(&self, cell: usize) -> Cell
         requires { cell < (problem self.now).count }
         ensures { result ≡ cell_of (problem self.now).network cell };
@@ -73,8 +76,7 @@ pub trait ForwardCells {
     fn run(&self, cell: usize, run: usize, ready: u32, last: u32) -> Run
         requires inside { cell < (problem self.now).count }
         requires is_run { run < (problem self.now).runs cell }
-        requires last { last ≡ (problem self.now).network.last cell }
-        ensures { IsPartOf (problem self.now) cell ready ((problem self.now).run cell run) result };
+        ensures { IsPartOf (problem self.now) cell ready last ((problem self.now).run cell run) result };
 }
 
 /// A network of cells, how walks may end in it, and where they shall begin.
@@ -84,6 +86,9 @@ pub trait BackwardCells {
     /// How many cells there are.
     fn count(&self) -> usize
         ensures { result ≡ (backward self.now).count };
+
+    /// A second near which walks end. Nothing but the time that a search takes rests on it.
+    fn ends(&self) -> u32;
 
     fn cell(&self, cell: usize) -> Cell
         requires { cell < (backward self.now).count }
@@ -117,6 +122,5 @@ pub trait BackwardCells {
     fn run_before(&self, cell: usize, run: usize, ready: u32, from: u32) -> Run
         requires inside { cell < (backward self.now).count }
         requires is_run { run < (backward self.now).runs cell }
-        requires from { from ≡ (backward self.now).network.from cell }
-        ensures { IsBackwardPartOf (backward self.now) cell ready ((backward self.now).run cell run) result };
+        ensures { IsBackwardPartOf (backward self.now) cell ready from ((backward self.now).run cell run) result };
 }

@@ -1,5 +1,5 @@
 //! The search forward in time: earliest exits, and the route with the earliest end.
-ghost use Rattle.std.specs.Prelude.{◌≡◌, map, reverse, IfSome, IfNone, IfOk};
+ghost use Rattle.std.specs.Prelude.{◌≡◌, ◌≤◌, ◌^◌, map, reverse, is_some, IsTrue, IfSome, IfNone, IfOk};
 ghost use Rattle.label_core.specs.Walks.{IsEarliestExit};
 ghost use Rattle.label_core.specs.Picked.{IsPicked};
 ghost use Rattle.label_core.specs.Best.{IsBestEnd, HasNoWalk, IsPickedRoute};
@@ -10,6 +10,7 @@ ghost use Rattle.label_search.specs.Standing.{IsAtEnd};
 ghost use Rattle.label_search.specs.Answer.{step_of, best_of, end_of_goal, ComesBefore};
 
 use crate::cells::ForwardCells;
+use crate::cut::CutCells;
 use crate::labels::Labels;
 use crate::pick::{CellStep, pick_back};
 use crate::settle::{Goal, begin, settle};
@@ -35,6 +36,8 @@ pub struct Found {
 #[derive(Drop)]
 pub struct LabelRoom {
     labels: Labels,
+    // For how many seconds after walks begin searches look first.
+    reach: u32,
 }
 
 impl LabelRoom {
@@ -42,6 +45,7 @@ impl LabelRoom {
     pub fn new(alloc: Global) -> Result<LabelRoom, Memory> {
         Ok(LabelRoom {
             labels: Labels::new(alloc, 0)?,
+            reach: 0,
         })
     }
 }
@@ -63,7 +67,69 @@ pub fn earliest_exits<C: ForwardCells>(
     ensures none { IfOk result (λ found. IfNone (best_of found.route)
         (HasNoWalk (C.problem cells.now).network (C.problem cells.now).starts (C.problem cells.now).target)) }
 {
-    let labels = &mut room.labels;
+    let begins = cells.begins();
+    let near = search(
+        alloc,
+        &mut room.labels,
+        cells,
+        begins.saturating_add(room.reach),
+    )?;
+    let found = if near.route.is_some() {
+        near
+    } else {
+        search(alloc, &mut room.labels, cells, u32::MAX)?
+    };
+    if let Some(route) = &found.route {
+        room.reach = reach_after(room.reach, route.best.saturating_sub(begins));
+    }
+    Ok(found)
+}
+
+/// For how many seconds the next search looks first, after one that took so many: half as many again, or nearly as many as before.
+fn reach_after(reach: u32, taken: u32) -> u32 {
+    taken.saturating_add(taken / 2).max(reach - reach / 64)
+}
+
+/// The same as far as walks end by a second: what is found if there is such a walk to a target, and else that there is none. All
+/// of it is so where no step may leave after that second.
+fn search<C: ForwardCells>(
+    alloc: Global,
+    labels: &mut Labels,
+    cells: &C,
+    until: u32,
+) -> Result<Found, Memory>
+    requires sound { IsProblem (C.problem cells.now) }
+    ensures short { IfOk result (λ found. IsTrue (is_some (best_of found.route)) → AreExits (C.problem cells.now).network (C.problem cells.now).starts (C.problem cells.now).count
+        (best_of found.route) found.values.items) }
+    ensures all { IfOk result (λ found. 2 ^ 31 ≤ until → AreExits (C.problem cells.now).network (C.problem cells.now).starts (C.problem cells.now).count
+        (best_of found.route) found.values.items) }
+    ensures best { IfOk result (λ found. IfSome (best_of found.route)
+        (IsBestEnd (C.problem cells.now).network (C.problem cells.now).starts (C.problem cells.now).target)) }
+    ensures picked { IfOk result (λ found. IfSome found.route (λ r. IsPickedRoute (C.problem cells.now).network (C.problem cells.now).starts ComesBefore
+        (C.problem cells.now).target r.best (map step_of r.steps.items))) }
+    ensures none { IfOk result (λ found. 2 ^ 31 ≤ until → IfNone (best_of found.route)
+        (HasNoWalk (C.problem cells.now).network (C.problem cells.now).starts (C.problem cells.now).target)) }
+{
+    let found = search_cells(alloc, labels, &CutCells { cells, until })?;
+    Ok(found)
+}
+
+/// The picked one of the walks that end earliest, if there is a walk, and all earliest exits before its end.
+fn search_cells<C: ForwardCells>(
+    alloc: Global,
+    labels: &mut Labels,
+    cells: &C,
+) -> Result<Found, Memory>
+    requires sound { IsProblem (C.problem cells.now) }
+    ensures table { IfOk result (λ found. AreExits (C.problem cells.now).network (C.problem cells.now).starts (C.problem cells.now).count
+        (best_of found.route) found.values.items) }
+    ensures best { IfOk result (λ found. IfSome (best_of found.route)
+        (IsBestEnd (C.problem cells.now).network (C.problem cells.now).starts (C.problem cells.now).target)) }
+    ensures picked { IfOk result (λ found. IfSome found.route (λ r. IsPickedRoute (C.problem cells.now).network (C.problem cells.now).starts ComesBefore
+        (C.problem cells.now).target r.best (map step_of r.steps.items))) }
+    ensures none { IfOk result (λ found. IfNone (best_of found.route)
+        (HasNoWalk (C.problem cells.now).network (C.problem cells.now).starts (C.problem cells.now).target)) }
+{
     labels.renew(alloc, cells.count())?;
     begin(cells, labels);
     let goal = settle(cells, labels);

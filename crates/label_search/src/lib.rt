@@ -3,11 +3,12 @@
 
 mod backward;
 mod cells;
+mod cut;
 mod expand;
 mod forward;
+mod groups;
 mod labels;
 mod list;
-mod marks;
 mod offering;
 mod pick;
 mod settle;

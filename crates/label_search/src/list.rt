@@ -60,6 +60,10 @@ impl ForwardCells for ForwardList<'_> {
         self.cells.len()
     }
 
+    fn begins(&self) -> u32 {
+        0
+    }
+
     fn cell(&self, cell: usize) -> Cell {
         self.cells[cell].cell
     }
@@ -107,6 +111,10 @@ impl BackwardCells for BackwardList<'_> {
 
     fn count(&self) -> usize {
         self.cells.len()
+    }
+
+    fn ends(&self) -> u32 {
+        TIMES
     }
 
     fn cell(&self, cell: usize) -> Cell {

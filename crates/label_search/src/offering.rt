@@ -5,18 +5,12 @@ ghost use Rattle.label_search.specs.Labels.{IsImproved, standing, label_of};
 ghost use Rattle.label_search.specs.Expanding.{HasRoom};
 ghost use Rattle.label_search.specs.Values.{rows_from, values_kept};
 
+use crate::groups::{GROUP, clear_gathered, nothing, widened};
 use crate::labels::{Label, Labels};
-use crate::marks::clear_marked;
-use crate::values::{CellValue, take_marked};
+use crate::values::{CellValue, take_gathered};
 use label_queue::LabelQueue;
 use std::alloc::Global;
 use taxi_base::Memory;
-
-/// How many cells share a mark. Few, since most blocks have one label.
-pub(crate) const BLOCK: usize = 4;
-
-/// How many blocks share the mark of a group.
-pub(crate) const GROUP: usize = 16;
 
 impl Labels {
     /// No label yet, with room for so many cells.
@@ -27,8 +21,9 @@ impl Labels {
         Ok(Labels {
             known: Vec::from_elem(alloc, None, count)?,
             queue: LabelQueue::new(alloc, count)?,
-            marks: Vec::from_elem(alloc, false, count / BLOCK + 1)?,
-            groups: Vec::from_elem(alloc, false, (count / BLOCK + 1) / GROUP + 1)?,
+            groups: Vec::from_elem(alloc, nothing(), count / GROUP + 1)?,
+            touched: false,
+            usual: 0,
         })
     }
 
@@ -39,9 +34,11 @@ impl Labels {
         ensures unqueued { OnOk result ((c : ℕ) → key_of self.new.queue c ≡ None) }
     {
         if self.known.len() < count {
-            *self = Labels::new(alloc, count)?;
-        } else {
+            *self = Labels::new(alloc, count.saturating_add(count / 2))?;
+        } else if self.touched {
             self.clear();
+        } else {
+            self.queue.clear();
         }
         Ok(())
     }
@@ -52,7 +49,8 @@ impl Labels {
         ensures queue { self.new.queue ≡ replicate (length self.old.queue) None }
         ensures unlabelled { (c : ℕ) → label_of self.new.known.items c ≡ None }
     {
-        clear_marked(&mut self.known, &mut self.marks, &mut self.groups);
+        clear_gathered(&mut self.known, &mut self.groups);
+        self.touched = false;
         self.queue.clear();
     }
 
@@ -77,9 +75,9 @@ impl Labels {
         ensures known { self.new.known.items ≡ slice_set self.old.known.items cell (Some label) }
         ensures queue { self.new.queue ≡ self.old.queue }
     {
-        let block = cell / BLOCK;
-        self.groups[block / GROUP] = true;
-        self.marks[block] = true;
+        self.touched = true;
+        let group = cell / GROUP;
+        self.groups[group] = widened(self.groups[group], cell);
         self.known[cell] = Some(label);
     }
 
@@ -92,14 +90,12 @@ impl Labels {
     ) -> Result<Vec<CellValue>, Memory>
         ensures { IfOk result (λ values. values.items ≡ rows_from 0 (values_kept bound self.old.known.items)) }
     {
-        let mut values = Vec::new(alloc);
-        take_marked(
-            &mut values,
-            &mut self.known,
-            &mut self.marks,
-            &mut self.groups,
-            bound,
-        )?;
+        let mut values = Vec::with_capacity(alloc, self.usual)?;
+        // Where memory runs out, some labels are left.
+        self.touched = true;
+        take_gathered(&mut values, &mut self.known, &mut self.groups, bound)?;
+        self.touched = false;
+        self.usual = values.len();
         Ok(values)
     }
 }

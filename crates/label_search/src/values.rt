@@ -1,12 +1,13 @@
 //! The values that are handed out of labels.
-ghost use Rattle.std.specs.Prelude.{◌≡◌, ℕ, ◌+◌, ◌*◌, ◌/◌, ◌<◌, ◌≤◌, false, min, List, [], length, Option, OnOk};
+ghost use Rattle.std.specs.Prelude.{◌≡◌, ℕ, ◌+◌, ◌/◌, ◌<◌, ◌≤◌, List, [], length, Option, None, OnOk};
 ghost use Rattle.label_search.specs.declared.labels.Label.{Label as KnownLabel};
-ghost use Rattle.label_search.specs.Marks.{mark_of, AreMarked, AreGrouped};
+ghost use Rattle.label_search.specs.Labels.{label_of};
+ghost use Rattle.label_search.specs.Groups.{AreGathered, HaveNothing};
 ghost use Rattle.label_search.specs.Values.{rows_from, value_kept, values_kept, AreAsBeforeFrom, AreRowsTo};
 
+use crate::cells::Run;
+use crate::groups::nothing;
 use crate::labels::Label;
-use crate::marks::clear_run;
-use crate::offering::{BLOCK, GROUP};
 use std::alloc::Global;
 use taxi_base::Memory;
 
@@ -34,89 +35,54 @@ fn value_below(bound: Option<u32>, known: Option<Label>) -> Option<u32>
     }
 }
 
-/// Adds the values below the bound, or all where there is none, by cell, and takes all labels away. Each is in a block that is
-/// marked, and that in a group that is marked.
-pub(crate) fn take_marked(
+/// Adds the values below the bound, or all where there is none, by cell, and takes all labels away. Each is in the run of its
+/// group.
+pub(crate) fn take_gathered(
     values: &mut Vec<CellValue>,
     known: &mut [Option<Label>],
-    marks: &mut [bool],
-    groups: &mut [bool],
+    groups: &mut [Run],
     bound: Option<u32>,
 ) -> Result<(), Memory>
     requires none_yet { values.old.items ≡ [] }
-    requires blocks { length marks.old ≡ length known.old / 4 + 1 }
-    requires gathered { length groups.old ≡ length marks.old / 16 + 1 }
-    requires marked { AreMarked known.old marks.old }
-    requires grouped { AreGrouped marks.old groups.old }
+    requires counted { length groups.old ≡ length known.old / 64 + 1 }
+    requires gathered { AreGathered known.old groups.old }
     ensures known { length known.new ≡ length known.old }
-    ensures marks { length marks.new ≡ length marks.old }
     ensures groups { length groups.new ≡ length groups.old }
-    ensures marked { AreMarked known.new marks.new }
-    ensures grouped { AreGrouped marks.new groups.new }
+    ensures gathered { AreGathered known.new groups.new }
+    ensures taken { OnOk result (HaveNothing known.new) }
     ensures values { OnOk result (values.new.items ≡ rows_from 0 (values_kept bound known.old)) }
 {
-    let count = marks.len();
     for group in 0..groups.len() {
-        if groups[group] {
-            let first = group * GROUP;
-            take_blocks(values, known, marks, bound, first, count.min(first + GROUP))?;
-            groups[group] = false;
+        let run = groups[group];
+        if run.first < run.until {
+            take_run(values, known, bound, run.first, run.until)?;
+            groups[group] = nothing();
         }
     }
     Ok(())
 }
 
-/// Adds the values below the bound of some blocks, and takes their labels away. `all` are the labels before any was taken away.
-fn take_blocks(
+/// Adds the values below the bound of some cells, and takes their labels away. `all` are the labels before any was taken away.
+fn take_run(
     values: &mut Vec<CellValue>,
     known: &mut [Option<Label>],
-    marks: &mut [bool],
     bound: Option<u32>,
     first: usize,
     until: usize,
 ) -> Result<(), Memory>
     requires order { first ≤ until }
-    requires inside { until ≤ length marks.old }
-    requires blocks { length marks.old ≡ length known.old / 4 + 1 }
-    requires marked { AreMarked known.old marks.old }
-    ensures known { length known.new ≡ length known.old }
-    ensures marks { length marks.new ≡ length marks.old }
-    ensures marked { AreMarked known.new marks.new }
-    ensures others { (b : ℕ) → mark_of marks.old b ≡ false → mark_of marks.new b ≡ false }
-    ensures taken { OnOk result ((b : ℕ) → first ≤ b → b < until → mark_of marks.new b ≡ false) }
-    ensures rest { OnOk result (AreAsBeforeFrom (until * 4) known.old known.new) }
-    ensures values { (all : List (Option KnownLabel)) → AreAsBeforeFrom (first * 4) all known.old → length all ≡ length known.old
-        → AreRowsTo bound all (min (first * 4) (length all)) values.old.items
-        → OnOk result (AreRowsTo bound all (min (until * 4) (length all)) values.new.items) }
-{
-    let count = known.len();
-    for block in first..until {
-        if marks[block] {
-            let cell = block * BLOCK;
-            let end = count.min(cell + BLOCK);
-            push_values(values, known, bound, cell, end)?;
-            clear_run(known, cell, end);
-            marks[block] = false;
-        }
-    }
-    Ok(())
-}
-
-/// Adds the values below the bound of some cells. `all` are labels with the same at these cells.
-fn push_values(
-    values: &mut Vec<CellValue>,
-    known: &[Option<Label>],
-    bound: Option<u32>,
-    first: usize,
-    until: usize,
-) -> Result<(), Memory>
-    requires order { first ≤ until }
-    requires inside { until ≤ length known.now }
-    ensures { (all : List (Option KnownLabel)) → AreAsBeforeFrom first all known.now → length all ≡ length known.now
+    requires inside { until ≤ length known.old }
+    ensures length { length known.new ≡ length known.old }
+    ensures taken { OnOk result ((c : ℕ) → first ≤ c → c < until → label_of known.new c ≡ None) }
+    ensures others { (c : ℕ) → label_of known.old c ≡ None → label_of known.new c ≡ None }
+    ensures rest { (c : ℕ) → until ≤ c → label_of known.new c ≡ label_of known.old c }
+    ensures values { (all : List (Option KnownLabel)) → AreAsBeforeFrom first all known.old → length all ≡ length known.old
         → AreRowsTo bound all first values.old.items → OnOk result (AreRowsTo bound all until values.new.items) }
 {
     for cell in first..until {
-        if let Some(value) = value_below(bound, known[cell]) {
+        let value = value_below(bound, known[cell]);
+        known[cell] = None;
+        if let Some(value) = value {
             values.push(CellValue { cell, value })?;
         }
     }

@@ -5,9 +5,10 @@ ghost use Rattle.std.specs.Prelude.{◌≡◌, ◌<◌, ◌≤◌, IfSome, ◌++
 ghost use Rattle.std.specs.List.{AllPass};
 ghost use Rattle.taxi_base.specs.Words.{is_name};
 ghost use Rattle.taxi_base.specs.Airport.{place_of};
+ghost use Rattle.name_list.specs.Places.{number_of};
 
 use std::alloc::Global;
-use std::collections::BTreeMap;
+use std::collections::HashMap;
 use std::marker::Model;
 use taxi_base::{Memory, Name};
 
@@ -15,7 +16,8 @@ use taxi_base::{Memory, Name};
 #[derive(Drop)]
 pub struct NameList {
     names: Vec<Name>,
-    places: BTreeMap<Name, u32>,
+    // The place of each name, found by the number that the name is.
+    places: HashMap<u128, u32>,
 }
 
 impl Model for NameList {
@@ -36,7 +38,7 @@ impl NameList {
     {
         NameList {
             names: Vec::new(alloc),
-            places: BTreeMap::new(alloc),
+            places: HashMap::new(alloc),
         }
     }
 
@@ -55,7 +57,7 @@ impl NameList {
         ensures within { IfSome result (λ at. at < length self.now) }
         ensures few { IfSome result (λ at. at < 10000) }
     {
-        self.places.get(name).copied()
+        self.places.get(&number_of(name)).copied()
     }
 
     /// The name at a place.
@@ -73,14 +75,26 @@ impl NameList {
         ensures ok { OnOk result (self.new ≡ self.old ++ name ∷ []) }
         ensures err { OnErr result (self.new ≡ self.old) }
     {
-        // The bytes of a `Name` are a name.
-        let _ = name.bytes();
+        let number = number_of(&name);
         let at = self.names.len() as u32;
         self.names.push(name)?;
-        if self.places.insert(name, at).is_err() {
+        if self.places.insert(number, at).is_err() {
             let _ = self.names.pop();
             return Err(Memory);
         }
         Ok(())
     }
+}
+
+/// A name as one number, whose digits in base 256 are the bytes. It is looked up and compared at once, where bytes are a loop.
+fn number_of(name: &Name) -> u128
+    ensures number { result ≡ number_of name.now }
+    ensures name { IsTrue (is_name name.now) }
+{
+    let bytes = name.bytes();
+    let mut number: u128 = 0;
+    for byte in bytes {
+        number = number * 256 + *byte as u128;
+    }
+    number
 }

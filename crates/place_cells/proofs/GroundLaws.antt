@@ -1,5 +1,5 @@
 -- What a search over cells may rest on.
-use Rattle.std.proofs.Common.{◌≡◌, ℕ, ◌+◌, ◌-◌, ◌*◌, ◌^◌, ◌<◌, ◌≤◌, ◌&&◌, ltb, eqb, Bool, true, false, List, map, length, get_or, inl, inr, IsTrue, Option, Some, None, is_some, cond, unwrap_or, refl, sym, ◌∙◌, ap, subst, arith}
+use Rattle.std.proofs.Common.{◌≡◌, ℕ, ◌+◌, ◌-◌, ◌*◌, ◌^◌, ◌<◌, ◌≤◌, ◌&&◌, ltb, eqb, Bool, true, false, List, map, length, min, get_or, inl, inr, IsTrue, Option, Some, None, is_some, cond, unwrap_or, refl, sym, ◌∙◌, ap, subst, arith}
 use Rattle.std.specs.Prelude.{All}
 use Rattle.std.proofs.lemmas.Bool.{and_parts, and_from, lt-ltb, cond-true, cond-false}
 use Rattle.std.proofs.lemmas.Bool.Decides.{eqb_tells}
@@ -14,7 +14,7 @@ use Rattle.taxi_base.specs.declared.numbers.Class.{Class}
 use Rattle.taxi_base.specs.declared.numbers.Node.{Node}
 use Rattle.taxi_base.specs.Airport.{Airport, IsWellFormed, Link, link_of, layout_of, ends, tail, head, arc_exists, permits, segment_of}
 use Rattle.taxi_base.proofs.AirportLaws.{seconds-range}
-use Rattle.label_core.specs.Labels.{IsExpansion}
+use Rattle.label_core.specs.Labels.{entry, IsExpansion}
 use Rattle.label_core.specs.BackwardLabels.{IsExpansionBack}
 use Rattle.label_search.specs.declared.cells.Run.{Run}
 use Rattle.label_search.specs.Problem.{IsIn}
@@ -141,15 +141,15 @@ module _ (g : Ground) where
           let h = is_part.within d on in
           and_from _ _ (and_from _ _ h.1 usable) (subst (λ (a : Arc). IsTrue (permits g.layout a (arc_in g k))) (sym (of_arc d h.0)) permitted)
 
-      pub expansions_in_part : (ready : ℕ) → low ≡ ready → (network_in g).last k ≤ high → (d t : ℕ) → IsIn (run_of_arc g arc) d → IsExpansion (network_in g) k ready d t → IsIn part d
-      expansions_in_part ready at by d t inside e =
+      pub expansions_in_part : (ready : ℕ) → low ≡ ready → (d t : ℕ) → IsIn (run_of_arc g arc) d → IsExpansion (network_in g) k ready d t → entry (network_in g) d ready ≤ high → IsIn part d
+      expansions_in_part ready at d t inside e by =
           is_part.whole d inside (can_of d inside (turn_parts k d e.by_turn).1)
-          (omega (arith, e.value, e.in_time, last_in-within g.horizon g.clearance (window_in g d))) (omega (arith, e.still_held))
+          (omega (arith, e.value, e.in_time, at, last_in-within g.horizon g.clearance (window_in g d))) (omega (arith, by))
 
-      pub expansions_back_in_part : (ready : ℕ) → low ≤ (network_in g).from k → ready ≤ high → (d t : ℕ) → IsIn (run_of_arc g arc) d → IsExpansionBack (network_in g) k ready d t → IsIn part d
-      expansions_back_in_part ready by at d t inside e =
+      pub expansions_back_in_part : (ready : ℕ) → ready ≤ high → (d t : ℕ) → IsIn (run_of_arc g arc) d → IsExpansionBack (network_in g) k ready d t → low ≤ min ready ((network_in g).last d) → IsIn part d
+      expansions_back_in_part ready at d t inside e by =
           is_part.whole d inside (can_of d inside (turn_parts d k e.by_turn).0)
-          (omega (arith, e.already_held, last_in-within g.horizon g.clearance (window_in g d))) (omega (arith, e.value, e.in_window))
+          (omega (arith, by, last_in-within g.horizon g.clearance (window_in g d))) (omega (arith, e.value, e.in_window, at))
 
 -- ---- an airport's class in windows
 

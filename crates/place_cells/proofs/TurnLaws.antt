@@ -10,7 +10,7 @@ use Rattle.taxi_base.specs.declared.numbers.Arc.{Arc}
 use Rattle.taxi_base.specs.declared.numbers.Node.{Node}
 use Rattle.taxi_base.specs.Airport.{Layout, Ends, ends, meet, permits, arc_exists, tail, head}
 use Rattle.walk_labels.specs.Requests.{leads_to_one_of}
-use Rattle.walk_labels.proofs.OneOfLaws.{OneOf-gives}
+use Rattle.taxi_base.proofs.OneOfLaws.{OneOf-gives}
 use Rattle.walk_labels.proofs.RequestCells.{meet-same, leads-OneOf}
 use Rattle.taxi_base.proofs.ListLaws.{AllPairs-first, AllPairs-rest, Contains-first, Contains-rest, Contains-cons_cases}
 use Rattle.segment_graph.specs.Graphs.{AreArcs, AreNext, ArePrevious, AreLeaving, AreEntering}

@@ -76,20 +76,36 @@ impl CellNumbers {
         ensures numbers { IfOk result (λ n. HaveNumbers (windows_of store.now) n.first.items) }
         ensures apart { IsOk result → All (AreApart 0) (windows_of store.now) }
     {
-        let mut spots = Vec::new(alloc);
-        let mut first = Vec::new(alloc);
+        let mut spots = Vec::with_capacity(alloc, numbers_for(arcs, store))?;
+        let mut first = Vec::with_capacity(alloc, arcs + 1)?;
         first.push(0)?;
         for arc in 0..arcs {
             let windows = store.spans(Segment((arc / 2) as u32)).len();
-            push_block(
-                &mut spots,
-                Arc(arc as u32),
-                (2 * windows).saturating_add(MORE),
-            )?;
+            push_block(&mut spots, Arc(arc as u32), block_for(windows))?;
             first.push(spots.len())?;
         }
         Ok(CellNumbers { spots, first })
     }
+}
+
+/// How many numbers a block has for so many windows.
+fn block_for(windows: usize) -> usize
+    ensures { windows ≤ result }
+{
+    windows.saturating_mul(2).saturating_add(MORE)
+}
+
+/// How many numbers so many arcs have in all. It is only told for room to be made at once.
+fn numbers_for(arcs: usize, store: &WindowStore) -> usize
+    requires arcs { arcs ≤ 2 * length store.now.lists }
+    requires few { arcs ≤ 20000 }
+{
+    let mut numbers: usize = 0;
+    for arc in 0..arcs {
+        let windows = store.spans(Segment((arc / 2) as u32)).len();
+        numbers = numbers.saturating_add(block_for(windows));
+    }
+    numbers
 }
 
 /// One more block.

@@ -27,33 +27,39 @@ impl<'a> SearchGround<'a> {
     }
 
     /// The arc and the window of a number. Of one that is no cell's the window is empty.
+    #[inline(always)]
     pub fn place(&self, cell: usize) -> CellPlace
         ensures { place_of result ≡ place_at (cells_of (ground_of self.now)) cell }
     {
-        match self.numbers.spots.get(cell) {
-            None => CellPlace {
+        if cell >= self.numbers.spots.len() {
+            return CellPlace {
                 arc: Arc(0),
                 window: Span { from: 0, until: 0 },
-            },
-            Some(spot) => CellPlace {
-                arc: spot.arc,
-                window: self.window(*spot),
-            },
+            };
+        }
+        let spot = self.numbers.spots[cell];
+        CellPlace {
+            arc: spot.arc,
+            window: self.window(spot),
         }
     }
 
     /// The window of a spot, an empty one where there is none.
+    #[inline(always)]
     fn window(&self, spot: Spot) -> Span
         requires { spot.arc.0 / 2 < length self.now.store.now.lists }
         ensures { result ≡ window_of_spot (windows_of self.now.store.now) spot }
     {
-        match self.store.spans(segment_of(spot.arc)).get(spot.window) {
-            None => Span { from: 0, until: 0 },
-            Some(window) => *window,
+        let row = self.store.spans(segment_of(spot.arc));
+        if spot.window < row.len() {
+            row[spot.window]
+        } else {
+            Span { from: 0, until: 0 }
         }
     }
 
     /// The arc of a number.
+    #[inline(always)]
     pub fn arc(&self, cell: usize) -> Arc
         requires { cell < length (cells_of (ground_of self.now)) }
         ensures { result ≡ arc_in (ground_of self.now) cell }
@@ -62,6 +68,7 @@ impl<'a> SearchGround<'a> {
     }
 
     /// The arc of a number, if it is that of a cell.
+    #[inline(always)]
     pub fn usable(&self, cell: usize) -> Option<Arc>
         requires { cell < length (cells_of (ground_of self.now)) }
         ensures some { IfSome result (λ arc. arc ≡ arc_in (ground_of self.now) cell) }
@@ -76,6 +83,7 @@ impl<'a> SearchGround<'a> {
     }
 
     /// The window of a cell, the last second at which a step may leave in it, and the seconds that the class takes.
+    #[inline(always)]
     pub fn cell(&self, cell: usize) -> Cell
         ensures { result ≡ cell_of (network_in (ground_of self.now)) cell }
     {
@@ -88,6 +96,7 @@ impl<'a> SearchGround<'a> {
     }
 
     /// The seconds that the class takes on an arc; one second where it may not use it.
+    #[inline(always)]
     fn seconds(&self, arc: Arc) -> Time
         ensures { result ≡ unwrap_or (seconds_in self.now.classes.now.table self.now.class (segment_of arc)) 1 }
     {
@@ -97,6 +106,7 @@ impl<'a> SearchGround<'a> {
     }
 
     /// Whether the graph has the arc, and the class may use it.
+    #[inline(always)]
     pub fn can_use(&self, arc: Arc) -> bool
         ensures { result ≡ can_use_in (ground_of self.now) arc }
     {
@@ -104,6 +114,7 @@ impl<'a> SearchGround<'a> {
     }
 
     /// The arcs that may follow an arc.
+    #[inline(always)]
     pub fn next(&self, arc: Arc) -> &'a [Arc]
         requires { IsTrue (arc_exists (ground_of self.now).layout arc) }
         ensures { result.now ≡ next_arcs (ground_of self.now).layout arc }
@@ -112,6 +123,7 @@ impl<'a> SearchGround<'a> {
     }
 
     /// The arcs that may come before an arc.
+    #[inline(always)]
     pub fn previous(&self, arc: Arc) -> &'a [Arc]
         requires { IsTrue (arc_exists (ground_of self.now).layout arc) }
         ensures { result.now ≡ previous_arcs (ground_of self.now).layout arc }
@@ -144,6 +156,7 @@ impl<'a> SearchGround<'a> {
     }
 
     /// Whether the graph has the arc, and it leads to one of some nodes.
+    #[inline(always)]
     pub fn leads_to(&self, arc: Arc, nodes: &[Node]) -> bool
         ensures { result ≡ leads_to_one_of (ground_of self.now).layout nodes.now arc }
     {
@@ -155,6 +168,7 @@ impl<'a> SearchGround<'a> {
     }
 
     /// Whether the graph has the arc, and it leads away from the node.
+    #[inline(always)]
     pub fn leaves(&self, arc: Arc, node: Node) -> bool
         ensures { result ≡ meet (tail (ground_of self.now).layout arc) (Some node) }
     {
@@ -175,6 +189,7 @@ impl<'a> SearchGround<'a> {
     }
 
     /// Those cells of an arc that the class may use which do not end before one second nor begin after another.
+    #[inline(always)]
     pub fn part(&self, arc: Arc, low: Time, high: Time) -> Run
         requires { IsTrue (arc_exists (ground_of self.now).layout arc) }
         ensures { IsArcPart (ground_of self.now) arc low high result }

@@ -1,13 +1,11 @@
 -- What is known of a row that was read, and of a time that was taken.
 use Rattle.std.proofs.Common.{◌≡◌, ◌<◌, ◌^◌, ◌∷◌, ◌⊎◌, ◌-ℤ◌, [], ℕ, ℤ, pos, negsuc, List, Bool, true, false, Option, Some, None, Result, Ok, refl, ap, subst, inl, inr, nat_lt}
-use Rattle.std.specs.Str.Parse.{digits_value}
 use Rattle.std.proofs.lemmas.Bool.{cases_Bool, ltb-true}
-use Rattle.std.proofs.lemmas.Str.Parse.{digits_value_short}
 use Rattle.taxi_base.specs.Words.{is_name}
 use Rattle.taxi_base.specs.Airport.{Airport}
 use Rattle.taxi_text.specs.Commands.{◌>>=◌}
-use Rattle.taxi_text.specs.Fields.{name_of, is_number, number_of}
-use Rattle.taxi_text.proofs.Numbers.{numerals, is_number-parts}
+use Rattle.taxi_text.specs.Fields.{name_of, number_of}
+use Rattle.taxi_text.proofs.Numbers.{number_of-short}
 use Rattle.schedule_import.specs.declared.row.Movement.{Movement}
 use Rattle.schedule_import.specs.declared.row.Names.{Names}
 use Rattle.schedule_import.specs.declared.row.Row.{Row}
@@ -44,17 +42,6 @@ named word name e = go (cases_Bool (is_name word))
   where
     go : (is_name word ≡ true) ⊎ (is_name word ≡ false) → is_name name ≡ true
     go (inl it_is) = let same : word ≡ name = cc (rw it_is at e) in subst (λ w. is_name w ≡ true) same it_is
-    go (inr fails) = absurd (cc (rw fails at e))
-
-pub number_of-short : (word : List ℕ) (n : ℕ) → number_of word ≡ Some n → n < 10 ^ 7
-number_of-short word n e = go (cases_Bool (is_number word))
-  where
-    go : (is_number word ≡ true) ⊎ (is_number word ≡ false) → n < 10 ^ 7
-    go (inl it_is) =
-        let same : digits_value 10 word ≡ n = cc (rw it_is at e) in
-        let parts = is_number-parts word it_is in
-        let short = digits_value_short numerals word 7 parts.1 parts.0 in
-        subst (λ m. m < 10 ^ 7) same short
     go (inr fails) = absurd (cc (rw fails at e))
 
 names_of-names : (flight class from to : List ℕ) (names : Names) → names_of flight class from to ≡ Some names → AreNames names

@@ -49,6 +49,19 @@ pub enum Found {
     },
 }
 
+/// What is answered where one of several nodes may be reached: the node that is chosen, with the route to it.
+#[derive(Drop)]
+pub enum Chosen {
+    Route {
+        to: Node,
+        steps: List<Step>,
+        labels: List<LabelRow>,
+    },
+    NoRoute {
+        labels: List<LabelRow>,
+    },
+}
+
 /// Why a step of a filed route fails.
 #[derive(Clone, Copy, Debug, PartialEq, Eq)]
 pub enum StepCause {

@@ -1,5 +1,7 @@
 //! What the definitions mean, as laws that are proved of them. The functions do nothing: their clauses are the laws.
 ghost use Rattle.std.specs.Prelude.{◌≡◌, ◌↔◌, ◌<◌, ◌≤◌, ℕ, Bool, List, Option, length, slice_index_or, All, Contains, IsTrue, IsFalse, Some, None, [], ◌∷◌};
+ghost use Rattle.taxi_base.specs.declared.answers.Chosen.{Chosen};
+ghost use Rattle.taxi_base.specs.declared.answers.Chosen.TheVariants.{Route};
 ghost use Rattle.taxi_base.specs.declared.answers.Flight.{Flight};
 ghost use Rattle.taxi_base.specs.declared.answers.Found.{Found};
 ghost use Rattle.taxi_base.specs.declared.answers.Party.{Party};
@@ -13,10 +15,11 @@ ghost use Rattle.taxi_base.specs.declared.rows.Span.{Span};
 ghost use Rattle.taxi_base.specs.declared.rows.Step.{Step};
 ghost use Rattle.taxi_base.specs.Airport.{Airport, IsWellFormed, arc_exists, layout_of, clearance_of};
 ghost use Rattle.taxi_base.specs.Windows.{Hold, is_free, span_has, IsPart, AllFree, IsWindow, AreWindows, windows_before};
-ghost use Rattle.taxi_base.specs.Walks.{Conditions, conditions_among, conditions_in_windows, IsBounded, LeavesNodeWithin, ReachesNodeWithin, Resumes, IsInside, last_of, AreJoined, IsFeasibleWalk, Meets};
+ghost use Rattle.taxi_base.specs.Walks.{Conditions, conditions_among, conditions_in_windows, IsBounded, IsRoute, EndsEarliest, BeginsLatest, LeavesNode, LeavesNodeWithin, ReachesNodeWithin, Resumes, IsInside, last_of, AreJoined, IsFeasibleWalk, Meets};
 ghost use Rattle.taxi_base.specs.State.{State, IsInOrder, no_holder, holder_count, has_holder, without, with_flight, with_party, with_route, party_hold, conditions_of, IsClashFree, IsFeasibleHold, IsFeasibleState, IsSound, IsFrozenWalk};
 ghost use Rattle.taxi_base.specs.Faults.{holder_at, IsHolderAt, IsFirstHolder, conditions_in, route_fault, hold_fault};
 ghost use Rattle.taxi_base.specs.Labels.{IsPickedArrival, IsPickedDeparture, IsTable, IsExitBefore, IsEntryAfter, AnswersArrival, AnswersDeparture, AnswersDepartureAfter, found_after};
+ghost use Rattle.taxi_base.specs.Choices.{ReachesOneOf, ReachesOneOfWithin, AnswersArrivalChoice, AnswersDepartureChoice};
 ghost use Rattle.taxi_base.specs.Reports.{AreHeldRows};
 ghost use Rattle.taxi_base.specs.Again.{retargeted, IsTarget, MayGoAgain, AnswersAgain, IsBestAgain};
 
@@ -109,6 +112,18 @@ pub fn answers_are_one()
     ensures resumed { (c : Conditions) (begun : Step) (exit_from : ℕ) (to : Node) (found others : Found) → AnswersArrival c (Resumes begun exit_from) to found → AnswersArrival c (Resumes begun exit_from) to others → found ≡ others }
     ensures reaching { (c : Conditions) (from to : Node) (earliest latest : ℕ) (found others : Found) → AnswersDeparture c from (ReachesNodeWithin (layout_of c.airport) to earliest latest) found → AnswersDeparture c from (ReachesNodeWithin (layout_of c.airport) to earliest latest) others → found ≡ others }
     ensures after { (c : Conditions) (from to : Node) (earliest latest bound : ℕ) (found others : Found) → AnswersDepartureAfter c from (ReachesNodeWithin (layout_of c.airport) to earliest latest) bound found → AnswersDepartureAfter c from (ReachesNodeWithin (layout_of c.airport) to earliest latest) bound others → found ≡ others }
+{}
+
+/// The chosen route is the best of the walks to any of the nodes.
+pub fn choices_are_best()
+    ensures arrivals { (c : Conditions) (from : Node) (nodes : List Node) (earliest latest : ℕ) (to : Node) (steps : List Step) (labels : List LabelRow) → AnswersArrivalChoice c (LeavesNodeWithin (layout_of c.airport) from earliest latest) nodes (Route to steps labels) → EndsEarliest (IsRoute c (LeavesNodeWithin (layout_of c.airport) from earliest latest) (ReachesOneOf (layout_of c.airport) nodes)) steps }
+    ensures departures { (c : Conditions) (from : Node) (nodes : List Node) (earliest latest : ℕ) (to : Node) (steps : List Step) (labels : List LabelRow) → AnswersDepartureChoice c from nodes earliest latest (Route to steps labels) → BeginsLatest (IsRoute c (LeavesNode (layout_of c.airport) from) (ReachesOneOfWithin (layout_of c.airport) nodes earliest latest)) steps }
+{}
+
+/// And so has a choice of nodes. In an airport that keeps the rules names differ, so one node is chosen.
+pub fn choices_are_one()
+    ensures arrivals { (c : Conditions) (from : Node) (nodes : List Node) (earliest latest : ℕ) (chosen others : Chosen) → IsWellFormed c.airport → IsBounded c → All (λ n. n.0 < length c.airport.nodes) nodes → AnswersArrivalChoice c (LeavesNodeWithin (layout_of c.airport) from earliest latest) nodes chosen → AnswersArrivalChoice c (LeavesNodeWithin (layout_of c.airport) from earliest latest) nodes others → chosen ≡ others }
+    ensures departures { (c : Conditions) (from : Node) (nodes : List Node) (earliest latest : ℕ) (chosen others : Chosen) → IsWellFormed c.airport → All (λ n. n.0 < length c.airport.nodes) nodes → AnswersDepartureChoice c from nodes earliest latest chosen → AnswersDepartureChoice c from nodes earliest latest others → chosen ≡ others }
 {}
 
 /// What answers a departure gives the answer where only walks count that begin after a second: the route where it does, and

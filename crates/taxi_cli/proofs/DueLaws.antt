@@ -10,7 +10,7 @@ use Rattle.schedule_import.specs.declared.import.ScheduleRefused.TheVariants as 
 use Rattle.schedule_import.specs.Schedule.{import_of}
 use Rattle.taxi_cli.specs.declared.status.Status.{Status}
 use Rattle.taxi_cli.specs.declared.status.Status.TheVariants as status
-use Rattle.taxi_cli.specs.Asked.{FileNames, Traffic, Asked, Route, Check, Generate, Migrate, Import}
+use Rattle.program_words.specs.Asked.{FileNames, Traffic, Asked, Route, Check, Generate, Migrate, Import}
 use Rattle.taxi_cli.specs.Outcomes.{airport_limit, commands_limit, transcript_limit, IsJudged, AreAccepted, IsImported, IsDoneText, IsWrongText, IsScheduleRefusedText, IsRefused, IsReadFault, IsRunTooLarge, IsTooLarge}
 use Rattle.taxi_cli.specs.Due.{IsDueOfFile, IsDueOfJudgement, IsDueOfAirport, IsDueOfTranscript, IsDueOfImport, IsDueOfRun, IsDueOf}
 use Rattle.taxi_cli.specs.Halts.{IsLargeText}

@@ -1,8 +1,7 @@
 -- How a call ends whose text was to be written.
-use Rattle.std.proofs.Common.{◌≡◌, inl, inr, ℕ, List, Option, Some, Result, Ok, Err, IsErrOf, refl, sym, ◌∙◌, ap, subst}
+use Rattle.std.proofs.Common.{◌≡◌, inl, inr, ℕ, List, Option, Some, Result, Ok, Err, refl, sym, ◌∙◌, ap, subst}
 use Rattle.taxi_base.specs.Airport.{Airport}
 use Rattle.taxi_text.specs.Lines.{commands_of}
-use Rattle.taxi_io.specs.Counts.{Rose}
 use Rattle.taxi_io.specs.declared.trouble.Trouble.{Trouble}
 use Rattle.taxi_io.specs.declared.trouble.Trouble.TheVariants as trouble
 use Rattle.taxi_cli.specs.declared.status.Status.{Status}
@@ -11,12 +10,12 @@ use Rattle.taxi_io.proofs.Pieces.{grew-nothing}
 use Rattle.taxi_cli.specs.Lines.{refusal_line, read_fault_line, too_large_line, ok_line, wrong_line, first_row_line, bad_start_line}
 use Rattle.transcripts.specs.Runs.{transcript}
 use Rattle.taxi_io.specs.Files.{Files}
-use Rattle.taxi_cli.specs.Stops.{IsCauseOfAirport, IsCause, StopsWith, RefusesWith}
-use Rattle.taxi_cli.specs.declared.words.Asked.{Asked as LentAsked}
-use Rattle.taxi_cli.specs.LentWords.{asked_for, asked_as}
+use Rattle.taxi_cli.specs.Stops.{IsCause, StopsWith, RefusesWith}
+use Rattle.program_words.specs.declared.words.Asked.{Asked as LentAsked}
+use Rattle.program_words.specs.LentWords.{asked_for, asked_as}
 use Rattle.taxi_cli.specs.declared.inputs.Stop.{Stop}
 use Rattle.taxi_cli.specs.declared.inputs.Stop.TheVariants as stop
-use Rattle.taxi_cli.specs.Asked.{FileNames, Traffic, Asked, Route, Check, Generate, Migrate, Import, asked_by}
+use Rattle.program_words.specs.Asked.{FileNames, Traffic, Asked, Route, Check, Generate, Migrate, Import, asked_by}
 use Rattle.schedule_import.specs.declared.import.ScheduleRefused.{ScheduleRefused as WhyRefused}
 use Rattle.schedule_import.specs.declared.import.ScheduleRefused.TheVariants as why
 use Rattle.generated_run.specs.declared.summary.Summary.{Summary}
@@ -129,13 +128,6 @@ stop-ends call asked stop.ReadFault status whole cause stops =
 stop-ends call asked stop.TooLarge status whole cause stops =
     last-ends call (Some asked) TooLarge too_large_line _ status (large-line call.files asked whole cause) refl stops (λ whole. whole)
 stop-ends call asked stop.Memory status whole cause stops = rw stops.0 (inl (rw stops.1 (grew-nothing call.taken.0)))
-
--- what stops the reading of an airport file that is to be written anew stops the call
-pub cause-of_airport : (told : Option Files) (name : List ℕ) (faults : ℕ × ℕ) (why : Stop) → IsCauseOfAirport told name faults why → IsCause told (Migrate name) faults why
-cause-of_airport told name faults (stop.Refused at why) cause = cause
-cause-of_airport told name faults stop.ReadFault cause = cause
-cause-of_airport told name faults stop.TooLarge cause = cause
-cause-of_airport told name faults stop.Memory cause = cause
 
 -- how a call ends for what the words ask for
 pub asked-ends : (call : Call) (words : List (List ℕ)) (lent : LentAsked) (asked : Asked) (status : Status)

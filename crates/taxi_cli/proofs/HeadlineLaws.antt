@@ -32,7 +32,7 @@ use Rattle.certificate.proofs.PassLaws.{reply-passes}
 use Rattle.certificate.proofs.BestLaws.{passed-best}
 use Rattle.taxi_cli.specs.declared.status.Status.{Status}
 use Rattle.taxi_cli.specs.declared.status.Status.TheVariants as status
-use Rattle.taxi_cli.specs.Asked.{FileNames, Asked, Route}
+use Rattle.program_words.specs.Asked.{FileNames, Asked, Route}
 use Rattle.transcripts.specs.Runs.{InTurn, IsRun, blocks_text, done_line, transcript}
 use Rattle.transcript_check.specs.Checks.{IsPassedRun}
 use Rattle.taxi_cli.proofs.DueLaws.{large-is}

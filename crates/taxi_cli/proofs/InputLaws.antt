@@ -7,7 +7,7 @@ use Rattle.taxi_io.specs.declared.trouble.ReadRefused.{ReadRefused}
 use Rattle.taxi_io.specs.declared.trouble.ReadRefused.TheVariants as refused
 use Rattle.taxi_cli.specs.declared.inputs.Stop.{Stop}
 use Rattle.taxi_cli.specs.declared.inputs.Stop.TheVariants as stop
-use Rattle.taxi_cli.specs.Asked.{FileNames, Route, Check, Migrate, Import}
+use Rattle.program_words.specs.Asked.{FileNames, Route, Check, Migrate, Import}
 use Rattle.taxi_cli.specs.Outcomes.{commands_limit, transcript_limit, IsJudged, AreAccepted}
 use Rattle.taxi_cli.specs.Stops.{stop_for, IsCause, IsCauseOfAirport}
 

@@ -1,13 +1,13 @@
 -- How a run ends: what was due of it where it came to the end of its command file, where it was halted, and where it was cut short.
-use Rattle.std.proofs.Common.{◌≡◌, ◌<◌, ◌≤◌, ◌⊎◌, ◌+◌, ◌++◌, ◌∷◌, ◌∙◌, [], inl, inr, ℕ, List, Bool, true, false, cond, Option, Some, None, Result, Ok, Err, OnOk, OnErr, IsErrOf, length, take, option_map, unwrap_or, nat_lt, refl, sym, ap, subst, append_assoc, append-nil, arith}
+use Rattle.std.proofs.Common.{◌≡◌, ◌<◌, ◌≤◌, ◌++◌, ◌∷◌, ◌∙◌, [], inl, inr, ℕ, List, Bool, true, false, cond, Option, Some, None, Result, Ok, Err, OnOk, OnErr, length, take, option_map, unwrap_or, nat_lt, refl, sym, ap, subst, append_assoc, append-nil, arith}
 use Rattle.std.proofs.lemmas.Bool.{ltb-true, ltb-false}
 use Rattle.std.proofs.lemmas.List.{length-append, take_all, take-append-le}
 use Rattle.std.proofs.KnownBytes.{prepend_known-nil}
 use Rattle.taxi_base.specs.Airport.{Airport}
-use Rattle.taxi_base.specs.State.{State, no_holder}
+use Rattle.taxi_base.specs.State.{no_holder}
 use Rattle.taxi_text.specs.Lines.{commands_of, lines_of}
 use Rattle.taxi_io.specs.Counts.{Rose}
-use Rattle.taxi_io.specs.Files.{Files, IsFile, Begins, BeganMore, Gave, file_of}
+use Rattle.taxi_io.specs.Files.{Files, IsFile, Begins, BeganMore, Gave}
 use Rattle.taxi_io.specs.Written.{Grew, GrewInPart}
 use Rattle.taxi_io.specs.declared.trouble.Trouble.{Trouble}
 use Rattle.taxi_io.specs.declared.trouble.Trouble.TheVariants as trouble
@@ -16,7 +16,7 @@ use Rattle.certificate.specs.declared.block.Block.{Block}
 use Rattle.transcripts.specs.Runs.{IsRun, blocks_text, done_line, transcript}
 use Rattle.command_run.specs.declared.refused.RunRefused.{RunRefused}
 use Rattle.command_run.specs.declared.refused.RunRefused.TheVariants as refused
-use Rattle.command_run.specs.Ended.{ended_lines_of, ended_commands_of, commands_among, commands_within}
+use Rattle.command_run.specs.Ended.{ended_lines_of, ended_commands_of, commands_among}
 use Rattle.command_run.specs.Answered.{Told, AreLeft, AreAnswered, IsWholeRun, IsHaltedRun, IsCutRun, IsPrompt, IsStopped}
 use Rattle.command_run.proofs.Reading.{among-append, ended-first}
 use Rattle.command_run.proofs.SoFar.{none-answered}
@@ -24,10 +24,9 @@ use Rattle.taxi_cli.specs.declared.inputs.Stop.{Stop}
 use Rattle.taxi_cli.specs.declared.inputs.Stop.TheVariants as stop
 use Rattle.taxi_cli.specs.declared.status.Status.{Status}
 use Rattle.taxi_cli.specs.declared.status.Status.TheVariants as status
-use Rattle.taxi_cli.specs.Asked.{FileNames, Route}
-use Rattle.taxi_cli.specs.Outcomes.{airport_limit, commands_limit, IsJudged, AreAccepted}
+use Rattle.program_words.specs.Asked.{FileNames, Route}
+use Rattle.taxi_cli.specs.Outcomes.{commands_limit, IsJudged}
 use Rattle.taxi_cli.specs.Lines.{refusal_line, read_fault_line, too_large_line}
-use Rattle.taxi_cli.specs.Halts.{IsHaltedText}
 use Rattle.taxi_cli.specs.Endings.{Call, IsDueText, IsWhole, IsCutShort, Ends}
 use Rattle.taxi_cli.specs.LastLine.{status_after, IsWriting, EndsWith}
 use Rattle.taxi_cli.specs.Stops.{IsCauseOfAirport, StopsWith}

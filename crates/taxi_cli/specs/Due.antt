@@ -10,7 +10,7 @@ use Rattle.schedule_import.specs.Schedule.{import_of}
 use Rattle.transcript_check.specs.declared.failure.Failure.{Failure}
 use Rattle.taxi_cli.specs.declared.status.Status.{Status}
 use Rattle.taxi_cli.specs.declared.status.Status.TheVariants.{Done, Usage, AirportRefused, TooLarge, Wrong, ScheduleRefused}
-use Rattle.taxi_cli.specs.Asked.{FileNames, Asked, Route, Check, Generate, Migrate, Import}
+use Rattle.program_words.specs.Asked.{FileNames, Asked, Route, Check, Generate, Migrate, Import}
 use Rattle.transcript_check.specs.Checks.{IsRight, IsWrongAt}
 use Rattle.taxi_cli.specs.Outcomes.{airport_limit, commands_limit, transcript_limit}
 

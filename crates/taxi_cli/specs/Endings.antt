@@ -6,8 +6,9 @@ use Rattle.taxi_io.specs.Written.{Grew, GrewInPart}
 use Rattle.airport_file.specs.Reading.{RecordFault}
 use Rattle.taxi_cli.specs.declared.status.Status.{Status}
 use Rattle.taxi_cli.specs.declared.status.Status.TheVariants.{Done, Usage, AirportRefused, ReadFault, WriteFault, Memory, TooLarge, Wrong, ScheduleRefused}
-use Rattle.taxi_cli.specs.Lines.{usage_line, refusal_line}
-use Rattle.taxi_cli.specs.Asked.{Asked}
+use Rattle.program_words.specs.Usage.{usage_line}
+use Rattle.taxi_cli.specs.Lines.{refusal_line}
+use Rattle.program_words.specs.Asked.{Asked}
 use Rattle.taxi_cli.specs.Outcomes.{IsDoneText, IsWrongText, IsScheduleRefusedText, IsRefused, IsReadFault}
 use Rattle.taxi_cli.specs.Halts.{IsFaultText, IsLargeText}
 

@@ -6,7 +6,7 @@ use Rattle.taxi_io.specs.Files.{Files, IsFile, IsLonger}
 use Rattle.certificate.specs.declared.block.Block.{Block}
 use Rattle.transcripts.specs.Runs.{IsRun, blocks_text}
 use Rattle.command_run.specs.Ended.{ended_commands_of}
-use Rattle.taxi_cli.specs.Asked.{FileNames, Asked, Route}
+use Rattle.program_words.specs.Asked.{FileNames, Asked, Route}
 use Rattle.taxi_cli.specs.Lines.{read_fault_line, too_large_line}
 use Rattle.taxi_cli.specs.Outcomes.{airport_limit, commands_limit, IsJudged, IsTooLarge}
 

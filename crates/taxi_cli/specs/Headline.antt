@@ -25,7 +25,7 @@ use Rattle.certificate.specs.Passes.{IsPassed}
 use Rattle.certificate.specs.Sought.{Sought, sought_of, IsWalkFor}
 use Rattle.taxi_cli.specs.declared.status.Status.{Status}
 use Rattle.taxi_cli.specs.declared.status.Status.TheVariants.{Done, WriteFault, Memory}
-use Rattle.taxi_cli.specs.Asked.{FileNames}
+use Rattle.program_words.specs.Asked.{FileNames}
 use Rattle.transcripts.specs.Runs.{InTurn, transcript}
 use Rattle.transcript_check.specs.Checks.{IsRight}
 use Rattle.taxi_cli.specs.Outcomes.{AreAccepted}

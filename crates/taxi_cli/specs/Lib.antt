@@ -1,5 +1,4 @@
 pub mod Lines
-pub mod Asked
 pub mod Outcomes
 pub mod Due
 pub mod Endings
@@ -7,7 +6,6 @@ pub mod Headline
 pub mod Stops
 pub mod LastLine
 pub mod Exit
-pub mod LentWords
 pub mod Halts
 pub mod Pace
 pub mod RunEnds

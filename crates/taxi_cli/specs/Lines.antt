@@ -5,10 +5,6 @@ use Rattle.airport_file.specs.Reading.{RecordFault}
 use Rattle.transcript_check.specs.declared.failure.Failure.{Failure}
 use Rattle.transcript_check.specs.Words.{failure_word}
 
-abbrev pub usage_line : List ℕ
-usage_line =
-    codes "usage: taxi route AIRPORT COMMANDS; taxi check AIRPORT COMMANDS TRANSCRIPT; taxi generate NUMBER SIDE FLIGHTS; taxi migrate AIRPORT; taxi import AIRPORT SCHEDULE" ++ 10 ∷ []
-
 -- the first record of the airport file that breaks a rule, counted from 1, and the rule
 unfoldable pub refusal_line : RecordFault → List ℕ
 refusal_line fault = codes "airport refused at record " ++ decimal fault.at ++ codes ": " ++ fault_word fault.why ++ 10 ∷ []

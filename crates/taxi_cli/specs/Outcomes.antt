@@ -12,7 +12,7 @@ use Rattle.schedule_import.specs.declared.import.ScheduleRefused.{ScheduleRefuse
 use Rattle.schedule_import.specs.declared.import.ScheduleRefused.TheVariants.{FirstRow, BadStart}
 use Rattle.schedule_import.specs.Schedule.{import_of}
 use Rattle.transcript_check.specs.declared.failure.Failure.{Failure}
-use Rattle.taxi_cli.specs.Asked.{FileNames, Traffic, Asked, Route, Check, Generate, Migrate, Import}
+use Rattle.program_words.specs.Asked.{FileNames, Traffic, Asked, Route, Check, Generate, Migrate, Import}
 use Rattle.taxi_cli.specs.Lines.{ok_line, wrong_line, first_row_line, bad_start_line}
 use Rattle.generated_run.specs.declared.summary.Summary.{Summary}
 use Rattle.generated_run.specs.Summaries.{IsSummary, six_lines}

@@ -8,7 +8,7 @@ use Rattle.command_run.specs.Ended.{ended_commands_of}
 use Rattle.command_run.specs.Answered.{Told, AreAnswered, IsHaltedRun, IsPrompt}
 use Rattle.taxi_cli.specs.declared.status.Status.{Status}
 use Rattle.taxi_cli.specs.declared.status.Status.TheVariants.{ReadFault, WriteFault, TooLarge}
-use Rattle.taxi_cli.specs.Asked.{FileNames}
+use Rattle.program_words.specs.Asked.{FileNames}
 use Rattle.taxi_cli.specs.Lines.{read_fault_line, too_large_line}
 use Rattle.taxi_cli.specs.Outcomes.{commands_limit, IsJudged}
 use Rattle.taxi_cli.specs.Endings.{Call}

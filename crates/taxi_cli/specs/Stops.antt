@@ -4,13 +4,15 @@ use Rattle.taxi_io.specs.Counts.{Rose}
 use Rattle.taxi_io.specs.Files.{Files, IsLonger}
 use Rattle.taxi_io.specs.declared.trouble.ReadRefused.{ReadRefused}
 use Rattle.taxi_io.specs.declared.trouble.ReadRefused.TheVariants as refused
+use Rattle.airport_file.specs.declared.read.AirportRefused.{AirportRefused}
+use Rattle.airport_file.specs.declared.read.AirportRefused.TheVariants as airport
 use Rattle.schedule_import.specs.declared.import.ScheduleRefused.{ScheduleRefused}
 use Rattle.schedule_import.specs.declared.import.ScheduleRefused.TheVariants as schedule
 use Rattle.taxi_cli.specs.declared.inputs.Stop.{Stop}
 use Rattle.taxi_cli.specs.declared.inputs.Stop.TheVariants.{Refused, ReadFault, TooLarge, Memory}
 use Rattle.taxi_cli.specs.declared.status.Status.{Status}
 use Rattle.taxi_cli.specs.declared.status.Status.TheVariants as status
-use Rattle.taxi_cli.specs.Asked.{Asked}
+use Rattle.program_words.specs.Asked.{Asked}
 use Rattle.taxi_cli.specs.LastLine.{EndsWith}
 use Rattle.taxi_cli.specs.Lines.{refusal_line, read_fault_line, too_large_line, first_row_line, bad_start_line}
 use Rattle.taxi_cli.specs.Outcomes.{airport_limit, IsJudged, IsRefused, IsReadFault, IsTooLarge}
@@ -20,6 +22,11 @@ abbrev pub stop_for : ReadRefused → Stop
 stop_for refused.Fault = ReadFault
 stop_for refused.TooLarge = TooLarge
 stop_for refused.Memory = Memory
+
+-- how an airport file that is no airport ends the call
+abbrev pub stop_for_airport : AirportRefused → Stop
+stop_for_airport (airport.Bad at why) = Refused at why
+stop_for_airport airport.Memory = Memory
 
 -- what is true where the airport file ends the call, by the shelf's counts of faults before and after
 abbrev pub IsCauseOfAirport : Option Files → List ℕ → ℕ × ℕ → Stop → Type 0

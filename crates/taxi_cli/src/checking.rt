@@ -1,6 +1,6 @@
 //! The verb `check`.
 ghost use Rattle.std.specs.Prelude.{◌≤◌, Some};
-ghost use Rattle.taxi_cli.specs.Asked.{Check};
+ghost use Rattle.program_words.specs.Asked.{Check};
 ghost use Rattle.taxi_cli.specs.Outcomes.{IsInOrder};
 ghost use Rattle.taxi_cli.specs.Endings.{Ends};
 

@@ -1,13 +1,13 @@
 //! The verb `generate`.
 ghost use Rattle.std.specs.Prelude.{◌≤◌, ℕ, Option, Some};
 ghost use Rattle.taxi_io.specs.Files.{Files};
-ghost use Rattle.taxi_cli.specs.Asked.{Generate};
+ghost use Rattle.program_words.specs.Asked.{Generate};
 ghost use Rattle.taxi_cli.specs.Endings.{Ends};
 
 use crate::ending::write_last;
 use crate::status::Status;
-use crate::traffic::Traffic;
 use generated_run::run_generated;
+use program_words::Traffic;
 use std::alloc::Global;
 use taxi_io::Sink;
 

@@ -1,6 +1,6 @@
 //! The verb `import`.
 ghost use Rattle.std.specs.Prelude.{◌≤◌, Some};
-ghost use Rattle.taxi_cli.specs.Asked.{Import};
+ghost use Rattle.program_words.specs.Asked.{Import};
 ghost use Rattle.taxi_cli.specs.Outcomes.{IsInOrder};
 ghost use Rattle.taxi_cli.specs.Endings.{Ends};
 ghost use Rattle.taxi_cli.specs.Stops.{RefusesWith};

@@ -1,7 +1,7 @@
 //! The files of a call, read whole before anything is done with them, but for the command file of a run.
 ghost use Rattle.std.specs.Prelude.{◌≡◌, ◌≤◌, ◌∷◌, [], length, Some, Ok, Err, is_ok, IfOk, OnOk, IfErr};
 ghost use Rattle.taxi_io.specs.Files.{SameNames, BeganMore, Begins};
-ghost use Rattle.taxi_cli.specs.Asked.{Route, Check};
+ghost use Rattle.program_words.specs.Asked.{Route, Check};
 ghost use Rattle.taxi_cli.specs.Outcomes.{IsJudged, AreAccepted, AreToCheck, IsRunInOrder, IsInOrder};
 ghost use Rattle.taxi_cli.specs.RunEnds.{IsCauseOfBegin};
 ghost use Rattle.taxi_cli.specs.Stops.{IsCause, IsCauseOfAirport};
@@ -43,6 +43,21 @@ impl From<ReadRefused> for Stop {
     }
 }
 
+/// An airport file that is no airport.
+impl From<AirportRefused> for Stop {
+    ghost use Rattle.std.specs.Prelude.{◌≡◌};
+    ghost use Rattle.taxi_cli.specs.Stops.{stop_for_airport};
+
+    ghost from_gives = { λ refused stop. stop ≡ stop_for_airport refused };
+
+    fn from(refused: AirportRefused) -> Stop {
+        match refused {
+            AirportRefused::Bad { at, why } => Stop::Refused { at, why },
+            AirportRefused::Memory => Stop::Memory,
+        }
+    }
+}
+
 /// A trouble of a file that is to be begun.
 impl From<Trouble> for Stop {
     ghost use Rattle.std.specs.Prelude.{◌≡◌};
@@ -73,11 +88,7 @@ pub(crate) fn read_airport_file<S: Shelf>(
     ensures names { SameNames (S.knows shelf.old) (S.knows shelf.new) }
 {
     let bytes = read_all(alloc, shelf, name, AIRPORT_LIMIT)?;
-    match read_airport(alloc, bytes.as_slice()) {
-        Ok(airport) => Ok(airport),
-        Err(AirportRefused::Bad { at, why }) => Err(Stop::Refused { at, why }),
-        Err(AirportRefused::Memory) => Err(Stop::Memory),
-    }
+    Ok(read_airport(alloc, bytes.as_slice())?)
 }
 
 /// Begins a command file, of which then all is left. Where that fails nothing is begun.

@@ -1,18 +1,12 @@
 //! The line that ends what a call writes.
 ghost use Rattle.std.specs.Prelude.{◌≡◌, ◌+◌, ◌≤◌, length, decimal};
 ghost use Rattle.airport_rules.specs.Faults.{fault_word};
-ghost use Rattle.taxi_cli.specs.Lines.{usage_line, refusal_line, read_fault_line, too_large_line, ok_line, wrong_line, first_row_line, bad_start_line};
+ghost use Rattle.taxi_cli.specs.Lines.{refusal_line, read_fault_line, too_large_line, ok_line, wrong_line, first_row_line, bad_start_line};
 
 use airport_file::AirportFault;
 use itoa::Buffer;
 use taxi_text::ShortText;
 use transcript_check::Failure;
-
-pub(crate) fn usage_line() -> &'static [u8]
-    ensures { result.now ≡ usage_line }
-{
-    b"usage: taxi route AIRPORT COMMANDS; taxi check AIRPORT COMMANDS TRANSCRIPT; taxi generate NUMBER SIDE FLIGHTS; taxi migrate AIRPORT; taxi import AIRPORT SCHEDULE\n"
-}
 
 pub(crate) fn read_fault_line() -> &'static [u8]
     ensures { result.now ≡ read_fault_line }

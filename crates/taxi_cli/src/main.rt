@@ -1,6 +1,10 @@
 //! The taxi router as a program: its words name files, and it writes to standard output.
 #![tactic(auto)]
 
+ghost use Rattle.std.specs.Prelude.{◌≡◌, map, string_bytes, IsErr, IfOk};
+ghost use Rattle.std.specs.Process.{exit_status};
+ghost use Rattle.taxi_cli.specs.Exit.{number_of, MayExit};
+
 mod checking;
 mod ending;
 mod exit;
@@ -15,42 +19,35 @@ pub mod steady;
 #[cfg(test)]
 mod tests;
 pub mod top;
-mod traffic;
-mod words;
 
 use exit::exit_code;
+use program_words::words_after_name;
 use status::Status;
-use std::env;
-use std::env::Env;
-use std::io::ErrorKind;
 use std::process::ExitCode;
+use std::rt::Files;
+use std::{env, io};
 use taxi_base::Memory;
 use taxi_io::{FileShelf, OutputSink};
 use top::taxi;
 
-// The words after the program's name. Where one isn't UTF-8 they are of no form, as no words are.
-fn words_given(rt: &(impl Env + AllocGlobal)) -> Result<Vec<String>, Memory> {
-    let mut words = Vec::new(rt.alloc());
-    match env::args(rt) {
-        Ok(given) => {
-            for word in given.skip(1) {
-                words.push(word)?;
-            }
-            Ok(words)
+// Makes the call with these words over the machine's files and standard output, and ends with the number of its status.
+fn call<R: Files + Input + Print + AllocGlobal>(
+    rt: &R,
+    words: Result<Vec<String>, Memory>,
+) -> ExitCode
+    ensures words { IfOk words (λ given. MayExit (map string_bytes given.items) (exit_status result)) }
+    ensures memory { IsErr words → exit_status result ≡ number_of Status.Memory }
+{
+    match words {
+        Ok(words) => {
+            let mut shelf = FileShelf::new(rt);
+            let mut out = OutputSink::new(io::writer(rt));
+            exit_code(taxi(rt.alloc(), words.as_slice(), &mut shelf, &mut out))
         }
-        Err(e) if e.kind() == ErrorKind::OutOfMemory => Err(Memory),
-        Err(_) => Ok(words),
+        Err(Memory) => exit_code(Status::Memory),
     }
 }
 
 fn main(rt: HostRuntime) -> ExitCode {
-    let status = match words_given(&rt) {
-        Ok(words) => {
-            let mut shelf = FileShelf::new(&rt);
-            let mut out = OutputSink::new(&rt);
-            taxi(rt.alloc(), words.as_slice(), &mut shelf, &mut out)
-        }
-        Err(Memory) => Status::Memory,
-    };
-    exit_code(status)
+    call(&rt, words_after_name(rt.alloc(), env::args(&rt)))
 }

@@ -1,7 +1,7 @@
 //! The verb `route`.
 ghost use Rattle.std.specs.Prelude.{◌≤◌, ◌∷◌, [], Some};
 ghost use Rattle.taxi_io.specs.Files.{BeganMore};
-ghost use Rattle.taxi_cli.specs.Asked.{Route};
+ghost use Rattle.program_words.specs.Asked.{Route};
 ghost use Rattle.taxi_cli.specs.Outcomes.{IsInOrder};
 ghost use Rattle.taxi_cli.specs.Endings.{Ends};
 ghost use Rattle.taxi_cli.specs.Pace.{HaveBegun, KeepsPace, commands_left};

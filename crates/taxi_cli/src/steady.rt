@@ -4,7 +4,7 @@ ghost use Rattle.taxi_base.specs.Airport.{Airport};
 ghost use Rattle.taxi_text.specs.Lines.{commands_of};
 ghost use Rattle.taxi_io.specs.SteadyFiles.{HasFile};
 ghost use Rattle.taxi_io.specs.Written.{Grew};
-ghost use Rattle.taxi_cli.specs.Asked.{FileNames, Route, IsNamed, asked_by};
+ghost use Rattle.program_words.specs.Asked.{FileNames, Route, IsNamed, asked_by};
 ghost use Rattle.taxi_cli.specs.Outcomes.{AreAccepted};
 ghost use Rattle.taxi_cli.specs.Headline.{IsWholeAnswer};
 

@@ -1,8 +1,10 @@
 //! Calls over files and output in memory, with what they write found by hand.
 mod calls;
-mod pieces;
+mod damage;
+mod devices;
 mod rows;
 mod schedules;
+mod worked;
 
 ghost use Rattle.std.specs.Prelude.{◌≤◌};
 
@@ -15,6 +17,8 @@ use taxi_io::{MemoryShelf, MemorySink};
 
 const ROUTE: &str = "route airport.csv commands.txt";
 
+const CHECK: &str = "check airport.csv commands.txt transcript.txt";
+
 const MIGRATE: &str = "migrate airport.csv";
 
 fn words_of(alloc: Global, line: &str) -> Result<Vec<String>, AllocError> {
@@ -25,18 +29,24 @@ fn words_of(alloc: Global, line: &str) -> Result<Vec<String>, AllocError> {
     Ok(all)
 }
 
+// An airport, commands and a transcript, as far as they are given, of which a read gives so many bytes at most.
 fn shelf_of(
     alloc: Global,
-    airport: &[u8],
-    commands: &[u8],
+    texts: &[&[u8]],
+    piece: usize,
     failing: &[u32],
-) -> Result<MemoryShelf, AllocError> {
+) -> Result<MemoryShelf, AllocError>
+    requires { 1 ≤ piece }
+{
     let mut files = Vec::new(alloc);
-    let airport = Vec::from_slice(alloc, airport)?;
-    files.push((String::from_str(alloc, "airport.csv")?, airport))?;
-    let commands = Vec::from_slice(alloc, commands)?;
-    files.push((String::from_str(alloc, "commands.txt")?, commands))?;
-    Ok(MemoryShelf::new(files, 4096, Vec::from_slice(alloc, failing)?))
+    for (text, name) in texts
+        .iter()
+        .zip(["airport.csv", "commands.txt", "transcript.txt"])
+    {
+        let text = Vec::from_slice(alloc, text)?;
+        files.push((String::from_str(alloc, name)?, text))?;
+    }
+    Ok(MemoryShelf::new(files, piece, Vec::from_slice(alloc, failing)?))
 }
 
 fn sink_of(alloc: Global, piece: usize, failing: &[u32]) -> Result<MemorySink, AllocError>
@@ -45,21 +55,33 @@ fn sink_of(alloc: Global, piece: usize, failing: &[u32]) -> Result<MemorySink, A
     Ok(MemorySink::new(alloc, piece, Vec::from_slice(alloc, failing)?))
 }
 
-// A call with these words over an airport and commands, where nothing fails.
-fn expect_call<R: Abort>(
+// A call with these words, how it ends, and what it has written then.
+fn expect_end<R: Abort>(
     rt: &R,
     alloc: Global,
     words: &str,
-    airport: &[u8],
-    commands: &[u8],
+    shelf: &mut MemoryShelf,
+    out: &mut MemorySink,
     status: Status,
     text: &[u8],
 ) -> Result<(), Fail> {
     let words = words_of(alloc, words)?;
-    let mut shelf = shelf_of(alloc, airport, commands, [].as_slice())?;
-    let mut out = sink_of(alloc, 4096, [].as_slice())?;
-    let ended = taxi(alloc, words.as_slice(), &mut shelf, &mut out);
+    let ended = taxi(alloc, words.as_slice(), shelf, out);
     assert_eq!(rt; ended, status);
     assert_eq!(rt; out.written(), text);
     Ok(())
+}
+
+// The same over these files, where nothing fails.
+fn expect_call<R: Abort>(
+    rt: &R,
+    alloc: Global,
+    words: &str,
+    texts: &[&[u8]],
+    status: Status,
+    text: &[u8],
+) -> Result<(), Fail> {
+    let mut shelf = shelf_of(alloc, texts, 4096, [].as_slice())?;
+    let mut out = sink_of(alloc, 4096, [].as_slice())?;
+    expect_end(rt, alloc, words, &mut shelf, &mut out, status, text)
 }

@@ -2,7 +2,7 @@
 ghost use Rattle.std.specs.Prelude.{◌≡◌, ◌⊎◌, ◌≤◌, ℕ, List, map, string_bytes, Some, None};
 ghost use Rattle.taxi_io.specs.Counts.{Rose};
 ghost use Rattle.taxi_io.specs.Files.{Files};
-ghost use Rattle.taxi_cli.specs.Asked.{FileNames, Traffic, Route, Check, Generate, Migrate, Import, IsNamed, asked_by};
+ghost use Rattle.program_words.specs.Asked.{FileNames, Traffic, Route, Check, Generate, Migrate, Import, IsNamed, asked_by};
 ghost use Rattle.taxi_cli.specs.Outcomes.{IsInOrder};
 ghost use Rattle.taxi_cli.specs.Due.{IsDueOf};
 ghost use Rattle.taxi_cli.specs.Endings.{Ends};
@@ -13,11 +13,10 @@ use crate::checking::check;
 use crate::ending::write_last;
 use crate::generating::generate;
 use crate::importing::import;
-use crate::last_line::usage_line;
 use crate::migrating::migrate;
 use crate::routing::route;
 use crate::status::Status;
-use crate::words::{Asked, asked_by};
+use program_words::{Asked, asked_by, usage_line};
 use std::alloc::Global;
 use taxi_io::{Shelf, Sink};
 

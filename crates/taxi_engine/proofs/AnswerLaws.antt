@@ -6,7 +6,7 @@ use Rattle.taxi_base.specs.Airport.{Airport, IsWellFormed}
 use Rattle.taxi_base.specs.State.{State, IsSound}
 use Rattle.taxi_text.specs.declared.command.Command.{Command}
 use Rattle.taxi_text.specs.declared.command.Command.TheVariants as command
-use Rattle.taxi_text.specs.Commands.{command_of, IsFile}
+use Rattle.taxi_text.specs.Commands.{command_of, EndsInList}
 use Rattle.certificate.specs.declared.block.Block.TheVariants.{Refused}
 use Rattle.certificate.specs.CarriedOut.{Reply}
 use Rattle.certificate.specs.Replies.{refused, NeedsNoMemory, IsDue, IsReply, as_due, no_memory, HaveNames, IsAnswered}
@@ -29,6 +29,8 @@ wants-needs airport state (command.Occupancy segment) may needs = needs
 wants-needs airport state command.Timetable may needs = needs
 wants-needs airport state (command.Work name segment from until) may needs = needs
 wants-needs airport state (command.WorkDone name) may needs = may
+wants-needs airport state (command.ArrivalAny flight class from time hold stands) may needs = needs
+wants-needs airport state (command.DepartureAny flight class from time queue nodes) may needs = needs
 
 module _ (old new : EngineState) (line : List ℕ) (well : IsWellFormed old.airport) (sound : IsSound old.airport old.state) (names : HaveNames old.state) where
   -- by what a reply says
@@ -69,9 +71,9 @@ module _ (old new : EngineState) (line : List ℕ) (well : IsWellFormed old.airp
       ]
 
   -- where memory ran out while the line was read, which files a route
-  pub file-answers : IsSomeAnd (command_of line) IsFile → IsDone (refused old.state refusal.Memory) old new → Answers old line new
+  pub file-answers : IsSomeAnd (command_of line) EndsInList → IsDone (refused old.state refusal.Memory) old new → Answers old line new
   file-answers files done = go (command_of line) (λ i. command_of line) files where
-    filing : (c : Command) → IsFile c → MayWantMemory old.airport old.state c
+    filing : (c : Command) → EndsInList c → MayWantMemory old.airport old.state c
     filing (command.File flight class start steps) file = tt
     filing (command.Arrival flight class from to time hold) file = absurd file
     filing (command.Departure flight class from to time queue) file = absurd file
@@ -83,7 +85,9 @@ module _ (old new : EngineState) (line : List ℕ) (well : IsWellFormed old.airp
     filing command.Timetable file = absurd file
     filing (command.Work name segment from until) file = absurd file
     filing (command.WorkDone name) file = absurd file
+    filing (command.ArrivalAny flight class from time hold stands) file = tt
+    filing (command.DepartureAny flight class from time queue nodes) file = tt
 
-    go : (o : Option Command) → command_of line ≡ o → IsSomeAnd o IsFile → Answers old line new
+    go : (o : Option Command) → command_of line ≡ o → IsSomeAnd o EndsInList → Answers old line new
     go None e files = absurd files
     go (Some c) e files = memory-answers c e (filing c files) done

@@ -7,5 +7,6 @@ pub mod Told
 pub mod SearchedLaws
 pub mod RouteLaws
 pub mod RoutedDue
+mod ChosenDue
 pub mod ReroutedDue
 pub mod ReroutedTold

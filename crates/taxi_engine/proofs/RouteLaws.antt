@@ -33,7 +33,7 @@ module _ (airport : Airport) (steps : List Step) (on : IsWalkOn airport steps) w
       omega (arith, walk-few on.conditions rules steps on.walk, rules.horizon.1)
 
 -- labels that can be printed are of the airport's arcs
-printable-arcs : (airport : Airport) (labels : List LabelRow) → ArePrintableLabels airport labels → All (λ label. HasArc airport label.arc) labels
+pub printable-arcs : (airport : Airport) (labels : List LabelRow) → ArePrintableLabels airport labels → All (λ label. HasArc airport label.arc) labels
 printable-arcs airport labels printable = All-weaker (IsPrintableLabel airport) (λ label. HasArc airport label.arc) (λ label fine. fine.0) labels printable.1
 
 module _ (airport : Airport) (class : Class) (holds : List Hold) (well : IsWellFormed airport) where

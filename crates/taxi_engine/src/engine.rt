@@ -81,7 +81,8 @@ impl Engine {
         self.reply.bytes()
     }
 
-    /// Answers one command. Only a command that files a route, or one that is refused nothing, may want for memory.
+    /// Answers one command. Only a command that ends in a list, or one that is refused nothing, may want
+    /// for memory.
     pub fn answer(&mut self, line: &[u8])
         ensures { Answers self.old line.now self.new }
     {
@@ -135,6 +136,22 @@ impl Engine {
                 until,
             } => self.shut(name, segment, *from, *until),
             Command::WorkDone { name } => self.open_again(name),
+            Command::ArrivalAny {
+                flight,
+                class,
+                from,
+                time,
+                hold,
+                stands,
+            } => self.route_arrival_any(flight, class, from, *time, *hold, stands.as_slice()),
+            Command::DepartureAny {
+                flight,
+                class,
+                from,
+                time,
+                queue,
+                nodes,
+            } => self.route_departure_any(flight, class, from, *time, *queue, nodes.as_slice()),
         }
     }
 

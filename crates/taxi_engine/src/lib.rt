@@ -3,6 +3,7 @@
 
 mod asking;
 mod cancelling;
+mod choosing;
 mod engine;
 mod filing;
 mod reply;

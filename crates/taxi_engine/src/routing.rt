@@ -133,7 +133,7 @@ impl Engine {
     }
 
     // Tells the route of a new flight with its labels, and puts the flight in force.
-    fn take_route(&mut self, flight: Flight, labels: &List<LabelRow>)
+    pub(crate) fn take_route(&mut self, flight: Flight, labels: &List<LabelRow>)
         requires name { IsName flight.name }
         requires new { IsNew self.old.state flight.name }
         requires met { Meets (conditions_in self.old.airport flight.class self.old.state) flight.request flight.steps }

@@ -8,5 +8,6 @@ pub mod SinkInMemory
 pub mod ShelfInMemory
 pub mod HeldFiles
 pub mod ShelfOfMachine
+pub mod SinkOfMachine
 pub mod SteadyFiles
 pub mod SteadyOutput

@@ -1,5 +1,5 @@
 -- What is known of a shelf of the machine's files?
-use Rattle.std.specs.Prelude.{ℕ, List, Bool, true, false, codes, bytes_eq, if◌then◌else◌}
+use Rattle.std.specs.Prelude.{ℕ, List, Option, None, Bool, true, false, codes, bytes_eq, if◌then◌else◌}
 use Rattle.taxi_io.specs.declared.file_shelf.Source.{Source}
 use Rattle.taxi_io.specs.declared.file_shelf.Source.TheVariants as source
 
@@ -11,6 +11,8 @@ pub data Begun : Type 0 where
 
 pub record ShelfOfMachine : Type 0 where
   pub begun : Begun
+  -- the bytes that reads will give, where they are known
+  pub left : Option (List ℕ)
   -- how many calls answered an error
   pub faults : ℕ
 
@@ -18,6 +20,12 @@ abbrev pub source_of : {F I : Type 0} → Source F I → Begun
 source_of source.Nothing = Nothing
 source_of (source.Opened file) = AFile
 source_of (source.StandardInput input) = StandardInput
+
+-- what is left where bytes come from, by what a file and standard input have left, where that is known
+abbrev pub left_in : {F I : Type 0} → (F → Option (List ℕ)) → (I → Option (List ℕ)) → Source F I → Option (List ℕ)
+left_in file_left input_left source.Nothing = None
+left_in file_left input_left (source.Opened file) = file_left file
+left_in file_left input_left (source.StandardInput input) = input_left input
 
 -- what a name stands for: `-` is standard input
 abbrev pub source_named : List ℕ → Begun

@@ -1,8 +1,10 @@
 //! The machine's files, and standard input under the name `-`. Nothing is told of their bytes.
 ghost use Rattle.std.specs.Prelude.{◌≡◌, ◌≤◌, ◌<◌, length, is_ok, is_err, IfOk, OnOk, IsTrue};
+ghost use Rattle.std.specs.Io.{ReadsAtMost};
+ghost use Rattle.std.specs.Io.KnownBytes.{ReadConsumes};
 ghost use Rattle.taxi_io.specs.Calls.{faults_after};
 ghost use Rattle.taxi_io.specs.Troubles.{answer_for};
-ghost use Rattle.taxi_io.specs.ShelfOfMachine.{Nothing, is_begun, source_named};
+ghost use Rattle.taxi_io.specs.ShelfOfMachine.{Nothing, is_begun, source_of, left_in, source_named};
 
 use crate::shelf::Shelf;
 use crate::trouble::Trouble;
@@ -22,6 +24,20 @@ enum Source<F, I> {
     StandardInput(I),
 }
 
+// One read of what is begun. An error is handed on, an interruption like any other.
+fn read_once<F: Read, I: Read>(source: &mut Source<F, I>, buffer: &mut [u8]) -> io::Result<usize>
+    requires { IsTrue (is_begun (source_of source.old)) }
+    ensures bound { ReadsAtMost result buffer.new }
+    ensures left { ReadConsumes (left_in F.remaining I.remaining source.old) (left_in F.remaining I.remaining source.new) result buffer.new }
+    ensures source { source_of source.new ≡ source_of source.old }
+{
+    match source {
+        Source::Nothing => unreachable!(),
+        Source::Opened(file) => file.read(buffer),
+        Source::StandardInput(input) => input.read(buffer),
+    }
+}
+
 /// Files of the machine by their paths; the name `-` is standard input.
 /// Each call that fails counts as a fault, one for want of memory among them.
 #[derive(Drop)]
@@ -36,15 +52,19 @@ impl<'a, R: Files + Input> Model for FileShelf<'a, R> {
 
     ghost Value = { ShelfOfMachine };
 
-    ghost use Rattle.taxi_io.specs.ShelfOfMachine.{source_of};
+    ghost use Rattle.taxi_io.specs.ShelfOfMachine.{source_of, left_in};
 
-    ghost view = { λ s. record { begun = source_of s.source; faults = s.faults } };
+    ghost view = { λ s. record {
+      begun = source_of s.source;
+      left = left_in R.File.remaining R.Reader.remaining s.source;
+      faults = s.faults;
+    } };
 }
 
 impl<'a, R: Files + Input> FileShelf<'a, R> {
     /// A shelf with nothing begun.
     pub fn new(rt: &'a R) -> FileShelf<'a, R>
-        ensures { result ≡ record { begun = Nothing; faults = 0 } }
+        ensures { result ≡ record { begun = Nothing; left = None; faults = 0 } }
     {
         FileShelf {
             rt,
@@ -57,6 +77,7 @@ impl<'a, R: Files + Input> FileShelf<'a, R> {
     fn counted<T: Drop>(&mut self, outcome: io::Result<T>) -> Result<T, Trouble>
         ensures answer { result ≡ answer_for outcome }
         ensures begun { self.new.begun ≡ self.old.begun }
+        ensures left { self.new.left ≡ self.old.left }
         ensures faults { self.new.faults ≡ faults_after (is_err outcome) self.old.faults }
         ensures later { self.old.faults ≤ self.new.faults }
     {
@@ -107,14 +128,12 @@ impl<'a, R: Files + Input> Shelf for FileShelf<'a, R> {
         ensures bound { IfOk result (λ n. n ≤ length buffer.new) }
         ensures begun { IsTrue (is_begun self.new.begun) }
         ensures source { self.new.begun ≡ self.old.begun }
+        // What is known to be left loses what is given, nothing at an error, and 0 says that nothing is left.
+        ensures left { ReadConsumes self.old.left self.new.left result buffer.new }
         ensures faults { self.new.faults ≡ faults_after (is_err result) self.old.faults }
         ensures later { self.old.faults ≤ self.new.faults }
     {
-        let outcome = match &mut self.source {
-            Source::Nothing => unreachable!(),
-            Source::Opened(file) => file.read(buffer),
-            Source::StandardInput(input) => input.read(buffer),
-        };
+        let outcome = read_once(&mut self.source, buffer);
         self.counted(outcome)
     }
 }

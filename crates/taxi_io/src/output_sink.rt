@@ -1,5 +1,6 @@
-//! Standard output, which tells nothing of the bytes that it took.
-ghost use Rattle.std.specs.Prelude.{◌≡◌, ◌≤◌, ◌<◌, length, is_err, IfOk};
+//! A writer of the machine as a sink, as standard output is one. It tells nothing of the bytes that it took.
+ghost use Rattle.std.specs.Prelude.{◌≡◌, ◌≤◌, ◌<◌, length, take, is_err, IfOk};
+ghost use Rattle.std.specs.Io.KnownBytes.{Appends};
 ghost use Rattle.taxi_io.specs.Calls.{faults_after};
 ghost use Rattle.taxi_io.specs.Troubles.{settled};
 
@@ -9,28 +10,28 @@ use std::io;
 use std::io::Write;
 use std::marker::Model;
 
-/// Standard output, flushed after each write. Each write that fails counts as a fault: one for
-/// want of memory, one that took nothing, and one whose flush failed among them.
+/// A writer, flushed after each write: standard output, as `io::writer(&rt)` gives it. Each write that fails counts as a
+/// fault: one for want of memory, one that took nothing, and one whose flush failed among them.
 #[derive(Drop)]
-pub struct OutputSink<'a, R: Print> {
-    rt: &'a R,
+pub struct OutputSink<W: Write + Drop> {
+    out: W,
     faults: u64,
 }
 
-impl<'a, R: Print> Model for OutputSink<'a, R> {
-    ghost use Rattle.std.specs.Prelude.{ℕ};
+impl<W: Write + Drop> Model for OutputSink<W> {
+    ghost use Rattle.taxi_io.specs.SinkOfMachine.{SinkOfMachine};
 
-    ghost Value = { ℕ };
+    ghost Value = { SinkOfMachine };
 
-    ghost view = { λ s. s.faults };
+    ghost view = { λ s. record { held = W.contents s.out; faults = s.faults } };
 }
 
-impl<'a, R: Print> OutputSink<'a, R> {
-    /// Standard output, with no fault counted.
-    pub fn new(rt: &'a R) -> OutputSink<'a, R>
-        ensures { result ≡ 0 }
+impl<W: Write + Drop> OutputSink<W> {
+    /// This writer, with no fault counted.
+    pub fn new(out: W) -> OutputSink<W>
+        ensures { result ≡ record { held = W.contents out; faults = 0 } }
     {
-        OutputSink { rt, faults: 0 }
+        OutputSink { out, faults: 0 }
     }
 }
 
@@ -49,31 +50,24 @@ fn settled(written: io::Result<usize>, flushed: io::Result<()>) -> Result<usize,
     }
 }
 
-// Writes some bytes and flushes them.
-fn write_and_flush(rt: &impl Print, piece: &[u8]) -> Result<usize, Trouble>
-    ensures some { IfOk result (λ n. 0 < n) }
-    ensures bound { IfOk result (λ n. n ≤ length piece.now) }
-{
-    let mut out = io::writer(rt);
-    let written = out.write(piece);
-    let flushed = out.flush();
-    settled(written, flushed)
-}
-
-impl<'a, R: Print> Sink for OutputSink<'a, R> {
+impl<W: Write + Drop> Sink for OutputSink<W> {
     ghost use Rattle.std.specs.Prelude.{None};
 
     ghost written = { λ s. None };
 
-    ghost faults = { λ s. s };
+    ghost faults = { λ s. s.faults };
 
     fn write(&mut self, piece: &[u8]) -> Result<usize, Trouble>
         ensures some { IfOk result (λ n. 0 < n) }
         ensures bound { IfOk result (λ n. n ≤ length piece.now) }
-        ensures faults { self.new ≡ faults_after (is_err result) self.old }
-        ensures later { self.old ≤ self.new }
+        // What the writer is known to hold grows by what counts as written.
+        ensures held { IfOk result (λ n. Appends self.old.held self.new.held (take n piece.now)) }
+        ensures faults { self.new.faults ≡ faults_after (is_err result) self.old.faults }
+        ensures later { self.old.faults ≤ self.new.faults }
     {
-        let outcome = write_and_flush(self.rt, piece);
+        let written = self.out.write(piece);
+        let flushed = self.out.flush();
+        let outcome = settled(written, flushed);
         if outcome.is_err() {
             self.faults = self.faults.saturating_add(1);
         }

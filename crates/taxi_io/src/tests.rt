@@ -3,6 +3,8 @@ ghost use Rattle.std.specs.Prelude.{◌≤◌};
 
 use super::*;
 use std::alloc::{AllocError, Global};
+use std::io;
+use std::io::Write;
 use std::process::Abort;
 use std::test::Fail;
 
@@ -125,5 +127,50 @@ fn a_steady_pair(rt: HostRuntime) -> Result<(), Fail> {
     let mut sink = SteadySink::new(alloc, 3);
     write_all(&mut sink, read_all(alloc, &mut shelf, NODES, 5)?.as_slice())?;
     assert_eq!(rt; sink.written(), BYTES);
+    Ok(())
+}
+
+#[test]
+fn files_that_the_machine_refuses(rt: HostRuntime) -> Result<(), Fail> {
+    let mut shelf = FileShelf::new(&rt);
+    assert!(rt; shelf.begin("no such file") == Err(Trouble::Failed));
+    // A directory can be begun, and not be read.
+    shelf.begin("/")?;
+    assert!(rt; shelf.read(&mut [0u8; 4]) == Err(Trouble::Failed));
+    Ok(())
+}
+
+// A writer that takes so many bytes at most. Where it is full its flushes fail.
+#[derive(Drop)]
+struct Tape {
+    most: usize,
+    full: bool,
+}
+
+impl Write for Tape {
+    fn write(&mut self, bytes: &[u8]) -> io::Result<usize> {
+        Ok(self.most.min(bytes.len()))
+    }
+
+    fn flush(&mut self) -> io::Result<()> {
+        if self.full {
+            Err(io::Error::from(io::ErrorKind::StorageFull))
+        } else {
+            Ok(())
+        }
+    }
+}
+
+#[test]
+fn writes_that_are_short_or_not_flushed(rt: HostRuntime) -> Result<(), Fail> {
+    for (most, full, answer) in [
+        (9usize, false, Ok(5usize)),
+        (2, false, Ok(2)),
+        (0, false, Err(Trouble::Failed)),
+        (9, true, Err(Trouble::Failed)),
+    ] {
+        let mut sink = OutputSink::new(Tape { most, full });
+        assert!(rt; sink.write(BYTES) == answer, "of {most} bytes at most");
+    }
     Ok(())
 }

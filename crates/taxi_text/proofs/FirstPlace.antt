@@ -1,8 +1,7 @@
 -- Where the first line of a text ends, once more stands behind it; and the lines of a text that comes in pieces.
-use Rattle.std.proofs.Common.{◌≡◌, ◌==◌, ◌+◌, ◌-◌, ◌<◌, ◌≤◌, ◌∷◌, ◌++◌, ◌∙◌, [], ℕ, List, Bool, true, false, cond, refl, sym, ap, take, drop, length, Option, Some, None, option_map, append_assoc, arith}
+use Rattle.std.proofs.Common.{◌≡◌, ◌==◌, ◌+◌, ◌-◌, ◌<◌, ◌≤◌, ◌∷◌, ◌++◌, ◌∙◌, [], ℕ, List, Bool, true, false, cond, refl, sym, ap, take, drop, length, Option, Some, None, option_map, arith}
 use Rattle.std.proofs.lemmas.List.{drop-append-le, take-append-le, length-drop}
 use Rattle.std.proofs.lemmas.List.Splits.{length-slice_split}
-use Rattle.std.specs.List.{position}
 use Rattle.std.specs.Str.Lines.{strip_carriage_return}
 use Rattle.taxi_text.specs.Parts.{parts_of}
 use Rattle.taxi_text.specs.Lines.{lines_of, lines_of_parts}

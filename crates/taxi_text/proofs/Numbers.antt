@@ -1,9 +1,9 @@
 -- Numbers of at most seven digits.
-use Rattle.std.proofs.Common.{Some, nat_lt, nat_le, decimal, ◌≡◌, ◌+◌, ◌*◌, ◌-◌, ◌<◌, ◌≤◌, ◌^◌, ℕ, List, IsTrue, true, ap, take, length, get_or, arith, rules}
+use Rattle.std.proofs.Common.{Some, nat_lt, nat_le, decimal, ◌≡◌, ◌⊎◌, inl, inr, ◌+◌, ◌*◌, ◌-◌, ◌<◌, ◌≤◌, ◌^◌, ℕ, List, IsTrue, true, false, ap, subst, take, length, get_or, arith, rules}
 use Rattle.std.proofs.lemmas.Str.Parse.{IsNumeralModel, IsDigitsTest, numerals_by_value, digits_value_short, digits_value-take-le, digit_at}
 use Rattle.std.proofs.lemmas.Int.Digits.{digits_value_more}
 use Rattle.std.proofs.lemmas.Str.{digit_value_digit}
-use Rattle.std.proofs.lemmas.Bool.{and_from}
+use Rattle.std.proofs.lemmas.Bool.{and_from, cases_Bool}
 use Rattle.std.proofs.lemmas.Bool.Decides.{nat_tests}
 use Rattle.std.proofs.lemmas.Fmt.{decimal_nonempty, length-decimal-le, digits_decimal, digits_value-decimal}
 use Rattle.std.specs.List.{list_all}
@@ -28,6 +28,18 @@ next_digit digits i number all few within so_far =
 
 pub is_number-parts : (word : List ℕ) → IsTrue (is_number word) → (length word ≤ 7) × (list_all is_ascii_digit word ≡ true)
 is_number-parts word h = search rules
+
+-- What a word is read as has at most seven digits.
+pub number_of-short : (word : List ℕ) (n : ℕ) → number_of word ≡ Some n → n < 10 ^ 7
+number_of-short word n e = go (cases_Bool (is_number word))
+  where
+    go : (is_number word ≡ true) ⊎ (is_number word ≡ false) → n < 10 ^ 7
+    go (inl it_is) =
+        let same : digits_value 10 word ≡ n = cc (rw it_is at e) in
+        let parts = is_number-parts word it_is in
+        let short = digits_value_short numerals word 7 parts.1 parts.0 in
+        subst (λ m. m < 10 ^ 7) same short
+    go (inr fails) = absurd (cc (rw fails at e))
 
 below : (a b : ℕ) → a < b → nat_lt a b ≡ true
 below a b h = grind (arith, nat_tests)

@@ -2,8 +2,9 @@
 use Rattle.std.specs.Prelude.{ℕ, Bool, ◌&&◌, ◌==◌, nat_lt, nat_le, drop, List, [], ◌∷◌, length, Option, Some, None, codes, bytes_eq, if◌then◌else◌, ⊤}
 use Rattle.taxi_text.specs.declared.command.FiledStep.{FiledStep}
 use Rattle.taxi_text.specs.declared.reader.Asked.{Asked}
+use Rattle.taxi_text.specs.declared.choice.AskedAny.{AskedAny}
 use Rattle.taxi_text.specs.declared.command.Command.{Command}
-use Rattle.taxi_text.specs.declared.command.Command.TheVariants.{File, Arrival, Departure, Cancel, Reroute, Divert, Windows, Occupancy, Timetable, Work, WorkDone}
+use Rattle.taxi_text.specs.declared.command.Command.TheVariants.{File, Arrival, Departure, Cancel, Reroute, Divert, Windows, Occupancy, Timetable, Work, WorkDone, ArrivalAny, DepartureAny}
 use Rattle.taxi_text.specs.Words.{words_of}
 use Rattle.taxi_text.specs.Fields.{name_of, number_of, arc_word_of}
 
@@ -86,12 +87,19 @@ steps_of [] = Some []
 steps_of (arc ∷ []) = None
 steps_of (arc ∷ out ∷ pairs) = step_of arc out >>= (λ step. steps_of pairs >>= (λ steps. Some (step ∷ steps)))
 
+-- from 1 to so many of a list
+abbrev pub is_count_to : ℕ → ℕ → Bool
+is_count_to most count = nat_lt 0 count && nat_le count most
+
+abbrev pub up_to : {X : Type 0} → ℕ → List X → Option (List X)
+up_to most items = if is_count_to most (length items) then Some items else None
+
 -- a route has 1 to 256 steps
 abbrev pub is_step_count : ℕ → Bool
-is_step_count count = nat_lt 0 count && nat_le count 256
+is_step_count = is_count_to 256
 
 abbrev pub route_of : List FiledStep → Option (List FiledStep)
-route_of steps = if is_step_count (length steps) then Some steps else None
+route_of = up_to 256
 
 -- the route of 1 to 256 pairs
 abbrev pub filed_steps_of : List (List ℕ) → Option (List FiledStep)
@@ -102,11 +110,34 @@ abbrev pub file_of : List (List ℕ) → Option Command
 file_of = a_name (λ flight. a_name (λ class. a_number (λ start words.
     filed_steps_of words >>= (λ steps. Some (File flight class start steps)))))
 
+-- the names of words
+abbrev pub names_of : List (List ℕ) → Option (List (List ℕ))
+names_of [] = Some []
+names_of (word ∷ words) = name_of word >>= (λ name. names_of words >>= (λ names. Some (name ∷ names)))
+
+-- a choice is of 1 to 16 nodes, as they are written
+abbrev pub is_choice_count : ℕ → Bool
+is_choice_count = is_count_to 16
+
+abbrev pub choice_of : List (List ℕ) → Option (List (List ℕ))
+choice_of words = names_of words >>= up_to 16
+
+-- FLIGHT CLASS FROM TIME, HOLD or QUEUE, and the nodes
+abbrev pub asked_any_of : List (List ℕ) → Option AskedAny
+asked_any_of = a_name (λ flight. a_name (λ class. a_name (λ from. a_number (λ time. a_number (λ slack words.
+    choice_of words >>= (λ nodes. Some (record { flight = flight; class = class; from = from; time = time; slack = slack; nodes = nodes })))))))
+
+abbrev pub arrival_any_of : List (List ℕ) → Option Command
+arrival_any_of words = asked_any_of words >>= (λ a. Some (ArrivalAny a.flight a.class a.from a.time a.slack a.nodes))
+
+abbrev pub departure_any_of : List (List ℕ) → Option Command
+departure_any_of words = asked_any_of words >>= (λ a. Some (DepartureAny a.flight a.class a.from a.time a.slack a.nodes))
+
 -- ---- the line
 
--- the forms but `file`, by their first word
-abbrev pub unfiled_of : List ℕ → List (List ℕ) → Option Command
-unfiled_of verb words =
+-- the forms that end in no list, by their first word
+abbrev pub unlisted_of : List ℕ → List (List ℕ) → Option Command
+unlisted_of verb words =
     if bytes_eq verb (codes "arrival") then arrival_of words
     else (if bytes_eq verb (codes "departure") then departure_of words
     else (if bytes_eq verb (codes "cancel") then cancel_of words
@@ -122,13 +153,19 @@ unfiled_of verb words =
 -- the form that the first word says, of the words after it
 abbrev pub command_of_words : List (List ℕ) → Option Command
 command_of_words [] = None
-command_of_words (verb ∷ words) = if bytes_eq verb (codes "file") then file_of words else unfiled_of verb words
+command_of_words (verb ∷ words) =
+    if bytes_eq verb (codes "file") then file_of words
+    else (if bytes_eq verb (codes "arrival-any") then arrival_any_of words
+    else (if bytes_eq verb (codes "departure-any") then departure_any_of words
+    else unlisted_of verb words))
 
 -- the command that a line is; none where the line is not in the grammar
 unfoldable pub command_of : List ℕ → Option Command
 command_of line = command_of_words (words_of line)
 
--- a command of the form `file`
-abbrev pub IsFile : Command → Type 0
-IsFile (File flight class start steps) = ⊤
-IsFile _ = ⊥
+-- a command of a form that ends in a list
+abbrev pub EndsInList : Command → Type 0
+EndsInList (File flight class start steps) = ⊤
+EndsInList (ArrivalAny flight class from time hold stands) = ⊤
+EndsInList (DepartureAny flight class from time queue nodes) = ⊤
+EndsInList _ = ⊥

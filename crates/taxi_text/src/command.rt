@@ -66,6 +66,24 @@ pub enum Command {
     WorkDone {
         name: Name,
     },
+    /// An arrival that may be led to any of 1 to 16 stands.
+    ArrivalAny {
+        flight: Name,
+        class: Name,
+        from: Name,
+        time: Time,
+        hold: Time,
+        stands: List<Name>,
+    },
+    /// A departure that may be led to any of 1 to 16 nodes.
+    DepartureAny {
+        flight: Name,
+        class: Name,
+        from: Name,
+        time: Time,
+        queue: Time,
+        nodes: List<Name>,
+    },
 }
 
 /// Why no command was read.

@@ -1,59 +1,17 @@
 //! The steps of a `file` command.
-ghost use Rattle.std.specs.Prelude.{◌≡◌, ◌<◌, ◌++◌, ◌∷◌, [], List as Items, drop};
-ghost use Rattle.taxi_text.specs.Commands.{first_as, step_of, filed_steps_of, route_of};
-ghost use Rattle.taxi_text.specs.Fields.{number_of};
-ghost use Rattle.taxi_text.specs.Reading.{IsReading, StandsFor};
+ghost use Rattle.std.specs.Prelude.{◌≡◌, drop};
+ghost use Rattle.taxi_text.specs.Commands.{first_as, step_of, filed_steps_of};
+ghost use Rattle.taxi_text.specs.Reading.{IsReading};
 ghost use Rattle.taxi_text.specs.Words.{words_left};
 
 use crate::command::{CommandRefused, FiledStep};
 use crate::fields::{read_arc_word, read_number};
+use crate::gathered::Gathered;
 use crate::word::WordSlices;
 use std::alloc::Global;
 use taxi_base::List;
 
 const MOST_STEPS: usize = 256;
-
-// The steps so far. Where memory ran out for one, the rest are only counted, since the line may yet be a bad one.
-#[derive(Drop)]
-struct Gathered {
-    steps: List<FiledStep>,
-    count: usize,
-    lost: bool,
-}
-
-impl Gathered {
-    fn new(alloc: Global) -> Gathered
-        ensures { StandsFor [] result }
-    {
-        Gathered {
-            steps: List::new(alloc),
-            count: 0,
-            lost: false,
-        }
-    }
-
-    fn add(&mut self, step: FiledStep)
-        requires { self.old.count < MOST_STEPS }
-        ensures { (steps : Items FiledStep) → StandsFor steps self.old → StandsFor (steps ++ step ∷ []) self.new }
-    {
-        self.count += 1;
-        if !self.lost && self.steps.push(step).is_err() {
-            self.lost = true;
-        }
-    }
-
-    fn finish(self) -> Result<List<FiledStep>, CommandRefused>
-        ensures { (steps : Items FiledStep) → StandsFor steps self → IsReading (route_of steps) result }
-    {
-        if self.count == 0 {
-            Err(CommandRefused::BadLine)
-        } else if self.lost {
-            Err(CommandRefused::Memory)
-        } else {
-            Ok(self.steps)
-        }
-    }
-}
 
 // The steps of the words that are left.
 pub(crate) fn read_steps(

@@ -1,9 +1,11 @@
 //! The texts that the router reads and writes: lines, words, numbers and commands.
 #![tactic(auto)]
 
+mod choice;
 mod command;
 mod fields;
 mod filed;
+mod gathered;
 mod laws;
 mod line;
 mod line_reader;

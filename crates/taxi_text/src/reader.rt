@@ -1,10 +1,11 @@
 //! From a line to its command.
 ghost use Rattle.std.specs.Prelude.{◌≡◌, ◌↔◌, ◌==◌, Some, None, IfOk, IsSomeAnd, length, drop};
-ghost use Rattle.taxi_text.specs.Commands.{command_of, IsFile, file_of, unfiled_of, asked_of, arrival_of, departure_of, cancel_of, reroute_of, divert_of, windows_of, occupancy_of, timetable_of, work_of, work_done_of, first_as, the_end};
+ghost use Rattle.taxi_text.specs.Commands.{command_of, EndsInList, file_of, unlisted_of, asked_of, arrival_of, departure_of, cancel_of, reroute_of, divert_of, windows_of, occupancy_of, timetable_of, work_of, work_done_of, first_as, the_end};
 ghost use Rattle.taxi_text.specs.Fields.{name_of, number_of};
 ghost use Rattle.taxi_text.specs.Reading.{IsReading};
 ghost use Rattle.taxi_text.specs.Words.{words_left};
 
+use crate::choice::{read_arrival_any, read_departure_any};
 use crate::command::{Command, CommandRefused};
 use crate::fields::read_number;
 use crate::filed::read_steps;
@@ -12,12 +13,13 @@ use crate::word::{WordSlices, words};
 use std::alloc::Global;
 use taxi_base::{Name, Time};
 
-/// The one command of a line. A line that is not in the grammar is a `BadLine`; only a `file` command takes memory.
+/// The one command of a line. A line that is not in the grammar is a `BadLine`; only a
+/// command that ends in a list takes memory.
 #[tactic(auto, unfolding(crate::specs::Commands::command_of))]
 pub fn read_command(alloc: Global, line: &[u8]) -> Result<Command, CommandRefused>
     ensures ok { IfOk result (λ command. command_of line.now ≡ Some command) }
     ensures bad_line { (result ≡ Err CommandRefused.BadLine) ↔ (command_of line.now ≡ None) }
-    ensures memory { result ≡ Err CommandRefused.Memory → IsSomeAnd (command_of line.now) IsFile }
+    ensures memory { result ≡ Err CommandRefused.Memory → IsSomeAnd (command_of line.now) EndsInList }
 {
     let mut words = words(line);
     let Some(verb) = words.next() else {
@@ -26,7 +28,13 @@ pub fn read_command(alloc: Global, line: &[u8]) -> Result<Command, CommandRefuse
     if verb == b"file".as_slice() {
         return read_file(alloc, &mut words);
     }
-    match read_unfiled(verb, &mut words) {
+    if verb == b"arrival-any".as_slice() {
+        return read_arrival_any(alloc, &mut words);
+    }
+    if verb == b"departure-any".as_slice() {
+        return read_departure_any(alloc, &mut words);
+    }
+    match read_unlisted(verb, &mut words) {
         Some(command) => Ok(command),
         None => Err(CommandRefused::BadLine),
     }
@@ -53,8 +61,8 @@ fn read_file(alloc: Global, words: &mut WordSlices<'_>) -> Result<Command, Comma
     })
 }
 
-fn read_unfiled(verb: &[u8], words: &mut WordSlices<'_>) -> Option<Command>
-    ensures { result ≡ unfiled_of verb.now (words_left words.old) }
+fn read_unlisted(verb: &[u8], words: &mut WordSlices<'_>) -> Option<Command>
+    ensures { result ≡ unlisted_of verb.now (words_left words.old) }
 {
     if verb == b"arrival".as_slice() {
         read_arrival(words)
@@ -201,7 +209,7 @@ fn read_work_done(words: &mut WordSlices<'_>) -> Option<Command>
     at_end(words, Command::WorkDone { name })
 }
 
-fn next_name(words: &mut WordSlices<'_>) -> Option<Name>
+pub(crate) fn next_name(words: &mut WordSlices<'_>) -> Option<Name>
     ensures value { result ≡ first_as name_of (words_left words.old) }
     ensures rest { words_left words.new ≡ drop 1 (words_left words.old) }
 {
@@ -209,7 +217,7 @@ fn next_name(words: &mut WordSlices<'_>) -> Option<Name>
     Name::read(word)
 }
 
-fn next_number(words: &mut WordSlices<'_>) -> Option<Time>
+pub(crate) fn next_number(words: &mut WordSlices<'_>) -> Option<Time>
     ensures value { result ≡ first_as number_of (words_left words.old) }
     ensures rest { words_left words.new ≡ drop 1 (words_left words.old) }
 {

@@ -128,6 +128,42 @@ fn each_form_of_command(rt: HostRuntime) -> Result<(), Fail> {
 }
 
 #[test]
+fn choices_of_nodes(rt: HostRuntime) -> Result<(), Fail> {
+    let alloc = rt.alloc();
+    match read_command(alloc, b"arrival-any F1 M R 100 30 S2 S1 S2")? {
+        Command::ArrivalAny {
+            time: 100,
+            hold: 30,
+            stands,
+            ..
+        } => {
+            assert_eq!(rt; stands.as_slice().len(), 3);
+            assert_eq!(rt; stands.as_slice()[1].bytes(), b"S1".as_slice());
+        }
+        _ => return Err(Fail::from("a choice of stands")),
+    }
+    assert!(rt;
+        matches!(
+            read_command(alloc, b"departure-any G1 M S2 200 60 R")?,
+            Command::DepartureAny {
+                time: 200,
+                queue: 60,
+                ..
+            }
+        )
+    );
+    let mut line = Vec::from_slice(alloc, b"departure-any G1 M S2 200 60")?;
+    assert!(rt; matches!(read_command(alloc, &line), Err(CommandRefused::BadLine)));
+    for _ in 0..16 {
+        push_bytes(&mut line, b" R")?;
+    }
+    assert!(rt; matches!(read_command(alloc, &line), Ok(Command::DepartureAny { .. })));
+    push_bytes(&mut line, b" R")?;
+    assert!(rt; matches!(read_command(alloc, &line), Err(CommandRefused::BadLine)));
+    Ok(())
+}
+
+#[test]
 fn bad_lines(rt: HostRuntime) -> Result<(), Fail> {
     let alloc = rt.alloc();
     let refused: [&[u8]; 14] = [

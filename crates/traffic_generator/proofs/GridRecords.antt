@@ -7,8 +7,8 @@ use Rattle.std.proofs.lemmas.List.Elements.{All-nil, All-cons, All-append, All-m
 use Rattle.std.proofs.lemmas.Grind.{flat_map-append}
 use Rattle.std.proofs.lemmas.Option.{slice_get_cases}
 use Rattle.std.proofs.lemmas.Nat.{mul-add-lt}
-use Rattle.taxi_base.specs.Airport.{NodeRow, SegmentRow, seconds, seconds_in}
-use Rattle.airport_file.specs.Words.{node_word, segment_word}
+use Rattle.taxi_base.specs.Airport.{NodeRow, SegmentRow, seconds, seconds_in, node_word}
+use Rattle.airport_file.specs.Words.{segment_word}
 use Rattle.airport_text.specs.Canonical as canonical
 use Rattle.airport_text.specs.Canonical.{Fields, numbers_below, canonical_records, times_on}
 use Rattle.traffic_generator.specs.declared.places.Place.{Place}

@@ -4,6 +4,8 @@
 mod checking;
 mod failure;
 mod laws;
+#[cfg(test)]
+mod tests;
 
 pub use checking::{Verdict, check_transcript};
 pub use failure::Failure;

@@ -12,7 +12,8 @@ use Rattle.label_core.specs.BackwardWalks.{Finish, IsWalkTo, BeginsAt, Leads, Is
 use Rattle.label_core.specs.Best.{IsBestEnd, HasNoWalk}
 use Rattle.label_core.specs.BackwardBest.{IsBestBegin, HasNoWalkFrom}
 use Rattle.walk_labels.specs.Places.{AreFit, Place, IsPlace, AreCells, label_at, place_of}
-use Rattle.walk_labels.specs.Requests.{step_at, steps_at, ReachesOneOf, AreStarts, AreFinishes, AreTargets, AreSources}
+use Rattle.taxi_base.specs.Choices.{ReachesOneOf}
+use Rattle.walk_labels.specs.Requests.{step_at, steps_at, AreStarts, AreFinishes, AreTargets, AreSources}
 use Rattle.walk_labels.proofs.CellWalks.{step_made, place-same, route_made, reach_of, route_led, lead_of}
 
 module _ {C : Type 0} (c : Conditions) (fit : AreFit c) (net : Network C) (place : C → Place) (cells : AreCells c net place) where

@@ -13,7 +13,8 @@ use Rattle.label_core.specs.Walks.{Start}
 use Rattle.label_core.specs.Tables.{IsBelow}
 use Rattle.walk_labels.specs.Places.{AreFit, Place, IsPlace, is_place, network_of, place_of}
 use Rattle.walk_labels.specs.Requests.Beginning.{resuming}
-use Rattle.walk_labels.specs.Requests.{Beginning, BeginsBy, CanBegin, BeginsInTime, ReachesOneOf, AreStarts, starts_by}
+use Rattle.taxi_base.specs.Choices.{ReachesOneOf}
+use Rattle.walk_labels.specs.Requests.{Beginning, BeginsBy, CanBegin, BeginsInTime, AreStarts, starts_by}
 use Rattle.walk_labels.specs.Rules.{IsStartResuming, IsStartBy, IsNext, HasAsEarly, PassesForward, PassesArrival}
 use Rattle.walk_labels.proofs.PlaceCells.{is_place-true}
 use Rattle.walk_labels.proofs.RequestCells.{starts_by-are}

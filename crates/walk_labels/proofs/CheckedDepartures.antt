@@ -12,7 +12,8 @@ use Rattle.taxi_base.specs.Labels.{IsStepOf, precedes, IsTable, IsEntryAfter, An
 use Rattle.label_core.specs.BackwardWalks.{Finish}
 use Rattle.label_core.specs.BackwardTables.{IsAbove}
 use Rattle.walk_labels.specs.Places.{AreFit, Place, IsPlace, is_place, network_of, place_of}
-use Rattle.walk_labels.specs.Requests.{ReachesOneOfWithin, AreFinishes, finishes_at}
+use Rattle.taxi_base.specs.Choices.{ReachesOneOfWithin}
+use Rattle.walk_labels.specs.Requests.{AreFinishes, finishes_at}
 use Rattle.walk_labels.specs.BackwardRules.{IsFinishAt, IsPrevious, HasAsLate, PassesBackward, PassesDeparture, PassesDepartureAfter}
 use Rattle.walk_labels.proofs.PlaceCells.{is_place-true}
 use Rattle.walk_labels.proofs.RequestCells.{finishes_at-are}

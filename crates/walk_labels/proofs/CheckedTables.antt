@@ -22,7 +22,8 @@ use Rattle.label_core.specs.Tables.{IsBelow, IsClosed, IsAttained, HasAsGood}
 use Rattle.label_core.proofs.ExactTables.{exact_closed, row_earliest, earliest_row}
 use Rattle.label_core.proofs.NoneSooner.{none_sooner, none_at_all}
 use Rattle.walk_labels.specs.Places.{AreFit, Place, IsPlace, network_of, label_at, place_of}
-use Rattle.walk_labels.specs.Requests.{OneOf, ReachesOneOf, AreStarts, targets_at}
+use Rattle.taxi_base.specs.Choices.{OneOf, ReachesOneOf}
+use Rattle.walk_labels.specs.Requests.{AreStarts, targets_at}
 use Rattle.walk_labels.specs.Rules.{IsNext, HasAsEarly, PassesForward, PassesArrival}
 use Rattle.walk_labels.proofs.CellLabels.{exit_label, exit_of_cell, exit_place, target_by_route, cell_by_route}
 use Rattle.walk_labels.proofs.PlaceCells.{seconds_at-takes, network-cells, precedes-not_same}

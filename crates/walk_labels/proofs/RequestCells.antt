@@ -9,9 +9,10 @@ use Rattle.taxi_base.specs.Walks.{Conditions, LeavesNodeWithin, ReachesNodeWithi
 use Rattle.label_core.specs.Walks.{Network, Start}
 use Rattle.label_core.specs.BackwardWalks.{Finish}
 use Rattle.walk_labels.specs.Places.{Place, IsPlace}
-use Rattle.walk_labels.proofs.OneOfLaws.{any-OneOf, OneOf-weaker, OneOf-gives}
+use Rattle.taxi_base.proofs.OneOfLaws.{any-OneOf, OneOf-weaker, OneOf-gives}
 use Rattle.walk_labels.specs.Requests.Beginning.{at_node, resuming}
-use Rattle.walk_labels.specs.Requests.{step_at, Beginning, BeginsBy, OneOf, ReachesOneOfWithin, leads_to_one_of, starts_by, AreStarts, AreFinishes, AreTargets, AreSources, starts_at_node, starts_resuming, finishes_at, targets_at, sources_at_node}
+use Rattle.taxi_base.specs.Choices.{OneOf, ReachesOneOfWithin}
+use Rattle.walk_labels.specs.Requests.{step_at, Beginning, BeginsBy, leads_to_one_of, starts_by, AreStarts, AreFinishes, AreTargets, AreSources, starts_at_node, starts_resuming, finishes_at, targets_at, sources_at_node}
 
 pub meet-same : (o : Option Node) (node : Node) → IsTrue (meet o (Some node)) ↔ (o ≡ Some node)
 meet-same None node = (λ h. absurd (cc h), λ e. absurd cc)

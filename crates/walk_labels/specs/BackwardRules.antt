@@ -9,7 +9,7 @@ use Rattle.taxi_base.specs.Walks.{Conditions, last_of, begin_of}
 use Rattle.taxi_base.specs.Labels.{window_of, seconds_of, precedes}
 use Rattle.label_core.specs.BackwardTables.{IsAbove}
 use Rattle.walk_labels.specs.Places.{IsPlace, place_of}
-use Rattle.walk_labels.specs.Requests.{OneOf}
+use Rattle.taxi_base.specs.Choices.{OneOf}
 
 -- a walk that ends at one of the nodes within a time enters the label's place at its value at the latest
 pub record IsFinishAt (c : Conditions) (nodes : List Node) (earliest latest : ℕ) (label : LabelRow) : Type 0 where

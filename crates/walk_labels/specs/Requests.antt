@@ -1,11 +1,12 @@
 -- Which starts, finishes and targets of cells say how a walk over the airport begins, ends and whereto it leads?
-use Rattle.std.specs.Prelude.{ℕ, ◌≡◌, ◌↔◌, ◌≤◌, ◌⊎◌, ⊤, Bool, ◌&&◌, ◌==◌, IsTrue, List, [], ◌∷◌, map, Option, Some, None, if◌then◌else◌}
+use Rattle.std.specs.Prelude.{ℕ, ◌≡◌, ◌↔◌, ◌≤◌, ⊤, Bool, ◌&&◌, ◌==◌, IsTrue, List, [], ◌∷◌, map, Option, Some, None, if◌then◌else◌}
 use Rattle.std.specs.List.{list_any}
 use Rattle.taxi_base.specs.declared.numbers.Node.{Node}
 use Rattle.taxi_base.specs.declared.numbers.Arc.{Arc}
 use Rattle.taxi_base.specs.declared.rows.Step.{Step}
 use Rattle.taxi_base.specs.Airport.{Layout, layout_of, tail, head, meet}
-use Rattle.taxi_base.specs.Walks.{Conditions, IsFeasibleStep, LeavesNodeWithin, Resumes, ReachesNode, ReachesNodeWithin}
+use Rattle.taxi_base.specs.Walks.{Conditions, IsFeasibleStep, LeavesNodeWithin, Resumes}
+use Rattle.taxi_base.specs.Choices.{OneOf}
 use Rattle.label_core.specs.Walks.{Network, Start, Step as CellStep, IsStep, Begins as BeginsInCell}
 use Rattle.label_core.specs.BackwardWalks.{Finish, Finishes}
 use Rattle.walk_labels.specs.Places.{Place, IsPlace}
@@ -40,21 +41,7 @@ abbrev pub BeginsInTime : Beginning → Type 0
 BeginsInTime (at_node node earliest latest) = ⊤
 BeginsInTime (resuming begun exit_from) = exit_from ≤ begun.leave
 
--- ---- nodes of which a walk may reach any
-
--- P holds of one of them; where there is one alone, of that one
-abbrev pub OneOf : {A : Type 0} → (A → Type 0) → List A → Type 0
-OneOf P [] = ⊥
-OneOf P (x ∷ []) = P x
-OneOf P (x ∷ y ∷ xs) = P x ⊎ OneOf P (y ∷ xs)
-
-abbrev pub ReachesOneOf : Layout → List Node → Step → Type 0
-ReachesOneOf layout nodes step = OneOf (λ node. ReachesNode layout node step) nodes
-
-abbrev pub ReachesOneOfWithin : Layout → List Node → ℕ → ℕ → Step → Type 0
-ReachesOneOfWithin layout nodes earliest latest step = OneOf (λ node. ReachesNodeWithin layout node earliest latest step) nodes
-
--- whether an arc leads to one of them
+-- whether an arc leads to one of some nodes
 abbrev pub leads_to_one_of : Layout → List Node → Arc → Bool
 leads_to_one_of layout nodes arc = list_any (λ node. meet (head layout arc) (Some node)) nodes
 

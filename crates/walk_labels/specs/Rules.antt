@@ -11,7 +11,8 @@ use Rattle.taxi_base.specs.Labels.{window_of, seconds_of, precedes}
 use Rattle.label_core.specs.Tables.{IsBelow}
 use Rattle.walk_labels.specs.Places.{IsPlace, place_of}
 use Rattle.walk_labels.specs.Requests.Beginning.{at_node, resuming}
-use Rattle.walk_labels.specs.Requests.{Beginning, OneOf}
+use Rattle.taxi_base.specs.Choices.{OneOf}
+use Rattle.walk_labels.specs.Requests.{Beginning}
 
 -- ---- labels that come of no other, and of another
 

@@ -13,7 +13,8 @@ ghost use Rattle.label_core.specs.Walks.{Network, Start, IsEarliestExit};
 ghost use Rattle.label_core.specs.Best.{IsBestEnd, HasNoWalk, IsPickedRoute};
 ghost use Rattle.label_core.specs.Tables.{IsBelow};
 ghost use Rattle.walk_labels.specs.Places.{AreFit, Place, IsPlace, AreCells, IsOrdered, place_at, place_of};
-ghost use Rattle.walk_labels.specs.Requests.{Walk, steps_at, Beginning, BeginsBy, CanBegin, BeginsInTime, ReachesOneOf, AreStarts, AreTargets};
+ghost use Rattle.taxi_base.specs.Choices.{ReachesOneOf};
+ghost use Rattle.walk_labels.specs.Requests.{Walk, steps_at, Beginning, BeginsBy, CanBegin, BeginsInTime, AreStarts, AreTargets};
 ghost use Rattle.walk_labels.specs.Tables.{rows_of};
 ghost use Rattle.walk_labels.specs.Rules.{IsStartBy, IsStartResuming, IsNext, HasAsEarly, PassesForward, PassesArrival};
 

@@ -15,7 +15,8 @@ ghost use Rattle.label_core.specs.Best.{IsBestEnd, HasNoWalk};
 ghost use Rattle.label_core.specs.BackwardBest.{IsBestBegin, HasNoWalkFrom};
 ghost use Rattle.walk_labels.specs.Places.{AreFit, Place, IsPlace, AreCells, IsOrdered, ArePlaces, place_at, numbered, label_at};
 ghost use Rattle.walk_labels.specs.PlacesInWindows.{AreWindowLists, cells_in, can_use};
-ghost use Rattle.walk_labels.specs.Requests.{Walk, steps_at, Beginning, BeginsBy, ReachesOneOf, ReachesOneOfWithin, AreStarts, AreFinishes, AreTargets, AreSources, starts_by, finishes_at, targets_at, sources_at_node};
+ghost use Rattle.taxi_base.specs.Choices.{ReachesOneOf, ReachesOneOfWithin};
+ghost use Rattle.walk_labels.specs.Requests.{Walk, steps_at, Beginning, BeginsBy, AreStarts, AreFinishes, AreTargets, AreSources, starts_by, finishes_at, targets_at, sources_at_node};
 ghost use Rattle.walk_labels.specs.Tables.{rows_of};
 
 /// Numbers are cells in order where those of a test are all places in order. Where the windows are given, the cells are

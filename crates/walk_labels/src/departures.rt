@@ -13,7 +13,8 @@ ghost use Rattle.label_core.specs.BackwardWalks.{Finish, IsLatestEntry};
 ghost use Rattle.label_core.specs.BackwardBest.{IsBestBegin, HasNoWalkFrom, IsPickedRouteOn};
 ghost use Rattle.label_core.specs.BackwardTables.{IsAbove};
 ghost use Rattle.walk_labels.specs.Places.{AreFit, Place, IsPlace, AreCells, IsOrdered, place_at, place_of};
-ghost use Rattle.walk_labels.specs.Requests.{Walk, steps_at, ReachesOneOfWithin, AreFinishes, AreSources};
+ghost use Rattle.taxi_base.specs.Choices.{ReachesOneOfWithin};
+ghost use Rattle.walk_labels.specs.Requests.{Walk, steps_at, AreFinishes, AreSources};
 ghost use Rattle.walk_labels.specs.Tables.{rows_of};
 ghost use Rattle.walk_labels.specs.BackwardRules.{IsFinishAt, IsPrevious, HasAsLate, PassesBackward, PassesDeparture, PassesDepartureAfter};
 

@@ -1,11 +1,14 @@
--- What taking a span out of a row makes of it.
-use Rattle.std.proofs.Common.{◌≡◌, ℕ, zero, suc, ◌+◌, ◌<◌, ◌≤◌, max, min, List, [], ◌∷◌, ◌++◌, length, take, drop, refl, ap, sym, ◌∙◌, arith}
+-- In which span of a row another lies, and what taking a span out of a row makes of it.
+use Rattle.std.proofs.Common.{◌≡◌, ℕ, zero, suc, ◌+◌, ◌<◌, ◌≤◌, max, min, List, [], ◌∷◌, ◌++◌, length, take, drop, refl, ap, sym, ◌∙◌, inl, inr, subst, arith}
+use Rattle.std.proofs.lemmas.Bool.{cases_lt}
+use Rattle.std.proofs.lemmas.List.{get_or_default}
 use Rattle.std.specs.Prelude.{insert, remove, slice_set}
 use Rattle.taxi_base.specs.declared.rows.Span.{Span}
 use Rattle.taxi_base.specs.Windows.{AreApart}
 use Rattle.interval_list.specs.Intervals.{span, before, behind, without_span}
 use Rattle.interval_list.proofs.Seconds.{before-yes, before-no, behind-yes, behind-no, without_span-after}
-use Rattle.window_store.specs.Rows.{span_in, cut_in}
+use Rattle.window_store.specs.Kept.{LiesInOne}
+use Rattle.window_store.specs.Rows.{no_span, AreOverBy, span_in, cut_in}
 
 -- spans that lie apart begin no sooner than their bound, and none is empty
 pub apart_at : (low : ℕ) (ws : List Span) → AreApart low ws → (k : ℕ) → k < length ws → (low ≤ (span_in ws k).from) × ((span_in ws k).from < (span_in ws k).until)
@@ -28,6 +31,33 @@ apart_rising low (w ∷ ws) apart zero zero le on = omega arith
 apart_rising low (w ∷ ws) apart (suc j) zero le on = absurd (omega arith)
 apart_rising low (w ∷ ws) apart zero (suc k) le on = let h = apart_at (w.until + 1) ws apart.2 k (omega arith) in omega (arith, h.0, h.1)
 apart_rising low (w ∷ ws) apart (suc j) (suc k) le on = apart_rising (w.until + 1) ws apart.2 j k (omega arith) (omega arith)
+
+-- ---- in which span of a row another lies
+
+-- it lies in one that begins no later and ends no sooner
+pub lies-at : (row : List Span) (s : Span) (n : ℕ) → n < length row → (span_in row n).from ≤ s.from → s.until ≤ (span_in row n).until → LiesInOne row s
+lies-at row s n on low high = (span_in row n, (n, on, get_or_default row n (span_in row n) no_span on), (low, high))
+
+-- where it lies in one, that is the first that ends after it begins
+pub lies-only-at : (row : List Span) (s : Span) (n : ℕ) → AreApart 0 row → AreOverBy row s.from n → s.from < s.until → LiesInOne row s
+    → (n < length row) × ((span_in row n).from ≤ s.from) × (s.until ≤ (span_in row n).until)
+lies-only-at row s n apart over some lies =
+    let k = lies.1.0 in
+    let on : k < length row = lies.1.1 in
+    let same : span_in row k ≡ lies.0 = sym (get_or_default row k lies.0 no_span on) ∙ lies.1.2 in
+    let low : (span_in row k).from ≤ s.from = subst (λ (x : Span). x.from ≤ s.from) (sym same) lies.2.0 in
+    let high : s.until ≤ (span_in row k).until = subst (λ (x : Span). s.until ≤ x.until) (sym same) lies.2.1 in
+    elim (cases_lt k n) [
+      | inl below ↦ absurd (omega (arith, over.over k below))
+      | inr from ↦ elim (cases_lt n k) [
+        | inl after ↦ absurd (omega (arith, over.later n (omega arith) (omega arith), (apart_in_order 0 row apart n k after on).1))
+        | inr until ↦
+            let here : k ≡ n = omega arith in
+            subst (λ (j : ℕ). (j < length row) × ((span_in row j).from ≤ s.from) × (s.until ≤ (span_in row j).until)) here (on, low, high)
+      ]
+    ]
+
+-- ---- what taking a span out makes of a row
 
 module _ (s : Span) (some : s.from < s.until) where
   -- one that ends before s stays

@@ -1,4 +1,4 @@
--- The spans of the holds in conflict with a segment. No public clause cites this module.
+-- The spans of the holds in conflict with a segment.
 use Rattle.std.specs.Prelude.{ℕ, ◌<◌, ◌≤◌, List, map, filter, IsTrue}
 use Rattle.taxi_base.specs.declared.numbers.Segment.{Segment}
 use Rattle.taxi_base.specs.declared.rows.Span.{Span}

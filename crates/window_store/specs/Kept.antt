@@ -53,3 +53,7 @@ pub record DrawsWhatIsLacking (sets : List (List Segment)) (steps : List Step) (
 abbrev pub IsWindowAt : List Window → Span → Option Window → Type 0
 IsWindowAt windows span (Some w) = Contains windows w × IsPart span (span_of w)
 IsWindowAt windows span None = (w : Window) → Contains windows w → IsPart span (span_of w) → ⊥
+
+-- a span lies in one of some windows
+abbrev pub LiesInOne : List Span → Span → Type 0
+LiesInOne windows span = (w : Span) × Contains windows w × IsPart span w

@@ -5,16 +5,17 @@ ghost use Rattle.taxi_base.specs.Airport.{segment_of};
 ghost use Rattle.taxi_base.specs.Windows.{Hold, hold_of, holds_of};
 ghost use Rattle.conflict_sets.specs.Conflicts.{AreConflicts};
 ghost use Rattle.window_store.specs.Store.{of_lists_and_ids, IsStore};
-ghost use Rattle.window_store.specs.Stands.{StandsFor, HasRoomFor, conflicting_steps, route_holds, AreOnSegments, TakeTime, AreInTime};
+ghost use Rattle.window_store.specs.Stands.{StandsFor, HasRoomFor, conflicting_steps, AreOnSegments, TakeTime, AreInTime};
 ghost use Rattle.window_store.specs.Conflicting.{spans_in_conflict};
 ghost use Rattle.window_store.specs.Edits.{of_lists, list_in, EachInConflict, ChangesConflicting, CanHold, IsHeld, CanRelease, IsReleased, IsRaised, HasRoom, AreHeld, AreReleased, AreRaised, GainsNodes};
 
+use crate::held::OtherHolds;
 use crate::segment_windows::SegmentWindows;
 use crate::still_held::StillHeld;
 use conflict_sets::Conflicts;
 use interval_list::Ids;
 use segment_graph::segment_of;
-use taxi_base::{Memory, Routes, Segment, Span, Step, Time};
+use taxi_base::{Memory, Segment, Span, Step, Time};
 
 // ---- a step
 
@@ -80,7 +81,7 @@ fn hold_step(lists: &mut [SegmentWindows], conflicts: &Conflicts, step: &Step, t
 
 /// Each list in conflict with a step gets back what the step held and nothing else does: neither a later step nor a
 /// route that remains.
-pub(crate) fn release_steps<R: Routes>(
+pub(crate) fn release_steps<R: OtherHolds>(
     lists: &mut [SegmentWindows],
     conflicts: &Conflicts,
     remaining: &R,
@@ -91,15 +92,15 @@ pub(crate) fn release_steps<R: Routes>(
     requires steps { AreOnSegments conflicts.now.segments steps.now }
     requires time { TakeTime steps.now }
     requires in_time { AreInTime term.horizon steps.now }
-    requires stands { StandsFor conflicts.now.sets term.horizon (route_holds term.horizon (R.listed remaining.now) ++ holds_of term.horizon term.clearance steps.now) (of_lists lists.old) }
-    ensures { AreReleased conflicts.now.sets term.horizon term.clearance (route_holds term.horizon (R.listed remaining.now)) steps.now (length steps.now) lists.old lists.new }
+    requires stands { StandsFor conflicts.now.sets term.horizon (R.holds remaining.now ++ holds_of term.horizon term.clearance steps.now) (of_lists lists.old) }
+    ensures { AreReleased conflicts.now.sets term.horizon term.clearance (R.holds remaining.now) steps.now (length steps.now) lists.old lists.new }
 {
     for (place, step) in steps.iter().enumerate() {
         release_step(lists, conflicts, remaining, step, &steps[place + 1..], term);
     }
 }
 
-fn release_step<R: Routes>(
+fn release_step<R: OtherHolds>(
     lists: &mut [SegmentWindows],
     conflicts: &Conflicts,
     remaining: &R,
@@ -111,8 +112,8 @@ fn release_step<R: Routes>(
     requires step { step.now.arc.0 / 2 < conflicts.now.segments }
     requires time { step.now.enter < step.now.leave }
     requires in_time { step.now.leave ≤ term.horizon }
-    requires can { EachInConflict conflicts.now.sets (segment_of step.now.arc) (CanRelease (hold_of term.horizon term.clearance step.now).span (λ s. spans_in_conflict conflicts.now.sets s (route_holds term.horizon (R.listed remaining.now) ++ holds_of term.horizon term.clearance later.now))) lists.old }
-    ensures { ChangesConflicting conflicts.now.sets (segment_of step.now.arc) (IsReleased (hold_of term.horizon term.clearance step.now).span (λ s. spans_in_conflict conflicts.now.sets s (route_holds term.horizon (R.listed remaining.now) ++ holds_of term.horizon term.clearance later.now))) lists.old lists.new }
+    requires can { EachInConflict conflicts.now.sets (segment_of step.now.arc) (CanRelease (hold_of term.horizon term.clearance step.now).span (λ s. spans_in_conflict conflicts.now.sets s (R.holds remaining.now ++ holds_of term.horizon term.clearance later.now))) lists.old }
+    ensures { ChangesConflicting conflicts.now.sets (segment_of step.now.arc) (IsReleased (hold_of term.horizon term.clearance step.now).span (λ s. spans_in_conflict conflicts.now.sets s (R.holds remaining.now ++ holds_of term.horizon term.clearance later.now))) lists.old lists.new }
 {
     for segment in segments_of(conflicts, step) {
         let others = StillHeld {

@@ -11,6 +11,7 @@ mod store;
 #[cfg(test)]
 mod tests;
 
+pub use held::OtherHolds;
 pub use laws::{
     lists_are_short, stores_stand_for_holds_in_any_order, windows_are_few,
     windows_stand_for_their_spans,

@@ -1,8 +1,9 @@
 //! A segment's windows in a row beside the list that has them with their ids, so that they are read where they lie.
-ghost use Rattle.std.specs.Prelude.{suc, ◌≡◌, ◌<◌, ◌≤◌, length, IsTrue, vec_capacity};
+ghost use Rattle.std.specs.Prelude.{suc, ◌≡◌, ◌↔◌, ◌<◌, ◌≤◌, length, IsTrue, vec_capacity};
 ghost use Rattle.taxi_base.specs.Windows.{AreApart};
 ghost use Rattle.interval_list.specs.Intervals.{spans_of, without_span};
 ghost use Rattle.window_store.specs.Rows.{AreOverBy, span_in, cut_in};
+ghost use Rattle.window_store.specs.Kept.{LiesInOne};
 
 use interval_list::IntervalList;
 use taxi_base::{Span, Time};
@@ -13,6 +14,20 @@ pub(crate) fn over_by(row: &[Span], second: Time) -> usize
     ensures { AreOverBy row.now second result }
 {
     row.partition_point(|span| span.until <= second)
+}
+
+/// Whether a span lies in one of the spans of a row.
+pub(crate) fn lies_in_one(row: &[Span], span: Span) -> bool
+    requires apart { AreApart 0 row.now }
+    requires some { span.from < span.until }
+    ensures { IsTrue result ↔ LiesInOne row.now span }
+{
+    let at = over_by(row, span.from);
+    if at == row.len() {
+        return false;
+    }
+    let next = row[at];
+    next.from <= span.from && span.until <= next.until
 }
 
 /// The row anew, from the list.

@@ -1,80 +1,59 @@
 //! What is held of a segment by other steps.
-ghost use Rattle.std.specs.Prelude.{◌≡◌, ◌<◌, ◌≤◌, [], ◌∷◌, length, slice_get, option_map, Some};
+ghost use Rattle.std.specs.Prelude.{◌<◌, ◌≤◌, [], ◌∷◌};
 ghost use Rattle.taxi_base.specs.Windows.{hold_of, holds_of};
 ghost use Rattle.window_store.specs.Held.{IsFirstHeld};
 ghost use Rattle.window_store.specs.Conflicting.{spans_in_conflict, ReachesUpTo};
 
 use crate::edits::{Term, span_of};
-use crate::held::HeldSeconds;
+use crate::held::{HeldSeconds, OtherHolds};
 use conflict_sets::Conflicts;
 use segment_graph::segment_of;
-use taxi_base::{Routes, Segment, Step, Time};
+use taxi_base::{Segment, Step, Time};
 
-/// The spans for which routes and further steps hold segments in conflict with one.
+/// The spans for which others and further steps hold segments in conflict with one.
 #[derive(Drop)]
-pub(crate) struct StillHeld<'a, R: Routes> {
+pub(crate) struct StillHeld<'a, R: OtherHolds> {
     pub(crate) conflicts: &'a Conflicts,
     pub(crate) segment: Segment,
     pub(crate) remaining: &'a R,
     pub(crate) later: &'a [Step],
-    // For how long the further steps hold; the horizon is that of the routes too.
+    // For how long the further steps hold.
     pub(crate) term: Term,
     ghost exists: { segment.0 < conflicts.now.segments },
 }
 
-impl<'a, R: Routes> HeldSeconds for StillHeld<'a, R> {
+impl<'a, R: OtherHolds> HeldSeconds for StillHeld<'a, R> {
     ghost use Rattle.std.specs.Prelude.{◌++◌};
     ghost use Rattle.taxi_base.specs.Windows.{holds_of};
-    ghost use Rattle.window_store.specs.Stands.{route_holds};
     ghost use Rattle.window_store.specs.Conflicting.{spans_in_conflict};
 
-    ghost spans = { λ h. spans_in_conflict h.conflicts.now.sets h.segment (route_holds h.term.horizon (R.listed h.remaining.now) ++ holds_of h.term.horizon h.term.clearance h.later.now) };
+    ghost spans = { λ h. spans_in_conflict h.conflicts.now.sets h.segment (R.holds h.remaining.now ++ holds_of h.term.horizon h.term.clearance h.later.now) };
 
     fn first_held(&self, from: Time, until: Time) -> Time {
-        let mut first = until;
-        for place in 0..self.remaining.routes() {
-            let steps = self.remaining.steps(place);
-            let term = self.term_of(place);
-            first = first_in(self.conflicts, self.segment, steps, term, from, first);
-        }
+        let others = self
+            .remaining
+            .first_held(self.conflicts, self.segment, from, until);
         first_in(
             self.conflicts,
             self.segment,
             self.later,
             self.term,
             from,
-            first,
+            others,
         )
     }
 
     fn held_until(&self, from: Time) -> Time {
-        let mut until = from;
-        for place in 0..self.remaining.routes() {
-            let steps = self.remaining.steps(place);
-            let term = self.term_of(place);
-            until = until.max(end_in(self.conflicts, self.segment, steps, term, from));
-        }
-        until.max(end_in(self.conflicts, self.segment, self.later, self.term, from))
-    }
-}
-
-impl<'a, R: Routes> StillHeld<'a, R> {
-    // For how long the steps of a remaining route hold.
-    fn term_of(&self, place: usize) -> Term
-        requires { place < length (R.listed self.now.remaining.now) }
-        ensures horizon { result.horizon ≡ self.now.term.horizon }
-        ensures clearance { option_map (λ r. r.clearance) (slice_get (R.listed self.now.remaining.now) place) ≡ Some result.clearance }
-    {
-        Term {
-            horizon: self.term.horizon,
-            clearance: self.remaining.clearance(place),
-        }
+        let others = self
+            .remaining
+            .held_until(self.conflicts, self.segment, from);
+        others.max(end_in(self.conflicts, self.segment, self.later, self.term, from))
     }
 }
 
 // The first second from one on, and before another, at which a step holds a segment in conflict; the other where none
 // does.
-fn first_in(
+pub(crate) fn first_in(
     conflicts: &Conflicts,
     segment: Segment,
     steps: &[Step],
@@ -116,7 +95,13 @@ fn first_of(
 }
 
 // The last end of the steps that hold a segment in conflict at a second; the second where none does.
-fn end_in(conflicts: &Conflicts, segment: Segment, steps: &[Step], term: Term, from: Time) -> Time
+pub(crate) fn end_in(
+    conflicts: &Conflicts,
+    segment: Segment,
+    steps: &[Step],
+    term: Term,
+    from: Time,
+) -> Time
     requires { segment.0 < conflicts.now.segments }
     ensures { ReachesUpTo (spans_in_conflict conflicts.now.sets segment (holds_of term.horizon term.clearance steps.now)) from result }
 {

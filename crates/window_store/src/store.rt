@@ -1,19 +1,22 @@
 //! A list of windows for each segment.
-ghost use Rattle.std.specs.Prelude.{ℕ, find, nat_lt, ◌≡◌, ◌+◌, ◌^◌, ◌<◌, ◌≤◌, List, [], ◌++◌, length, reverse, All, IfOk, OnOk};
+ghost use Rattle.std.specs.Prelude.{ℕ, find, nat_lt, ◌≡◌, ◌↔◌, ◌+◌, ◌^◌, ◌<◌, ◌≤◌, List, [], ◌++◌, length, reverse, All, IfOk, OnOk, IsTrue};
 ghost use Rattle.taxi_base.specs.declared.numbers.Segment.{Segment as SegmentNumber};
 ghost use Rattle.taxi_base.specs.Windows.{Hold, holds_of, AreApart};
 ghost use Rattle.interval_list.specs.Intervals.{span, IsNormal};
+ghost use Rattle.window_store.specs.Spans.{nodes};
 ghost use Rattle.window_store.specs.Store.{Store, IsStore, list_at, windows_at, spans_at};
-ghost use Rattle.window_store.specs.Stands.{StandsFor, HasRoomFor, route_holds, AreOnSegments, TakeTime, AreInTime};
-ghost use Rattle.window_store.specs.Kept.{IsApartFrom, IsClearOf, KeepsWindows, KeepsNodes, GainsRoom, DrawsWhatIsLacking, IsWindowAt};
+ghost use Rattle.window_store.specs.Stands.{StandsFor, HasRoomFor, AreOnSegments, TakeTime, AreInTime};
+ghost use Rattle.window_store.specs.Kept.{IsApartFrom, IsClearOf, KeepsWindows, KeepsNodes, GainsRoom, DrawsWhatIsLacking, IsWindowAt, LiesInOne};
 
 use crate::edits::{Term, hold_steps, lower_for_steps, make_room, raise_for_steps, release_steps};
+use crate::held::OtherHolds;
+use crate::row::lies_in_one;
 use crate::segment_windows::SegmentWindows;
 use conflict_sets::Conflicts;
 use interval_list::{Ids, Window, Windows, WindowsBack};
 use std::alloc::Global;
 use std::marker::Model;
-use taxi_base::{Memory, Routes, Segment, Span, Step, Time};
+use taxi_base::{Memory, Segment, Span, Step, Time};
 
 /// The free windows of each segment.
 #[derive(Drop)]
@@ -41,6 +44,7 @@ impl WindowStore {
         ensures segments { IfOk result (λ store. length store.lists ≡ segments) }
         ensures horizon { IfOk result (λ store. store.horizon ≡ horizon) }
         ensures stands { (sets : List (List SegmentNumber)) → IfOk result (StandsFor sets horizon []) }
+        ensures nodes { IfOk result (λ store. (segment : SegmentNumber) → segment.0 < length store.lists → nodes (list_at store segment) ≡ 1) }
     {
         let mut ids = Ids { next: 0 };
         let mut lists = Vec::new(alloc);
@@ -61,6 +65,14 @@ impl WindowStore {
         ensures store { IsStore self.now }
     {
         self.ids.next
+    }
+
+    /// For how many spans a segment is held.
+    pub fn held(&self, segment: Segment) -> usize
+        requires { segment.0 < length self.now.lists }
+        ensures { result ≡ (list_at self.now segment).held }
+    {
+        self.lists[segment.0 as usize].held()
     }
 
     /// A segment's windows from first to last. They lie apart, and each ends by the horizon.
@@ -104,6 +116,15 @@ impl WindowStore {
         } else {
             None
         }
+    }
+
+    /// Whether the seconds from `from` up to `until` lie in one window.
+    pub fn is_free(&self, segment: Segment, from: Time, until: Time) -> bool
+        requires segment { segment.0 < length self.now.lists }
+        requires some { from < until }
+        ensures { IsTrue result ↔ LiesInOne (spans_at self.now segment) (span from until) }
+    {
+        lies_in_one(self.spans(segment), Span { from, until })
     }
 
     // The first window that reaches beyond a second.
@@ -152,9 +173,9 @@ impl WindowStore {
         hold_steps(&mut self.lists, conflicts, steps, term);
     }
 
-    /// No longer holds what the steps hold, while the remaining routes hold what they do. It needs no memory, and there
+    /// No longer holds what the steps hold, while others hold what they do. It needs no memory, and there
     /// is room for the steps afterwards. A window that neither meets nor touches what they hold stays as it is.
-    pub fn release<R: Routes>(
+    pub fn release<R: OtherHolds>(
         &mut self,
         conflicts: &Conflicts,
         remaining: &R,
@@ -165,8 +186,8 @@ impl WindowStore {
         requires steps { AreOnSegments conflicts.now.segments steps.now }
         requires time { TakeTime steps.now }
         requires in_time { AreInTime self.old.horizon steps.now }
-        requires stands { StandsFor conflicts.now.sets self.old.horizon (route_holds self.old.horizon (R.listed remaining.now) ++ holds_of self.old.horizon clearance steps.now) self.old }
-        ensures stands { StandsFor conflicts.now.sets self.old.horizon (route_holds self.old.horizon (R.listed remaining.now)) self.new }
+        requires stands { StandsFor conflicts.now.sets self.old.horizon (R.holds remaining.now ++ holds_of self.old.horizon clearance steps.now) self.old }
+        ensures stands { StandsFor conflicts.now.sets self.old.horizon (R.holds remaining.now) self.new }
         ensures room { HasRoomFor conflicts.now.sets steps.now self.new }
         ensures kept { KeepsWindows IsClearOf conflicts.now.sets (holds_of self.old.horizon clearance steps.now) self.old self.new }
         ensures nodes { KeepsNodes self.old self.new }

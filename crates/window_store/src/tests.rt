@@ -3,11 +3,13 @@ ghost use Rattle.std.specs.Prelude.{ℕ, ◌≡◌, ◌≢◌, ◌+◌, ◌^◌,
 ghost use Rattle.taxi_base.specs.Windows.{Hold, holds_of};
 ghost use Rattle.window_store.specs.Stands.{StandsFor, AreOnSegments, TakeTime, AreInTime};
 
-use crate::WindowStore;
+use crate::edits::Term;
+use crate::still_held::{end_in, first_in};
+use crate::{OtherHolds, WindowStore};
 use conflict_sets::Conflicts;
 use std::alloc::Global;
 use std::test::Fail;
-use taxi_base::{Arc, List, Memory, Routes, Segment, Step, Time};
+use taxi_base::{Arc, List, Memory, Segment, Step, Time};
 
 // The only route that remains, without a clearance; with no step, nothing remains.
 #[derive(Drop)]
@@ -15,21 +17,22 @@ struct Single<'a> {
     steps: &'a [Step],
 }
 
-impl<'a> Routes for Single<'a> {
-    ghost use Rattle.std.specs.Prelude.{[], ◌∷◌};
+const NO_CLEARANCE: Term = Term {
+    horizon: 3600,
+    clearance: 0,
+};
 
-    ghost listed = { λ r. record { steps = r.steps.now; clearance = 0 } ∷ [] };
+impl<'a> OtherHolds for Single<'a> {
+    ghost use Rattle.taxi_base.specs.Windows.{holds_of};
 
-    fn routes(&self) -> usize {
-        1
+    ghost holds = { λ s. holds_of 3600 0 s.steps.now };
+
+    fn first_held(&self, conflicts: &Conflicts, segment: Segment, from: Time, until: Time) -> Time {
+        first_in(conflicts, segment, self.steps, NO_CLEARANCE, from, until)
     }
 
-    fn steps(&self, _at: usize) -> &[Step] {
-        self.steps
-    }
-
-    fn clearance(&self, _at: usize) -> Time {
-        0
+    fn held_until(&self, conflicts: &Conflicts, segment: Segment, from: Time) -> Time {
+        end_in(conflicts, segment, self.steps, NO_CLEARANCE, from)
     }
 }
 

@@ -1,4 +1,5 @@
 //! Runs over a small airport, written whole.
+use super::worked::{SMALL, airport_of};
 use super::{MIGRATE, ROUTE, expect_call, shelf_of, sink_of, words_of};
 use crate::status::Status;
 use crate::top::taxi;
@@ -7,30 +8,8 @@ use std::test::Fail;
 use taxi_base::Memory;
 use taxi_text::{push_bytes, push_number};
 
-// The first records of the small airport.
-pub(super) const SMALL: &[u8] = b"taxi-airport,1\nhorizon,3600\n";
-
-// The same with the longest horizon.
+// The first records of the small airport, with the longest horizon.
 const LONG: &[u8] = b"taxi-airport,1\nhorizon,604800\n";
-
-// Two stands behind one runway node. An aircraft on A shuts C.
-fn stands_and_segments() -> &'static [u8] {
-    b"node,R,runway\n\
-      node,J,junction\n\
-      node,K,junction\n\
-      node,S1,stand\n\
-      node,S2,stand\n\
-      class,M\n\
-      segment,A,R,J,both\n\
-      segment,B,J,S1,both\n\
-      segment,C,J,K,both\n\
-      segment,D,K,S2,both\n\
-      seconds,A,M,30\n\
-      seconds,B,M,20\n\
-      seconds,C,M,25\n\
-      seconds,D,M,15\n\
-      conflict,A,C\n"
-}
 
 fn a_cancel_that_makes_three_windows() -> &'static [u8] {
     b"file Y M 0 B+ 240\n\
@@ -115,33 +94,6 @@ fn their_replies() -> &'static [u8] {
       done 18\n"
 }
 
-pub(super) fn aircraft_that_wait_for_each_other() -> &'static [u8] {
-    b"arrival F1 M R S1 100 0\n\
-      arrival F2 M R S1 100 0\n\
-      arrival F2 M R S1 100 60\n\
-      departure G1 M S2 R 400 0\n"
-}
-
-fn their_routes() -> &'static [u8] {
-    b"route F1 150 2 1\n\
-      step A+ 100 130\n\
-      step B+ 130 150\n\
-      label A+ 0 3600 130\n\
-      no-route 0\n\
-      route F2 180 2 1\n\
-      step A+ 130 160\n\
-      step B+ 160 180\n\
-      label A+ 130 3600 160\n\
-      route G1 330 3 3\n\
-      step D- 330 345\n\
-      step C- 345 370\n\
-      step A- 370 400\n\
-      label A- 160 3600 370\n\
-      label B- 180 3600 350\n\
-      label C- 160 3600 345\n\
-      done 4\n"
-}
-
 fn routes_that_are_refused() -> &'static [u8] {
     b"arrival F1 M R S1 100 0\n\
       arrival F1 Q R S1 100 0\n\
@@ -173,15 +125,6 @@ fn why_and_one_that_is_not() -> &'static [u8] {
       done 7\n"
 }
 
-// An airport by its first records, with some records more.
-pub(super) fn airport_of(alloc: Global, first: &[u8], more: &[u8]) -> Result<Vec<u8>, Memory> {
-    let mut airport = Vec::new(alloc);
-    push_bytes(&mut airport, first)?;
-    push_bytes(&mut airport, stands_and_segments())?;
-    push_bytes(&mut airport, more)?;
-    Ok(airport)
-}
-
 #[test]
 fn runs_written_whole(rt: HostRuntime) -> Result<(), Fail> {
     let alloc = rt.alloc();
@@ -197,16 +140,15 @@ fn runs_written_whole(rt: HostRuntime) -> Result<(), Fail> {
             two_windows(),
         ),
         (b"class,H\n", refusals_in_their_order(), their_replies()),
-        (b"", aircraft_that_wait_for_each_other(), their_routes()),
         (b"", routes_that_are_refused(), why_and_one_that_is_not()),
     ] {
         let airport = airport_of(alloc, SMALL, more)?;
+        let files = [airport.as_slice(), commands];
         expect_call(
             &rt,
             alloc,
             ROUTE,
-            airport.as_slice(),
-            commands,
+            files.as_slice(),
             Status::Done,
             transcript,
         )?;
@@ -229,12 +171,12 @@ fn refused_airports(rt: HostRuntime) -> Result<(), Fail> {
         (b"", b"airport refused at record 1: first-row\n"),
     ] {
         for words in [ROUTE, MIGRATE] {
+            let files = [airport, b"cancel X\n"];
             expect_call(
                 &rt,
                 alloc,
                 words,
-                airport,
-                b"cancel X\n",
+                files.as_slice(),
                 Status::AirportRefused,
                 line,
             )?;
@@ -265,12 +207,8 @@ fn as_many_flights_as_may_be_in_force(rt: HostRuntime) -> Result<(), Fail> {
     let words = words_of(alloc, ROUTE)?;
     let airport = airport_of(alloc, LONG, b"")?;
     let commands = one_flight_too_many(alloc)?;
-    let mut shelf = shelf_of(
-        alloc,
-        airport.as_slice(),
-        commands.as_slice(),
-        [].as_slice(),
-    )?;
+    let files = [airport.as_slice(), commands.as_slice()];
+    let mut shelf = shelf_of(alloc, files.as_slice(), 4096, [].as_slice())?;
     let mut out = sink_of(alloc, 4096, [].as_slice())?;
     let ended = taxi(alloc, words.as_slice(), &mut shelf, &mut out);
     assert_eq!(rt; ended, Status::Done);

@@ -1,6 +1,6 @@
 //! A day's schedule turned into commands, and schedules that are refused.
 use super::expect_call;
-use super::rows::{SMALL, airport_of};
+use super::worked::{SMALL, airport_of};
 use crate::status::Status;
 use std::test::Fail;
 
@@ -39,15 +39,8 @@ fn schedules_written_whole(rt: HostRuntime) -> Result<(), Fail> {
             b"schedule refused at record 1: first-row\n",
         ),
     ] {
-        expect_call(
-            &rt,
-            alloc,
-            IMPORT,
-            airport.as_slice(),
-            schedule,
-            status,
-            text,
-        )?;
+        let files = [airport.as_slice(), schedule];
+        expect_call(&rt, alloc, IMPORT, files.as_slice(), status, text)?;
     }
     Ok(())
 }

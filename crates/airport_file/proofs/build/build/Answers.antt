@@ -1,5 +1,5 @@
 -- The parts are those of the plan.
-use Rattle.std.proofs.Common.{rules}
+use Rattle.std.proofs.Common.{◌≡◌, ◌∙◌, ap, length, rules}
 use Rattle.airport_rules.proofs.WellFormed.{IsWellFormed-plan}
 use Rattle.airport_file.proofs.build.build.Goals as goal
 
@@ -11,3 +11,8 @@ invariant_of-result c = record {
   times = search rules;
   conflicts = search rules;
 }
+
+pub build-requires-clause-members : goal.build-requires-clause-members
+build-requires-clause-members c =
+    let segments : c.len.result ≡ length c.args.plan.segments = c.len.ensures.count ∙ ap length c.segments.ensures in
+    rw (c.conflicts.ensures, segments) (λ k d low. (c.requires.sound.conflicts k d low).2)

@@ -1,15 +1,18 @@
-use Rattle.std.proofs.Common.{◌≡◌, ◌≢◌, List, ℕ, ◌++◌, Option, Some, None, ap, ◌∙◌}
-use Rattle.std.specs.Borrow.{Bor}
-use Rattle.std.specs.Option.{MatchOption}
-use Rattle.std.proofs.lemmas.Slice.Eq.{strip_prefix_is}
-use Rattle.std.proofs.lemmas.Bool.Decides.{Decides-eqb}
-use Rattle.block_reader.specs.Reading.{behind, Finds}
-use Rattle.block_reader.proofs.Pieces.{behind-again, behind-none}
+use Rattle.std.proofs.Common.{◌∙◌, List, ℕ, Some, length, sym, ap}
+use Rattle.std.proofs.lemmas.List.{take_rest}
+use Rattle.block_reader.proofs.Pieces.{begins-fits, behind-begins, behind-begins_not}
 use Rattle.block_reader.proofs.fields.behind.Goals as goal
 
-found : (text bytes : List ℕ) (r : Option (Bor (List ℕ))) → MatchOption r ((rest : List ℕ) → bytes ≢ text ++ rest) (λ x. bytes ≡ text ++ x.now) → Finds (λ rest. rest.now) r (behind text bytes)
-found text bytes None h = behind-none text bytes h
-found text bytes (Some x) h = ap (behind text) h ∙ behind-again text x.now
+pub slice_bounds-result-count : goal.slice_bounds-result-count
+slice_bounds-result-count c = begins-fits c.args.text.now c.args.bytes.now (sym c.begins_with.ensures ∙ c.if-begins_with.true)
 
-pub returns : goal.returns
-returns c = found c.args.text.now c.args.bytes.now c.strip_prefix.result (strip_prefix_is Decides-eqb c.args.bytes.now c.args.text.now c.strip_prefix.result c.strip_prefix.ensures.cases)
+pub slice_bounds-result-start : goal.slice_bounds-result-start
+slice_bounds-result-start c = begins-fits c.args.text.now c.args.bytes.now (sym c.begins_with.ensures ∙ c.if-begins_with.true)
+
+pub returns-then-begins_with : goal.returns-then-begins_with
+returns-then-begins_with c =
+    behind-begins c.args.text.now c.args.bytes.now (sym c.begins_with.ensures ∙ c.if-begins_with.true)
+    ∙ ap (λ (l : List ℕ). Some l) (sym (take_rest c.args.bytes.now (length c.args.text.now)))
+
+pub returns-else-begins_with : goal.returns-else-begins_with
+returns-else-begins_with c = behind-begins_not c.args.text.now c.args.bytes.now (sym c.begins_with.ensures ∙ c.if-begins_with.false)

@@ -1,4 +1,4 @@
-use Rattle.std.proofs.Common.{◌∙◌, true, sym, ap, subst}
+use Rattle.std.proofs.Common.{◌∙◌, true, sym}
 use Rattle.taxi_base.specs.State.{conditions_of}
 use Rattle.taxi_base.specs.Again.{retargeted}
 use Rattle.taxi_base.proofs.AirportLaws.{node_named-exists}

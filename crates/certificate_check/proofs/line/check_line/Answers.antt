@@ -1,7 +1,6 @@
-use Rattle.std.proofs.Common.{◌≡◌, ◌∙◌, Some, sym, ap, subst}
+use Rattle.std.proofs.Common.{◌∙◌, ap, subst}
 use Rattle.std.specs.Prelude.{Err, IfSome}
 use Rattle.certificate.specs.Asked.{IsInGrammar}
-use Rattle.certificate.specs.Replies.{NeedsNoMemory}
 use Rattle.certificate.proofs.GrammarLaws.{command_of-in_grammar}
 use Rattle.check_rows.proofs.LoopLaws.{says-no, says-yes}
 use Rattle.checked_state.specs.Flights.{state_of}

@@ -1,4 +1,4 @@
-use Rattle.std.proofs.Common.{◌≡◌, ◌∙◌, All, length, sym, subst}
+use Rattle.std.proofs.Common.{◌∙◌, All, length, sym, subst}
 use Rattle.taxi_base.specs.State.{State, holds_in, IsSound}
 use Rattle.taxi_base.specs.Walks.{free_among}
 use Rattle.check_rows.specs.Known.{AreKnown}

@@ -1,15 +1,14 @@
-use Rattle.std.proofs.Common.{refl}
 use Rattle.taxi_base.specs.State.{holds_in, with_party}
 use Rattle.certificate.specs.Asked.{party_of}
 use Rattle.check_rows.proofs.LoopLaws.{says-yes}
 use Rattle.checked_state.specs.Flights.{state_of}
-use Rattle.due_refusals.proofs.HeldLaws.{differ-with_party}
-use Rattle.certificate_check.proofs.RoutedLaws.{either-way, ready-either}
+use Rattle.due_refusals.proofs.HeldLaws.{more-with_party}
+use Rattle.certificate_check.proofs.RoutedLaws.{ready-by}
 use Rattle.certificate_check.proofs.PartyLaws.{may-on, may-absent, may-sound, may-judged}
 use Rattle.certificate_check.proofs.parties.put_party.Goals as goal
 
-pub forget_segment-requires : goal.forget_segment-requires
-forget_segment-requires c =
+pub cut_segment-requires-clause-on : goal.cut_segment-requires-clause-on
+cut_segment-requires-clause-on c =
     let new = c.args.new.now in
     may-on c.args.airport.now (state_of c.args.held.now) new.name.now new.segment.now new.from new.until c.args.segment c.requires.may
 
@@ -26,13 +25,7 @@ shut-requires-clause-on c =
 pub returns-in_err-shut-clause-ready : goal.returns-in_err-shut-clause-ready
 returns-in_err-shut-clause-ready c =
     let airport = c.args.airport.now in
-    let new = c.args.new.now in
-    let state = state_of c.args.held.now in
-    let party = party_of new.name.now c.args.segment new.from new.until in
-    ready-either airport c.shut.new.self c.forget_segment.new.self (with_party party state) state (either-way c.shut.result _ _ c.shut.ensures.ok c.shut.ensures.err)
-    (may-sound airport state new.name.now new.segment.now new.from new.until c.args.segment c.requires.may c.requires.ready.is_sound) c.requires.ready.is_sound c.requires.ready.can_go_on c.requires.ready.can_go_on
-    (c.forget_segment.ensures (holds_in airport state) (holds_in airport (with_party party state)) (differ-with_party airport party state) c.requires.ready.are_known)
-    (c.forget_segment.ensures (holds_in airport state) (holds_in airport state) (λ s t away. refl) c.requires.ready.are_known)
+    ready-by airport c.shut.new.self c.args.known.now (state_of c.args.held.now) c.in_err-shut.ensures.err c.requires.ready.is_sound c.requires.ready.can_go_on c.requires.ready.are_known
     (c.shut.ensures.spans airport c.requires.ready.has_spans)
 
 pub returns-clause-judged : goal.returns-clause-judged
@@ -47,8 +40,7 @@ returns-clause-ready c =
     let new = c.args.new.now in
     let state = state_of c.args.held.now in
     let party = party_of new.name.now c.args.segment new.from new.until in
-    ready-either airport c.shut.new.self c.forget_segment.new.self (with_party party state) state (either-way c.shut.result _ _ c.shut.ensures.ok c.shut.ensures.err)
-    (may-sound airport state new.name.now new.segment.now new.from new.until c.args.segment c.requires.may c.requires.ready.is_sound) c.requires.ready.is_sound c.requires.ready.can_go_on c.requires.ready.can_go_on
-    (c.forget_segment.ensures (holds_in airport state) (holds_in airport (with_party party state)) (differ-with_party airport party state) c.requires.ready.are_known)
-    (c.forget_segment.ensures (holds_in airport state) (holds_in airport state) (λ s t away. refl) c.requires.ready.are_known)
+    ready-by airport c.shut.new.self c.cut_segment.new.self (with_party party state) c.in_ok-shut.ensures.ok
+    (may-sound airport state new.name.now new.segment.now new.from new.until c.args.segment c.requires.may c.requires.ready.is_sound) c.requires.ready.can_go_on
+    (c.cut_segment.ensures (holds_in airport state) (holds_in airport (with_party party state)) (more-with_party airport party state) c.requires.ready.are_known)
     (c.shut.ensures.spans airport c.requires.ready.has_spans)

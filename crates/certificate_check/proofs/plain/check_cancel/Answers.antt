@@ -1,6 +1,6 @@
-use Rattle.std.proofs.Common.{◌≡◌, ◌∙◌, All, length, List, Some, sym, ap, subst}
+use Rattle.std.proofs.Common.{◌∙◌, All, length, List, sym, subst}
 use Rattle.taxi_base.specs.declared.rows.Step.{Step}
-use Rattle.taxi_base.specs.State.{State, holds_in, without, flight_named, IsSound}
+use Rattle.taxi_base.specs.State.{State, holds_in, without, IsSound}
 use Rattle.taxi_base.specs.Walks.{free_among}
 use Rattle.taxi_base.proofs.StateLaws.{IsSound-without}
 use Rattle.check_rows.specs.Known.{AreKnown, DifferOn}

@@ -38,7 +38,7 @@ returns-then-is_some-clause-told c =
     let s = sought_new airport state c.args.name.now c.args.class c.args.request in
     let form = says-yes _ c.if-not-is_told.false (c.is_told.ensures s refl refl) in
     let conditions = sym (same-conditions airport c.args.class c.spans.result.now (holds_in airport state) has) in
-    let first = told-of s c.args.block.now form c.in_ok-broken.broken (c.in_ok-broken.ensures.first s conditions refl refl) in
+    let first = told-of s c.args.block.now form c.in_ok-broken.broken (c.in_ok-broken.ensures.first s conditions refl refl refl) in
     told-broken s c.args.block.now state c.in_ok-broken.broken (sym c.is_some.ensures ∙ c.if-is_some.true) first
 
 pub returns-then-is_some-clause-ready : goal.returns-then-is_some-clause-ready
@@ -63,7 +63,7 @@ take_route-requires-clause-met c =
     let s = sought_new airport state c.args.name.now c.args.class c.args.request in
     let form = says-yes _ c.if-not-is_told.false (c.is_told.ensures s refl refl) in
     let conditions = sym (same-conditions airport c.args.class c.spans.result.now (holds_in airport state) has) in
-    let first = told-of s c.args.block.now form c.in_ok-broken.broken (c.in_ok-broken.ensures.first s conditions refl refl) in
+    let first = told-of s c.args.block.now form c.in_ok-broken.broken (c.in_ok-broken.ensures.first s conditions refl refl refl) in
     let all = none-broken s c.args.block.now c.in_ok-broken.broken (sym c.is_some.ensures ∙ c.if-is_some.false) first in
     rw c.as_slice-steps.ensures (told-walk s c.args.block.now c.in-Route.flight c.in-Route.second c.in-Route.steps c.in-Route.labels c.in-Route.is all)
 
@@ -75,7 +75,7 @@ returns-in_ok-take_route-clause-told c =
     let s = sought_new airport state c.args.name.now c.args.class c.args.request in
     let form = says-yes _ c.if-not-is_told.false (c.is_told.ensures s refl refl) in
     let conditions = sym (same-conditions airport c.args.class c.spans.result.now (holds_in airport state) has) in
-    let first = told-of s c.args.block.now form c.in_ok-broken.broken (c.in_ok-broken.ensures.first s conditions refl refl) in
+    let first = told-of s c.args.block.now form c.in_ok-broken.broken (c.in_ok-broken.ensures.first s conditions refl refl refl) in
     let all = none-broken s c.args.block.now c.in_ok-broken.broken (sym c.is_some.ensures ∙ c.if-is_some.false) first in
     let after = rw c.as_slice-steps.ensures at c.in_ok-take_route.ensures.ok in
     told-route s c.args.block.now c.in-Route.flight c.in-Route.second c.in-Route.steps c.in-Route.labels c.in-Route.is all state (state_of c.take_route.new.held) after
@@ -88,7 +88,7 @@ returns-in_default c =
     let s = sought_new airport state c.args.name.now c.args.class c.args.request in
     let form = says-yes _ c.if-not-is_told.false (c.is_told.ensures s refl refl) in
     let conditions = sym (same-conditions airport c.args.class c.spans.result.now (holds_in airport state) has) in
-    let first = told-of s c.args.block.now form c.in_ok-broken.broken (c.in_ok-broken.ensures.first s conditions refl refl) in
+    let first = told-of s c.args.block.now form c.in_ok-broken.broken (c.in_ok-broken.ensures.first s conditions refl refl refl) in
     let all = none-broken s c.args.block.now c.in_ok-broken.broken (sym c.is_some.ensures ∙ c.if-is_some.false) first in
     record {
       told = told-other s c.args.block.now state c.in_default.not-Route all;

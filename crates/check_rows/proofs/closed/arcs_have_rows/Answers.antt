@@ -26,7 +26,7 @@ pub returns-then-not-arc_has_rows-clause-closed : goal.returns-then-not-arc_has_
 returns-then-not-arc_has_rows-clause-closed g c =
     let free : Segment → ℕ → Bool = free_among c.args.airport.now (g.H.HoldsOf.held c.args.holds.now) in
     all-fails (λ arc. HasEach c.args.reach.way (IsReachedAt (conditions_among c.args.airport.now c.args.class (g.H.HoldsOf.held c.args.holds.now)) c.args.reach arc) c.args.table.now.bound c.args.table.now.rows.now) c.args.arcs.now c.loop-arc.arc-index none c.loop-arc-test.true
-    (says-no _ c.if-not-arc_has_rows.true (c.arc_has_rows.ensures free (subst (λ (s : Segment). AreWindows (free s) c.of.result.now) c.segment_of-segment.ensures (c.of.ensures (length c.args.airport.now.segments) free c.make.ensures.known))))
+    (says-no _ c.if-not-arc_has_rows.true (c.arc_has_rows.ensures free (subst (λ (s : Segment). AreWindows (free s) c.of.result.now) c.segment_of-segment.ensures (c.of.ensures (length c.args.airport.now.segments) free c.make.ensures.known)) c.requires.places))
 
 pub loop-arc-preserved : goal.loop-arc-preserved
 loop-arc-preserved g c =
@@ -35,7 +35,7 @@ loop-arc-preserved g c =
       known = c.make.ensures.known;
       closed =
           all-more (λ arc. HasEach c.args.reach.way (IsReachedAt (conditions_among c.args.airport.now c.args.class (g.H.HoldsOf.held c.args.holds.now)) c.args.reach arc) c.args.table.now.bound c.args.table.now.rows.now) c.args.arcs.now c.loop-arc.arc-index none c.loop-arc-test.true
-          c.loop-arc.invariant.closed (says-yes _ c.if-not-arc_has_rows.false (c.arc_has_rows.ensures free (subst (λ (s : Segment). AreWindows (free s) c.of.result.now) c.segment_of-segment.ensures (c.of.ensures (length c.args.airport.now.segments) free c.make.ensures.known))));
+          c.loop-arc.invariant.closed (says-yes _ c.if-not-arc_has_rows.false (c.arc_has_rows.ensures free (subst (λ (s : Segment). AreWindows (free s) c.of.result.now) c.segment_of-segment.ensures (c.of.ensures (length c.args.airport.now.segments) free c.make.ensures.known)) c.requires.places));
     }
 
 pub returns-clause-closed : goal.returns-clause-closed

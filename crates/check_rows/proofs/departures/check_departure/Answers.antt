@@ -1,23 +1,11 @@
-use Rattle.std.proofs.Common.{ℕ, Bool}
-use Rattle.taxi_base.specs.declared.numbers.Segment.{Segment}
-use Rattle.taxi_base.specs.Walks.{free_among}
-use Rattle.check_rows.proofs.LoopLaws.{says-no, says-yes}
+use Rattle.check_rows.proofs.LoopLaws.{says-yes}
 use Rattle.check_rows.proofs.departures.check_departure.Goals as goal
 
-pub returns-then-not-all_fall_short-clause-verdict : goal.returns-then-not-all_fall_short-clause-verdict
-returns-then-not-all_fall_short-clause-verdict g c =
-    let free : Segment → ℕ → Bool = free_among c.args.airport.now (g.H.HoldsOf.held c.args.holds.now) in (
-      (says-yes _ c.if-not-are_ordered.false c.are_ordered.ensures, says-yes _ c.if-not-there.false c.in_ok-there.ensures.there),
-      says-yes _ c.if-not-ended.false c.in_ok-ended.ensures.begun,
-      says-yes _ c.if-not-closed.false c.in_ok-closed.ensures.closed,
-      says-no _ c.if-not-all_fall_short.true (c.all_fall_short.ensures c.args.class free),
-    )
+pub broken_by_places-broken-requires-clause-places : goal.broken_by_places-broken-requires-clause-places
+broken_by_places-broken-requires-clause-places g c = says-yes _ c.if-not-there.false c.in_ok-there.ensures.there
 
-pub returns-clause-verdict : goal.returns-clause-verdict
-returns-clause-verdict g c =
-    let free : Segment → ℕ → Bool = free_among c.args.airport.now (g.H.HoldsOf.held c.args.holds.now) in (
-      (says-yes _ c.if-not-are_ordered.false c.are_ordered.ensures, says-yes _ c.if-not-there.false c.in_ok-there.ensures.there),
-      says-yes _ c.if-not-ended.false c.in_ok-ended.ensures.begun,
-      says-yes _ c.if-not-closed.false c.in_ok-closed.ensures.closed,
-      says-yes _ c.if-not-all_fall_short.false (c.all_fall_short.ensures c.args.class free),
-    )
+pub broken_by_places-broken-requires-clause-known : goal.broken_by_places-broken-requires-clause-known
+broken_by_places-broken-requires-clause-known g c = c.take_firsts-firsts.ensures _ _ c.are_at_places.ensures.known
+
+pub returns-clause-known : goal.returns-clause-known
+returns-clause-known g c = c.put_firsts.ensures _ _ c.broken_by_places-broken.ensures.known

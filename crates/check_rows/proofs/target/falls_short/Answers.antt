@@ -1,7 +1,7 @@
 use Rattle.std.proofs.Common.{◌≡◌, Bool, Some, not, IsTrue, subst}
 use Rattle.std.proofs.lemmas.Bool.{false≢true}
 use Rattle.taxi_base.specs.Airport.{Layout}
-use Rattle.walk_labels.specs.Requests.{OneOf}
+use Rattle.taxi_base.specs.Choices.{OneOf}
 use Rattle.check_rows.specs.Rules.{far_end}
 use Rattle.check_rows.proofs.LoopLaws.{says-yes}
 use Rattle.check_rows.proofs.target.falls_short.Goals as goal

@@ -1,8 +1,8 @@
 use Rattle.std.proofs.Common.{◌≡◌, Some, IsTrue, ◌↔◌, Bool, ℕ, sym, ◌∙◌, ap, subst}
 use Rattle.std.proofs.lemmas.Bool.{eqb-true, eq-eqb}
 use Rattle.taxi_base.specs.declared.numbers.Node.{Node}
-use Rattle.walk_labels.specs.Requests.{OneOf}
-use Rattle.walk_labels.proofs.OneOfLaws.{any-OneOf}
+use Rattle.taxi_base.specs.Choices.{OneOf}
+use Rattle.taxi_base.proofs.OneOfLaws.{any-OneOf}
 use Rattle.check_rows.specs.Rules.{far_end}
 use Rattle.check_rows.proofs.target.leads_to_one.Goals as goal
 

@@ -1,4 +1,4 @@
-use Rattle.std.proofs.Common.{Some, None, sym, subst}
+use Rattle.std.proofs.Common.{[], Some, None, sym, subst}
 use Rattle.taxi_base.specs.State.{holds_in}
 use Rattle.walk_labels.proofs.FitConditions.{among_fit}
 use Rattle.certificate.specs.declared.rule.Rule.TheVariants as rule
@@ -13,9 +13,9 @@ returns c = record {
       let s = sought_new airport state name class request in
       let walk = keeps rule.Walk in
       let table =
-      subst (λ n. HasKeptTable s.conditions (search_of request None) (Some n) labels) (sym walk.1) (route-table s told second steps labels keeps) in
-      (table-best s.conditions (among_fit airport class (holds_in airport state) well) request None tt steps labels walk.0 table, walk.1));
+      subst (λ n. HasKeptTable s.conditions (search_of request [] None) (Some n) labels) (sym walk.1) (route-table s told second steps labels keeps) in
+      (table-best s.conditions (among_fit airport class (holds_in airport state) well) request [] None tt steps labels walk.0 table, walk.1));
   no_route = λ airport state name class request labels steps well keeps meant. (
       let s = sought_new airport state name class request in
-      table-none s.conditions (among_fit airport class (holds_in airport state) well) request None tt labels (no_route-table s labels keeps) steps meant);
+      table-none s.conditions (among_fit airport class (holds_in airport state) well) request [] None tt labels (no_route-table s labels keeps) steps meant);
 }

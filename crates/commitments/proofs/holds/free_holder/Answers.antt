@@ -1,52 +1,57 @@
-use Rattle.std.proofs.Common.{◌≡◌, ◌++◌, List, Some}
-use Rattle.std.specs.Prelude.{remove, slice_get}
-use Rattle.taxi_base.specs.Windows.{HeldRoute, holds_of}
-use Rattle.taxi_base.specs.State.{holds_in}
-use Rattle.window_store.specs.Stands.{route_holds}
-use Rattle.commitments.specs.Book.{routes_of}
+use Rattle.std.proofs.Common.{◌∙◌, List, subst}
+use Rattle.std.specs.Prelude.{remove}
+use Rattle.taxi_base.specs.Windows.{Hold}
+use Rattle.window_store.specs.Stands.{StandsFor}
+use Rattle.commitments.specs.Held.{steps_with, steps_of_each, joined, steps_in}
 use Rattle.commitments.specs.Holders.{state_of}
 use Rattle.commitments.proofs.Numbers.{kept-route}
-use Rattle.commitments.proofs.Routes.{route-is, parties-over, route-left}
-use Rattle.commitments.proofs.SameHolds.{StandsFor-permutation}
+use Rattle.commitments.proofs.Routes.{parties-over}
+use Rattle.commitments.proofs.HoldRoom.{StandsFor-as_many}
+use Rattle.commitments.proofs.StepsIn.{steps-stand, steps-parted, as_many-left, others-hold}
 use Rattle.commitments.proofs.holds.free_holder.Goals as goal
 
 pub release-requires-clause-steps : goal.release-requires-clause-steps
 release-requires-clause-steps c =
-    let state = state_of c.args.holders.now in
-    let found = route-is (slice_get (routes_of c.args.airport.now state) c.args.number) c.steps.result.now c.clearance.result (c.steps.ensures c.args.airport.now) c.clearance.ensures.clearance in
-    rw c.ruled_conflicts.ensures.conflicts (kept-route c.args.airport.now c.ruled_conflicts.ensures.rules state c.requires.feasible c.args.number _ found).on_segments
+    (kept-route c.args.airport.now c.keep_rules.ensures (state_of c.args.holders.now) c.requires.feasible c.args.number _ (c.route-class.ensures.route c.args.airport.now)).on_segments
 
 pub release-requires-clause-time : goal.release-requires-clause-time
 release-requires-clause-time c =
-    let state = state_of c.args.holders.now in
-    let found = route-is (slice_get (routes_of c.args.airport.now state) c.args.number) c.steps.result.now c.clearance.result (c.steps.ensures c.args.airport.now) c.clearance.ensures.clearance in
-    (kept-route c.args.airport.now c.ruled_conflicts.ensures.rules state c.requires.feasible c.args.number _ found).takes_time
+    (kept-route c.args.airport.now c.keep_rules.ensures (state_of c.args.holders.now) c.requires.feasible c.args.number _ (c.route-class.ensures.route c.args.airport.now)).takes_time
 
 pub release-requires-clause-in_time : goal.release-requires-clause-in_time
 release-requires-clause-in_time c =
-    let state = state_of c.args.holders.now in
-    let found = route-is (slice_get (routes_of c.args.airport.now state) c.args.number) c.steps.result.now c.clearance.result (c.steps.ensures c.args.airport.now) c.clearance.ensures.clearance in
-    rw c.requires.horizon (kept-route c.args.airport.now c.ruled_conflicts.ensures.rules state c.requires.feasible c.args.number _ found).in_time
+    (kept-route c.args.airport.now c.keep_rules.ensures (state_of c.args.holders.now) c.requires.feasible c.args.number _ (c.route-class.ensures.route c.args.airport.now)).in_time
 
 pub release-requires-clause-stands : goal.release-requires-clause-stands
 release-requires-clause-stands c =
-    let airport = c.args.airport.now in
     let state = state_of c.args.holders.now in
-    let found = route-is (slice_get (routes_of airport state) c.args.number) c.steps.result.now c.clearance.result (c.steps.ensures airport) c.clearance.ensures.clearance in
-    let left = route-left airport state (parties-over airport state c.requires.feasible) c.args.number _ found in
-    rw (c.ruled_conflicts.ensures.conflicts, c.requires.horizon)
-    (StandsFor-permutation airport.conflicts airport.horizon (holds_in airport state)
-    (route_holds airport.horizon (remove (routes_of airport state) c.args.number) ++ holds_of airport.horizon c.clearance.result c.steps.result.now) c.args.store.now left c.requires.stands)
+    steps-stand c.args.airport.now state c.args.held.now.steps c.args.held.now.store (parties-over c.args.airport.now state c.requires.feasible) c.requires.steps c.requires.stands
+
+pub release-requires-clause-among : goal.release-requires-clause-among
+release-requires-clause-among c =
+    let state = state_of c.args.holders.now in
+    let parted = steps-parted state c.args.number (steps_with c.route-class.result.1 c.route-class.result.0.now) c.route-class.ensures.steps in
+    (joined (remove (steps_of_each state) c.args.number), λ test. c.requires.steps test ∙ parted test)
+
+pub returns-clause-steps : goal.returns-clause-steps
+returns-clause-steps c =
+    let state = state_of c.args.holders.now in
+    let gone = steps_with c.route-class.result.1 c.route-class.result.0.now in
+    as_many-left c.args.held.now.steps (steps_in state) c.release.new.self.steps (joined (remove (steps_of_each state) c.args.number)) gone
+    c.requires.steps (steps-parted state c.args.number gone c.route-class.ensures.steps) c.release.ensures.steps
 
 pub returns-clause-stands : goal.returns-clause-stands
-returns-clause-stands c = rw (c.ruled_conflicts.ensures.conflicts, c.requires.horizon) at c.release.ensures.stands
+returns-clause-stands c =
+    let airport = c.args.airport.now in
+    let state = state_of c.args.holders.now in
+    let gone = steps_with c.route-class.result.1 c.route-class.result.0.now in
+    let left = as_many-left c.args.held.now.steps (steps_in state) c.release.new.self.steps (joined (remove (steps_of_each state) c.args.number)) gone
+    c.requires.steps (steps-parted state c.args.number gone c.route-class.ensures.steps) c.release.ensures.steps in
+    subst (λ (holds : List Hold). StandsFor airport.conflicts airport.horizon holds c.release.new.self.store) (others-hold airport state c.args.number)
+    (StandsFor-as_many airport c.release.new.self.steps (joined (remove (steps_of_each state) c.args.number)) c.release.new.self.store left c.release.ensures.stands)
 
 pub returns-clause-room : goal.returns-clause-room
-returns-clause-room c =
-    let found = route-is (slice_get (routes_of c.args.airport.now (state_of c.args.holders.now)) c.args.number) c.steps.result.now c.clearance.result (c.steps.ensures c.args.airport.now) c.clearance.ensures.clearance in
-    rw found (rw c.ruled_conflicts.ensures.conflicts at c.release.ensures.room)
+returns-clause-room c = rw (c.route-class.ensures.route c.args.airport.now) c.release.ensures.room
 
 pub returns-clause-kept : goal.returns-clause-kept
-returns-clause-kept c =
-    let found = route-is (slice_get (routes_of c.args.airport.now (state_of c.args.holders.now)) c.args.number) c.steps.result.now c.clearance.result (c.steps.ensures c.args.airport.now) c.clearance.ensures.clearance in
-    rw found (rw (c.ruled_conflicts.ensures.conflicts, c.requires.horizon) at c.release.ensures.kept)
+returns-clause-kept c = rw (c.route-class.ensures.route c.args.airport.now) c.release.ensures.kept

@@ -1,6 +1,5 @@
 use Rattle.std.proofs.Common.{◌≡◌, ◌++◌, List, [], ◌∷◌, ap, ◌∙◌, subst}
 use Rattle.taxi_base.specs.declared.numbers.Arc.{Arc}
-use Rattle.taxi_base.specs.declared.rows.Step.{Step}
 use Rattle.taxi_base.specs.Windows.{Hold, holds_of}
 use Rattle.taxi_base.specs.State.{party_hold}
 use Rattle.taxi_base.proofs.StateLaws.{party_step-holds}
@@ -15,8 +14,8 @@ returns-clause-stands c =
     let own : holds_of airport.horizon 0 c.from_ref.result.now ≡ party_hold party ∷ [] =
     ap (holds_of airport.horizon 0) (c.from_ref.ensures.value ∙ ap (λ (arc : Arc). record { arc = arc; enter = party.from; leave = party.until } ∷ []) c.forward.ensures)
     ∙ ap (λ (h : Hold). h ∷ []) (party_step-holds airport.horizon party c.requires.feasible.1.in_time) in
-    let held = rw (c.ruled_conflicts.ensures.conflicts, c.requires.horizon) at c.occupy.ensures.stands in
-    λ holds before. subst (λ (more : List Hold). StandsFor airport.conflicts airport.horizon (holds ++ more) c.occupy.new.self) own (held holds before)
+    let held = c.occupy.ensures.stands in
+    λ holds before. subst (λ (more : List Hold). StandsFor airport.conflicts airport.horizon (holds ++ more) c.occupy.new.self.store) own (held holds before)
 
 pub returns-clause-kept : goal.returns-clause-kept
 returns-clause-kept c =
@@ -25,5 +24,5 @@ returns-clause-kept c =
     let own : holds_of airport.horizon 0 c.from_ref.result.now ≡ party_hold party ∷ [] =
     ap (holds_of airport.horizon 0) (c.from_ref.ensures.value ∙ ap (λ (arc : Arc). record { arc = arc; enter = party.from; leave = party.until } ∷ []) c.forward.ensures)
     ∙ ap (λ (h : Hold). h ∷ []) (party_step-holds airport.horizon party c.requires.feasible.1.in_time) in
-    let kept = rw (c.ruled_conflicts.ensures.conflicts, c.requires.horizon) at c.occupy.ensures.kept in
-    subst (λ (more : List Hold). KeepsWindows IsApartFrom airport.conflicts more c.args.store.now c.occupy.new.self) own kept
+    let kept = c.occupy.ensures.kept in
+    subst (λ (more : List Hold). KeepsWindows IsApartFrom airport.conflicts more c.args.held.now.store c.occupy.new.self.store) own kept

@@ -1,16 +1,20 @@
-use Rattle.std.proofs.Common.{arith}
-use Rattle.std.proofs.lemmas.List.{take_all}
-use Rattle.commitments.proofs.TakenFirst.{route-more}
+use Rattle.std.proofs.Common.{refl}
+use Rattle.taxi_base.specs.Airport.{clearance_of}
+use Rattle.commitments.proofs.TakenFirst.{route-over, route-early}
 use Rattle.commitments.proofs.taken.first_second_of.Goals as goal
 
-pub loop-step-preserved : goal.loop-step-preserved
-loop-step-preserved c =
-    let found = rw (c.conflicts-conflicts.ensures, c.held-held.ensures, c.segment_of.ensures) at c.first_second-at.ensures in
-    rw c.earlier-first.ensures
-    (route-more c.args.airport.now.conflicts c.args.segment c.args.span c.horizon-horizon.result c.clearance-clearance.result c.as_slice-step-items.result.now c.loop-step.step-index _ c.loop-step.first c.first_second-at.result
-    (omega arith) c.loop-step.invariant found)
+pub returns-then-span-begin : goal.returns-then-span-begin
+returns-then-span-begin c =
+    let airport = c.args.airport.now in
+    let flight = c.args.flight.now in
+    route-early airport.conflicts c.args.segment c.args.span airport.horizon (clearance_of airport flight.class) flight.steps c.requires.in_turn (rw c.as_slice-steps.ensures at c.if-span-begin.true)
+
+pub returns-then-is_over_by : goal.returns-then-is_over_by
+returns-then-is_over_by c =
+    let airport = c.args.airport.now in
+    let flight = c.args.flight.now in
+    route-over airport.conflicts c.args.segment c.args.span airport.horizon (clearance_of airport flight.class) flight.steps c.requires.in_turn
+    (rw (c.as_slice-steps.ensures, c.clearance-clearance.ensures.clearance) at (c.if-is_over_by.ensures.0 refl))
 
 pub returns : goal.returns
-returns c =
-    rw (c.horizon-horizon.ensures.horizon, c.clearance-clearance.ensures.clearance, c.as_slice-step-items.ensures)
-    at (rw (take_all c.loop-step.step-index c.as_slice-step-items.result.now c.loop-step-test.false) at c.loop-step.invariant)
+returns c = rw (c.clearance-clearance.ensures.clearance, c.as_slice-steps.ensures) at c.first_second_among.ensures

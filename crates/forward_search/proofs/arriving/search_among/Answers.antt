@@ -18,7 +18,7 @@ use Rattle.place_cells.specs.Found.{row_in}
 use Rattle.place_cells.proofs.GroundLaws.{airport_sound, tail_of_airport}
 use Rattle.forward_search.specs.Arrivals.{beginning_of, arrival_problem}
 use Rattle.forward_search.proofs.ArrivalLaws.{arrival_is_problem, same_problem}
-use Rattle.forward_search.proofs.ArrivalAnswers.{route_answers, no_route_answers, any_route_answers, any_no_route_answers}
+use Rattle.forward_search.proofs.ArrivalAnswers.{route_answers, no_route_answers, any_route_answers, any_no_route_answers, last_route_answers}
 use Rattle.forward_search.proofs.arriving.search_among.Goals as goal
 
 pub invariant_of-asked : goal.invariant_of-asked
@@ -99,3 +99,20 @@ returns-clause-one c leave node alone =
     (subst (λ (p : Problem). IfSome (best_of c.in_ok-values.field-0.route) (IsBestEnd p.network p.starts p.target)) same c.in_ok-values.ensures.best)
     (subst (λ (p : Problem). IfSome c.in_ok-values.field-0.route (λ f. IsPickedRoute p.network p.starts ComesBefore p.target f.best (map step_of f.steps.items))) same c.in_ok-values.ensures.picked)
     c.in_ok-steps-in-Some.steps c.in_ok-labels.labels steps rows
+
+pub returns-clause-last : goal.returns-clause-last
+returns-clause-last c leave node among reaches =
+    let ground : Ground = record { layout = c.graph.result.now; table = c.classes.result.now.table; class = c.args.class; horizon = c.horizon.result; clearance = c.args.clearance; windows = windows_of c.args.store.now; numbers = numbers_of c.args.numbers.now } in
+    let told : Ground = ground_in c.args.airport.now c.args.class c.args.clearance (windows_of c.args.store.now) (numbers_of c.args.numbers.now) in
+    let table = ap (λ (t : Times). t.table) c.classes.ensures in
+    let same_ground : ground ≡ told = λ i. record { layout = c.graph.ensures i; table = table i; class = c.args.class; horizon = c.horizon.ensures.horizon i; clearance = c.args.clearance; windows = windows_of c.args.store.now; numbers = numbers_of c.args.numbers.now } in
+    let same : arrival_problem ground (beginning_of c.args.start 0) c.args.to.now ≡ arrival_problem told (beginning_of c.args.start leave) c.args.to.now =
+    ap (λ (g : Ground). arrival_problem g (beginning_of c.args.start 0) c.args.to.now) same_ground ∙ same_problem told c.args.start leave c.args.to.now in
+    let values : List CellValue = c.in_ok-values.field-0.values.items in
+    let rows = c.in_ok-labels.ensures ∙ ap (λ (xs : List CellValue). map (row_in ground) xs) c.deref.ensures.value ∙ ap (λ (g : Ground). map (row_in g) values) same_ground in
+    let steps = c.in_ok-steps-in-Some.ensures ∙ ap (λ (walk : List CellStep). steps_at (place_at (cells_of ground)) (map step_of walk)) c.deref-in-Some.ensures.value ∙ ap (λ (g : Ground). steps_at (place_at (cells_of g)) (map step_of c.in-Some.route.steps.items)) same_ground in
+    last_route_answers c.args.airport.now c.args.class c.args.clearance (windows_of c.args.store.now) c.requires.rules c.requires.lists (numbers_of c.args.numbers.now) c.args.numbers.now.numbered c.requires.room (beginning_of c.args.start leave) c.args.to.now node among c.in_ok-values.field-0.route c.in-Some.route c.in-Some.is values
+    (subst (λ (p : Problem). AreExits p.network p.starts p.count (best_of c.in_ok-values.field-0.route) values) same c.in_ok-values.ensures.table)
+    (subst (λ (p : Problem). IfSome (best_of c.in_ok-values.field-0.route) (IsBestEnd p.network p.starts p.target)) same c.in_ok-values.ensures.best)
+    (subst (λ (p : Problem). IfSome c.in_ok-values.field-0.route (λ f. IsPickedRoute p.network p.starts ComesBefore p.target f.best (map step_of f.steps.items))) same c.in_ok-values.ensures.picked)
+    c.in_ok-steps-in-Some.steps c.in_ok-labels.labels steps rows reaches

@@ -27,7 +27,7 @@ loop-run-preserved g c =
       | inl lt ↦ inl (is.0, lt, is.2)
       | inr le ↦ (
           let same : is.0 ≡ c.loop-run.run = omega (arith, is.1) in
-          inr (c.run-part.ensures.expansions_in d t (subst (λ k. IsIn (p.run c.args.from.cell k) d) same is.2) e))
+          inr (c.run-part.ensures.expansions_in d t (subst (λ k. IsIn (p.run c.args.from.cell k) d) same is.2) e (omega (arith, e.still_held, c.requires.ready.last))))
     ])
 
 pub returns : goal.returns

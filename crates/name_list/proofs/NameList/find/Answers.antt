@@ -1,5 +1,5 @@
 -- The index has each name's place, which is below the number of names.
-use Rattle.std.proofs.Common.{◌≡◌, ◌<◌, ◌≤◌, ℕ, List, length, Option, Some, None, arith, rules, ◌∙◌, sym}
+use Rattle.std.proofs.Common.{◌≡◌, ◌<◌, ◌≤◌, ℕ, List, length, Option, Some, None, arith, rules, sym}
 use Rattle.std.specs.Prelude.{IfSome}
 use Rattle.taxi_base.specs.Airport.{place_of}
 use Rattle.name_list.proofs.PlaceLaws.{place-within}

@@ -1,6 +1,6 @@
 use Rattle.std.proofs.Common.{◌∙◌}
 use Rattle.taxi_text.specs.Lines.{commands_of}
-use Rattle.taxi_cli.specs.Asked.{FileNames, Check}
+use Rattle.program_words.specs.Asked.{FileNames, Check}
 use Rattle.taxi_cli.specs.Endings.{Call}
 use Rattle.transcript_check.specs.Verdicts.{IsVerdict}
 use Rattle.taxi_cli.proofs.EndingLaws.{stop-ends, right-ends, wrong-ends}

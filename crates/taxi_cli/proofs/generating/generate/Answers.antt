@@ -1,5 +1,5 @@
 use Rattle.std.proofs.Common.{◌∙◌}
-use Rattle.taxi_cli.specs.LentWords.{traffic_for}
+use Rattle.program_words.specs.LentWords.{traffic_for}
 use Rattle.taxi_cli.specs.Endings.{Call}
 use Rattle.taxi_cli.proofs.EndingLaws.{generate-ends}
 use Rattle.taxi_cli.proofs.generating.generate.Goals as goal

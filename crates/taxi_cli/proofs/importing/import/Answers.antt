@@ -1,5 +1,5 @@
 use Rattle.std.proofs.Common.{Err, ap}
-use Rattle.taxi_cli.specs.Asked.{FileNames, Import}
+use Rattle.program_words.specs.Asked.{FileNames, Import}
 use Rattle.taxi_cli.specs.Endings.{Call}
 use Rattle.taxi_cli.proofs.EndingLaws.{stop-ends, import-ends, schedule-ends}
 use Rattle.taxi_cli.proofs.InputLaws.{import_cause}

@@ -1,7 +1,7 @@
 use Rattle.std.proofs.Common.{Err, [], ◌∷◌, inr, ap, subst, sym}
 use Rattle.std.proofs.lemmas.Result.{err_from_is_err_and}
 use Rattle.taxi_io.specs.Files.{IsLonger}
-use Rattle.taxi_cli.specs.Asked.{FileNames, Check}
+use Rattle.program_words.specs.Asked.{FileNames, Check}
 use Rattle.taxi_cli.specs.Outcomes.{transcript_limit}
 use Rattle.taxi_cli.specs.Stops.{IsCause}
 use Rattle.taxi_cli.proofs.InputLaws.{transcript_cause, began-more}

@@ -1,7 +1,7 @@
 use Rattle.std.proofs.Common.{Err, ap, subst, sym}
 use Rattle.std.proofs.lemmas.Result.{err_from_is_err_and}
 use Rattle.taxi_io.specs.Files.{IsLonger}
-use Rattle.taxi_cli.specs.Asked.{FileNames, Route}
+use Rattle.program_words.specs.Asked.{FileNames, Route}
 use Rattle.taxi_cli.specs.Outcomes.{commands_limit}
 use Rattle.taxi_cli.specs.Stops.{IsCause}
 use Rattle.taxi_cli.proofs.InputLaws.{commands_cause}

@@ -1,9 +1,10 @@
 use Rattle.std.proofs.Common.{refl, Some, ◌∙◌}
 use Rattle.airport_text.specs.Canonical.{canonical_text}
 use Rattle.taxi_cli.specs.declared.status.Status.TheVariants.{Done}
-use Rattle.taxi_cli.specs.Asked.{Migrate}
+use Rattle.program_words.specs.Asked.{Migrate}
 use Rattle.taxi_cli.specs.Endings.{Call}
-use Rattle.taxi_cli.proofs.EndingLaws.{last-ends, stop-ends, cause-of_airport}
+use Rattle.taxi_cli.proofs.EndingLaws.{last-ends, stop-ends}
+use Rattle.taxi_cli.proofs.InputLaws.{airport_cause}
 use Rattle.taxi_cli.proofs.migrating.migrate.Goals as goal
 
 pub returns-in-Ok-write_airport-clause-ends : goal.returns-in-Ok-write_airport-clause-ends
@@ -27,4 +28,4 @@ returns-in-Err-clause-ends g c =
       taken = (g.K.Sink.written c.args.out.now, g.K.Sink.written c.write_stop.new.out);
     } in
     stop-ends call (Migrate c.args.airport.now) c.in-Err.stop c.write_stop.result tt
-    (cause-of_airport call.files c.args.airport.now call.reads c.in-Err.stop c.in-Err.ensures.stop) c.write_stop.ensures.ends
+    (airport_cause call.files c.args.airport.now call.reads c.in-Err.stop c.in-Err.ensures.stop) c.write_stop.ensures.ends

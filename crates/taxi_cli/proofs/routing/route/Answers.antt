@@ -1,5 +1,5 @@
 use Rattle.std.proofs.Common.{[], ◌∷◌, inr}
-use Rattle.taxi_cli.specs.Asked.{FileNames}
+use Rattle.program_words.specs.Asked.{FileNames}
 use Rattle.taxi_cli.specs.Endings.{Call}
 use Rattle.taxi_cli.proofs.InputLaws.{began-more}
 use Rattle.taxi_cli.proofs.RunEndings.{airport-ends, not-begun, run-ends}

@@ -1,5 +1,4 @@
-use Rattle.std.proofs.Common.{◌≡◌, ◌∙◌, Ok, Err, inr, ap, arith}
-use Rattle.taxi_io.specs.Counts.{Rose}
+use Rattle.std.proofs.Common.{◌∙◌, Ok, Err, inr, ap, arith}
 use Rattle.taxi_cli.proofs.routing.route_at.Goals as goal
 
 pub returns-in-Ok-run_commands-clause-run : goal.returns-in-Ok-run_commands-clause-run

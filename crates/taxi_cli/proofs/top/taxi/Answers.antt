@@ -1,9 +1,9 @@
 use Rattle.std.proofs.Common.{◌≡◌, refl, sym, ap, subst, map, string_bytes, None}
 use Rattle.taxi_cli.specs.declared.status.Status.TheVariants.{Usage}
-use Rattle.taxi_cli.specs.Lines.{usage_line}
+use Rattle.program_words.specs.Usage.{usage_line}
 use Rattle.taxi_cli.specs.Endings.{Call}
-use Rattle.taxi_cli.specs.Asked.{FileNames, Route, Check, Generate, Migrate, Import, asked_by}
-use Rattle.taxi_cli.specs.LentWords.{traffic_for, asked_for}
+use Rattle.program_words.specs.Asked.{FileNames, Route, Check, Generate, Migrate, Import, asked_by}
+use Rattle.program_words.specs.LentWords.{traffic_for, asked_for}
 use Rattle.taxi_cli.proofs.EndingLaws.{last-ends, asked-ends, one-asked}
 use Rattle.taxi_cli.proofs.DueLaws.{due-is, made-is}
 use Rattle.taxi_cli.specs.Pace.{HaveBegun, KeepsPace, commands_left}

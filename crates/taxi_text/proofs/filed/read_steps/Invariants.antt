@@ -1,7 +1,7 @@
 use Rattle.std.proofs.Common.{◌≡◌, List, length}
 use Rattle.taxi_text.specs.declared.command.FiledStep.{FiledStep}
 use Rattle.taxi_text.specs.Commands.{steps_of}
-use Rattle.taxi_text.proofs.FiledSteps.{going_on}
+use Rattle.taxi_text.proofs.Gathering.{going_on}
 use Rattle.taxi_text.specs.Words.{words_left}
 use Rattle.taxi_text.specs.Reading.{StandsFor}
 use Rattle.taxi_text.proofs.filed.read_steps.Given as goal

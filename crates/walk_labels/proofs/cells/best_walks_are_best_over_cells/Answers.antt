@@ -1,5 +1,6 @@
 use Rattle.taxi_base.specs.Airport.{layout_of}
-use Rattle.walk_labels.specs.Requests.{BeginsBy, ReachesOneOfWithin}
+use Rattle.taxi_base.specs.Choices.{ReachesOneOfWithin}
+use Rattle.walk_labels.specs.Requests.{BeginsBy}
 use Rattle.walk_labels.proofs.CellLabels.{best_end, end_is_best, no_route, best_begin, begin_is_best, no_route_from}
 use Rattle.walk_labels.proofs.cells.best_walks_are_best_over_cells.Goals as goal
 

@@ -1,5 +1,6 @@
 use Rattle.taxi_base.specs.Airport.{layout_of}
-use Rattle.walk_labels.specs.Requests.{BeginsBy, ReachesOneOfWithin}
+use Rattle.taxi_base.specs.Choices.{ReachesOneOfWithin}
+use Rattle.walk_labels.specs.Requests.{BeginsBy}
 use Rattle.walk_labels.proofs.CellWalks.{walk_of_steps, steps_of_walk, walk_to_of_steps, steps_of_walk_to}
 use Rattle.walk_labels.proofs.cells.feasible_walks_are_walks_over_cells.Goals as goal
 

@@ -1,5 +1,6 @@
 use Rattle.taxi_base.specs.Airport.{layout_of}
-use Rattle.walk_labels.specs.Requests.{BeginsBy, ReachesOneOfWithin}
+use Rattle.taxi_base.specs.Choices.{ReachesOneOfWithin}
+use Rattle.walk_labels.specs.Requests.{BeginsBy}
 use Rattle.walk_labels.proofs.CellLabels.{exit_label, exit_of_cell, entry_label, entry_of_cell}
 use Rattle.walk_labels.proofs.cells.labels_are_values_of_cells.Goals as goal
 

@@ -1,5 +1,6 @@
 use Rattle.taxi_base.specs.Airport.{layout_of}
-use Rattle.walk_labels.specs.Requests.{BeginsBy, ReachesOneOfWithin}
+use Rattle.taxi_base.specs.Choices.{ReachesOneOfWithin}
+use Rattle.walk_labels.specs.Requests.{BeginsBy}
 use Rattle.walk_labels.proofs.LabelTables.{exit_rows, entry_rows}
 use Rattle.walk_labels.proofs.cells.values_of_cells_are_tables.Goals as goal
 

@@ -33,10 +33,10 @@ pub release-requires-clause-stands : goal.release-requires-clause-stands
 release-requires-clause-stands c =
     let sets = c.in_ok-conflicts.conflicts.sets in
     let h : Hold = hold_of 3600 c.args.clearance c.args.step in
-    let others : List Hold = holds_of 3600 0 c.args.route.now ++ [] in
+    let others : List Hold = holds_of 3600 0 c.args.route.now in
     let first = rw c.in_ok-store.ensures.horizon at c.in_ok-hold.ensures.stands in
     let second = rw (c.in_ok-hold.ensures.horizon, c.in_ok-store.ensures.horizon) at c.in_ok-hold-2.ensures.stands in
     let both = second (h ∷ []) (first [] (c.in_ok-store.ensures.stands sets)) in
     rw (c.in_ok-hold-2.ensures.horizon, c.in_ok-hold.ensures.horizon, c.in_ok-store.ensures.horizon) (λ s low.
     list-moved_back sets s others h [] 3600 (list_at c.hold-2.new.store s)
-    (subst (λ (holds : List Hold). ListStandsFor sets 3600 (h ∷ holds) s (list_at c.hold-2.new.store s)) (sym (append-nil others ∙ append-nil (holds_of 3600 0 c.args.route.now))) (both s low)))
+    (subst (λ (holds : List Hold). ListStandsFor sets 3600 (h ∷ holds) s (list_at c.hold-2.new.store s)) (sym (append-nil others)) (both s low)))

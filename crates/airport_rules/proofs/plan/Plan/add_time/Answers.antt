@@ -6,5 +6,5 @@ pub invariant_of-self-2 : goal.invariant_of-self-2
 invariant_of-self-2 c = (
   c.self.invariant.0,
   rw (c.push_reserved.ensures.items, c.in_ok-reserve.ensures.items)
-      (AreTimed-push c.self.inside.times.items c.self.inside.timed c.insert.new.self c.args.row.now c.self.invariant.1 c.in_ok-insert.ensures.updates),
+      (AreTimed-push c.self.inside.times.items c.self.inside.timed c.insert.new.self c.args.row.now c.time_key.ensures.small c.self.invariant.1 (rw c.time_key.ensures.key at c.in_ok-insert.ensures.updates)),
 )

@@ -30,5 +30,5 @@ returns c =
     let part : IsArcPart g previous c.args.from c.args.ready c.part.result = subst (λ (a : Arc). IsArcPart g a c.args.from c.args.ready c.part.result) read c.part.ensures in
     record {
       permitted = part_leads g lists s.numbers.now.numbered s.room c.args.cell parts.0 previous c.args.from c.args.ready c.part.result part exists permitted;
-      expansions_in = expansions_back_in_part g lists s.numbers.now.numbered s.room c.args.cell parts.0 previous c.args.from c.args.ready c.part.result part exists c.args.ready (omega (arith, c.requires.from)) (omega arith);
+      expansions_in = expansions_back_in_part g lists s.numbers.now.numbered s.room c.args.cell parts.0 previous c.args.from c.args.ready c.part.result part exists c.args.ready (omega arith);
     }

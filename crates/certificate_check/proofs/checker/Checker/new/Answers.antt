@@ -1,4 +1,4 @@
-use Rattle.std.proofs.Common.{length, All, sym, subst, arith}
+use Rattle.std.proofs.Common.{All, sym, subst, arith}
 use Rattle.taxi_base.specs.State.{State, holds_in, IsSound}
 use Rattle.taxi_base.specs.Walks.{free_among}
 use Rattle.taxi_base.proofs.StateLaws.{IsSound-nil}

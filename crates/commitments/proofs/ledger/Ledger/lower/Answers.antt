@@ -3,6 +3,10 @@ use Rattle.taxi_base.specs.State.{holds_in, without}
 use Rattle.commitments.specs.Book.{Book, Fits}
 use Rattle.commitments.specs.Holders.{state_of}
 use Rattle.commitments.proofs.Fitting.{lifted-in_force, lifted-stands, lifted-room, lifted-walk, walk-at, place-some, fits-lower}
+use Rattle.taxi_base.specs.declared.answers.Flight.{Flight}
+use Rattle.taxi_base.proofs.NamedLists.{find-named}
+use Rattle.commitments.specs.Held.{flight_steps, steps_in}
+use Rattle.commitments.proofs.LedgerSteps.{ledger-stands, as_many-more, steps-back}
 use Rattle.commitments.proofs.ledger.Ledger.lower.Goals as goal
 
 pub unwrap-name-requires : goal.unwrap-name-requires
@@ -35,6 +39,24 @@ returns-clause-fits c =
     let at = rw c.unwrap-place.ensures at c.place.ensures in
     let lifted = sym c.take.ensures.value ∙ c.unwrap-name.ensures in
     rw c.take.ensures.after
-    (fits-lower c.args.airport.now _ fits c.hold_flight.new.store c.hold_flight.ensures.nodes c.self.inside.holders.flights.room c.self.inside.holders.parties.room c.unwrap-name.result c.unwrap-place.result at
+    (fits-lower c.args.airport.now _ fits c.hold_flight.new.held.store c.hold_flight.ensures.nodes c.self.inside.holders.flights.room c.self.inside.holders.parties.room c.unwrap-name.result c.unwrap-place.result at
     c.at-flight.result.now (sym at.found ∙ c.at-flight.ensures)
     (c.hold_flight.ensures.stands (holds_in c.args.airport.now (without c.unwrap-name.result (state_of c.self.inside.holders))) (lifted-stands c.args.airport.now _ c.unwrap-name.result fits lifted)))
+
+pub hold_flight-requires-clause-steps : goal.hold_flight-requires-clause-steps
+hold_flight-requires-clause-steps c =
+    let fits = subst (Fits c.args.airport.now) (sym c.self.view_is) c.requires.fits in
+    ledger-stands c.args.airport.now _ c.self.inside.held.steps fits c.self.invariant
+
+pub invariant_of-self : goal.invariant_of-self
+invariant_of-self c =
+    let fits = subst (Fits c.args.airport.now) (sym c.self.view_is) c.requires.fits in
+    let state = state_of c.self.inside.holders in
+    let at = rw c.unwrap-place.ensures at c.place.ensures in
+    let lifted = sym c.take.ensures.value ∙ c.unwrap-name.ensures in
+    let name = c.unwrap-name.result in
+    let flight = c.at-flight.result.now in
+    let named = find-named (λ (f : Flight). f.name) name state.flights flight (sym at.found ∙ c.at-flight.ensures) in
+    rw c.take.ensures.after
+    (as_many-more c.self.inside.held.steps (steps_in (without name state)) c.hold_flight.new.held.steps (steps_in state) (flight_steps flight) (rw lifted at c.self.invariant) c.hold_flight.ensures.steps
+    (steps-back c.args.airport.now state fits.feasible name c.unwrap-place.result at flight c.at-flight.ensures named))

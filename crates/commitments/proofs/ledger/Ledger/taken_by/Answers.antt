@@ -1,24 +1,30 @@
-use Rattle.std.proofs.Common.{◌∙◌, sym, ap, subst, Some, None}
+use Rattle.std.proofs.Common.{refl, ◌∙◌, sym, ap, subst, Some, None}
 use Rattle.taxi_base.specs.Windows.{Hold}
 use Rattle.taxi_base.specs.Faults.{taken_by}
+use Rattle.std.proofs.lemmas.List.Elements.{All-weaker}
+use Rattle.taxi_base.specs.declared.answers.Flight.{Flight}
+use Rattle.taxi_base.specs.Walks.{IsFeasibleWalk}
+use Rattle.taxi_base.specs.State.{conditions_of, holds_in, without}
+use Rattle.commitments.specs.Taken.{AreInTurn}
+use Rattle.commitments.proofs.Numbers.{walk-in_turn}
 use Rattle.commitments.specs.Book.{Book, Fits}
 use Rattle.commitments.specs.Holders.{state_of}
 use Rattle.commitments.proofs.Fitting.{stands-unlifted}
 use Rattle.commitments.proofs.TakenCause.{taken_by-found, taken_by-in_window}
 use Rattle.commitments.proofs.ledger.Ledger.taken_by.Goals as goal
 
-pub window_at-requires-clause-segment : goal.window_at-requires-clause-segment
-window_at-requires-clause-segment c =
+pub is_free-requires-clause-segment : goal.is_free-requires-clause-segment
+is_free-requires-clause-segment c =
     let fits = subst (Fits c.args.airport.now) (sym c.self.view_is) c.requires.fits in
-    rw fits.lists c.requires.segment
+    rw (c.store.ensures, fits.lists) c.requires.segment
 
-pub returns-then-is_some : goal.returns-then-is_some
-returns-then-is_some c =
+pub returns-then-is_free : goal.returns-then-is_free
+returns-then-is_free c =
     let hold : Hold = record { segment = c.args.segment; span = c.args.span } in
     let fits = subst (Fits c.args.airport.now) (sym c.self.view_is) c.requires.fits in
     let unlifted = ap (λ (b : Book). b.lifted) c.self.view_is ∙ c.requires.unlifted in
     sym (taken_by-in_window c.args.airport.now (state_of c.self.inside.holders) hold c.requires.segment c.requires.in_time
-    c.self.inside.store c.window_at.result (stands-unlifted c.args.airport.now _ fits unlifted) (rw fits.lists c.requires.segment) c.window_at.ensures (sym c.if-is_some.ensures))
+    c.self.inside.held.store (stands-unlifted c.args.airport.now _ fits unlifted) (rw fits.lists c.requires.segment) (rw c.store.ensures at c.if-is_free.ensures.0 refl))
     ∙ ap (λ (b : Book). taken_by c.args.airport.now b.state hold) c.self.view_is
 
 pub returns-in_err-at : goal.returns-in_err-at
@@ -33,3 +39,10 @@ returns c =
     let hold : Hold = record { segment = c.args.segment; span = c.args.span } in
     sym (taken_by-found c.args.airport.now (state_of c.self.inside.holders) hold c.requires.segment c.requires.in_time (Some (c.in_ok-at.at, c.in_ok-at.by)) c.in_ok-at.ensures)
     ∙ ap (λ (b : Book). taken_by c.args.airport.now b.state hold) c.self.view_is
+
+pub first_taken-requires-clause-in_turn : goal.first_taken-requires-clause-in_turn
+first_taken-requires-clause-in_turn c =
+    let fits = subst (Fits c.args.airport.now) (sym c.self.view_is) c.requires.fits in
+    let state = state_of c.self.inside.holders in
+    All-weaker (λ (f : Flight). IsFeasibleWalk (conditions_of c.args.airport.now state f) f.steps) (λ (f : Flight). AreInTurn f.steps)
+    (λ f walk. walk-in_turn c.args.airport.now c.keep_rules.ensures f.class (holds_in c.args.airport.now (without f.name state)) f.steps walk) state.flights fits.feasible.walks

@@ -1,4 +1,4 @@
-use Rattle.std.proofs.Common.{◌≡◌, List, length, get_or, IsTrue, refl, sym, ◌∙◌, ap, subst, arith}
+use Rattle.std.proofs.Common.{◌≡◌, List, length, get_or, IsTrue, refl, sym, ◌∙◌, ap, subst}
 use Rattle.taxi_base.specs.declared.numbers.Arc.{Arc}
 use Rattle.taxi_base.specs.Airport.{arc_exists}
 use Rattle.place_cells.specs.Turns.{next_arcs, no_arc}
@@ -30,5 +30,5 @@ returns c =
     let part : IsArcPart g next c.args.ready c.args.last c.part.result = subst (λ (a : Arc). IsArcPart g a c.args.ready c.args.last c.part.result) read c.part.ensures in
     record {
       permitted = part_follows g lists s.numbers.now.numbered s.room c.args.cell parts.0 next c.args.ready c.args.last c.part.result part exists permitted;
-      expansions_in = expansions_in_part g lists s.numbers.now.numbered s.room c.args.cell parts.0 next c.args.ready c.args.last c.part.result part exists c.args.ready refl (omega (arith, c.requires.last));
+      expansions_in = expansions_in_part g lists s.numbers.now.numbered s.room c.args.cell parts.0 next c.args.ready c.args.last c.part.result part exists c.args.ready refl;
     }

@@ -1,19 +1,19 @@
-use Rattle.std.proofs.Common.{◌≡◌, ◌+◌, ◌/◌, List, Option, None, Bool, false, replicate, refl, sym, subst, rules}
+use Rattle.std.proofs.Common.{◌≡◌, ◌+◌, ◌/◌, List, Option, None, replicate, sym, ap, ◌∙◌, subst, rules}
+use Rattle.label_search.specs.declared.cells.Run.{Run}
 use Rattle.label_search.specs.declared.labels.Label.{Label}
-use Rattle.label_search.specs.Marks.{AreMarked, AreGrouped}
-use Rattle.label_search.proofs.MarkLaws.{marked_none, grouped_none}
+use Rattle.label_search.specs.Groups.{no_cells, AreGathered, HaveNothing}
+use Rattle.label_search.proofs.GroupLaws.{gathered_none, nothing_yet}
 use Rattle.label_search.proofs.labels.Labels.new.Goals as goal
 
-pub invariant_of-result-clause-marked : goal.invariant_of-result-clause-marked
-invariant_of-result-clause-marked c =
+pub invariant_of-result-clause-gathered : goal.invariant_of-result-clause-gathered
+invariant_of-result-clause-gathered c =
     let known : c.in_ok-from_elem.field-0.items ≡ replicate c.args.count None = c.in_ok-from_elem.ensures.items_if_clones_equal (λ y same. search (rules)) in
-    let marks = c.in_ok-from_elem-2.ensures.items_if_clones_equal (λ y same. same) in
-    subst (λ (ks : List (Option Label)). AreMarked ks c.in_ok-from_elem-2.field-0.items) (sym known)
-    (subst (λ (ms : List Bool). AreMarked (replicate c.args.count None) ms) (sym marks) (marked_none c.args.count (c.args.count / 4 + 1) None refl))
+    let groups : c.in_ok-from_elem-2.field-0.items ≡ replicate (c.args.count / 64 + 1) no_cells =
+    c.in_ok-from_elem-2.ensures.items_if_clones_equal (λ y same. same) ∙ ap (replicate (c.args.count / 64 + 1)) c.nothing.ensures in
+    subst (λ (ks : List (Option Label)). AreGathered ks c.in_ok-from_elem-2.field-0.items) (sym known)
+    (subst (λ (gs : List Run). AreGathered (replicate c.args.count None) gs) (sym groups) (gathered_none c.args.count (c.args.count / 64 + 1)))
 
-pub invariant_of-result-clause-grouped : goal.invariant_of-result-clause-grouped
-invariant_of-result-clause-grouped c =
-    let marks = c.in_ok-from_elem-2.ensures.items_if_clones_equal (λ y same. same) in
-    let groups = c.in_ok-from_elem-3.ensures.items_if_clones_equal (λ y same. same) in
-    subst (λ (ms : List Bool). AreGrouped ms c.in_ok-from_elem-3.field-0.items) (sym marks)
-    (subst (λ (gs : List Bool). AreGrouped (replicate (c.args.count / 4 + 1) false) gs) (sym groups) (grouped_none (c.args.count / 4 + 1) ((c.args.count / 4 + 1) / 16 + 1)))
+pub invariant_of-result-clause-untouched : goal.invariant_of-result-clause-untouched
+invariant_of-result-clause-untouched c =
+    let known : c.in_ok-from_elem.field-0.items ≡ replicate c.args.count None = c.in_ok-from_elem.ensures.items_if_clones_equal (λ y same. search (rules)) in
+    λ _. subst (λ (ks : List (Option Label)). HaveNothing ks) (sym known) (nothing_yet c.args.count)

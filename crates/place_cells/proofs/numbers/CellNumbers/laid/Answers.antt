@@ -10,8 +10,8 @@ pub loop-arc-preserved : goal.loop-arc-preserved
 loop-arc-preserved c =
     let store = c.args.store.now in let n = c.loop-arc.arc in
     let row : c.spans-windows.result.now ≡ get_or (windows_of store) (n / 2) [] = c.spans-windows.ensures.spans ∙ sym (windows_of-at store (n / 2)) in
-    let room : ℕ = c.saturating_add.result in
-    let fits : length (get_or (windows_of store) (n / 2) []) ≤ room = omega (arith, ap length row, c.saturating_add.ensures, c.spans-windows.type_inv) in
+    let room : ℕ = c.block_for.result in
+    let fits : length (get_or (windows_of store) (n / 2) []) ≤ room = omega (arith, ap length row, c.block_for.ensures, c.spans-windows.type_inv) in
     let grown = numbered_to_more (windows_of store) n room c.loop-arc.spots.items c.loop-arc.first.items c.loop-arc.invariant fits (subst (AreApart 0) row c.spans-windows.ensures.apart) in
     let spots : c.push_block.new.spots.items ≡ c.loop-arc.spots.items ++ block (record { 0 = n }) room = c.in_ok-push_block.ensures in
     let count : c.len.result ≡ length (c.loop-arc.spots.items ++ block (record { 0 = n }) room) = omega (arith, c.len.ensures, c.push_block.new.spots.ok.0, ap length spots) in

@@ -1,4 +1,5 @@
 use Rattle.std.proofs.Common.{[], arith}
+use Rattle.window_store.specs.Store.{no_list}
 use Rattle.window_store.proofs.Fresh.{AreFresh-none, AreFresh-push, fresh-store, fresh-room, fresh-stands}
 use Rattle.window_store.proofs.Wholes.{ends-standing}
 use Rattle.window_store.proofs.store.WindowStore.new.Goals as goal
@@ -27,3 +28,6 @@ returns-clause-segments c = omega (arith, c.loop.invariant.count, c.loop.auto.co
 
 pub returns-clause-stands : goal.returns-clause-stands
 returns-clause-stands c sets = fresh-stands sets c.args.horizon c.loop.counter c.loop.lists.items c.loop.ids.next c.loop.invariant
+
+pub returns-clause-nodes : goal.returns-clause-nodes
+returns-clause-nodes c segment low = c.loop.invariant.each segment.0 no_list low

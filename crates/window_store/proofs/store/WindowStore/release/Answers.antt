@@ -2,7 +2,7 @@ use Rattle.std.proofs.Common.{List, length, sym, subst}
 use Rattle.taxi_base.specs.Windows.{Hold, holds_of}
 use Rattle.window_store.specs.Spans.{Listed}
 use Rattle.window_store.specs.Store.{of_lists_and_ids, IsStore, HaveRoom, EndBy}
-use Rattle.window_store.specs.Stands.{StandsFor, HasRoomFor, route_holds}
+use Rattle.window_store.specs.Stands.{StandsFor, HasRoomFor}
 use Rattle.window_store.specs.Kept.{KeepsWindows, KeepsNodes, IsClearOf}
 use Rattle.window_store.specs.Edits.{of_lists, AreReleased}
 use Rattle.window_store.proofs.Wholes.{written, IsStore-kept, KeepsNodes-kept, KeepsNodes-whole, room-standing, ends-standing, released-all, released-kept, released-room}
@@ -18,7 +18,7 @@ pub invariant_of-self : goal.invariant_of-self
 invariant_of-self g c =
     let old : List Listed = c.self.inside.lists.items in
     let new : List Listed = c.release_steps.new.lists in
-    let rest : List Hold = route_holds c.self.inside.horizon (g.R.Routes.listed c.args.remaining.now) in
+    let rest : List Hold = g.R.OtherHolds.holds c.args.remaining.now in
     let released : AreReleased c.args.conflicts.now.sets c.self.inside.horizon c.args.clearance rest c.args.steps.now (length c.args.steps.now) old new = rw c.deref_mut.ensures.value at c.release_steps.ensures in
     let back = sym (written c.self.inside.lists new released.owned.as_many) in
     let some = rw (← c.self.view_is) at c.requires.stands in
@@ -33,7 +33,7 @@ pub returns-clause-stands : goal.returns-clause-stands
 returns-clause-stands g c =
     let old : List Listed = c.self.inside.lists.items in
     let new : List Listed = c.release_steps.new.lists in
-    let rest : List Hold = route_holds c.self.inside.horizon (g.R.Routes.listed c.args.remaining.now) in
+    let rest : List Hold = g.R.OtherHolds.holds c.args.remaining.now in
     let released : AreReleased c.args.conflicts.now.sets c.self.inside.horizon c.args.clearance rest c.args.steps.now (length c.args.steps.now) old new = rw c.deref_mut.ensures.value at c.release_steps.ensures in
     let back = sym (written c.self.inside.lists new released.owned.as_many) in
     let some = rw (← c.self.view_is) at c.requires.stands in
@@ -43,7 +43,7 @@ pub returns-clause-room : goal.returns-clause-room
 returns-clause-room g c =
     let old : List Listed = c.self.inside.lists.items in
     let new : List Listed = c.release_steps.new.lists in
-    let rest : List Hold = route_holds c.self.inside.horizon (g.R.Routes.listed c.args.remaining.now) in
+    let rest : List Hold = g.R.OtherHolds.holds c.args.remaining.now in
     let released : AreReleased c.args.conflicts.now.sets c.self.inside.horizon c.args.clearance rest c.args.steps.now (length c.args.steps.now) old new = rw c.deref_mut.ensures.value at c.release_steps.ensures in
     let back = sym (written c.self.inside.lists new released.owned.as_many) in
     let some = rw (← c.self.view_is) at c.requires.stands in
@@ -53,7 +53,7 @@ pub returns-clause-kept : goal.returns-clause-kept
 returns-clause-kept g c =
     let old : List Listed = c.self.inside.lists.items in
     let new : List Listed = c.release_steps.new.lists in
-    let rest : List Hold = route_holds c.self.inside.horizon (g.R.Routes.listed c.args.remaining.now) in
+    let rest : List Hold = g.R.OtherHolds.holds c.args.remaining.now in
     let released : AreReleased c.args.conflicts.now.sets c.self.inside.horizon c.args.clearance rest c.args.steps.now (length c.args.steps.now) old new = rw c.deref_mut.ensures.value at c.release_steps.ensures in
     let back = sym (written c.self.inside.lists new released.owned.as_many) in
     rw (← c.self.view_is)
@@ -63,7 +63,7 @@ pub returns-clause-nodes : goal.returns-clause-nodes
 returns-clause-nodes g c =
     let old : List Listed = c.self.inside.lists.items in
     let new : List Listed = c.release_steps.new.lists in
-    let rest : List Hold = route_holds c.self.inside.horizon (g.R.Routes.listed c.args.remaining.now) in
+    let rest : List Hold = g.R.OtherHolds.holds c.args.remaining.now in
     let released : AreReleased c.args.conflicts.now.sets c.self.inside.horizon c.args.clearance rest c.args.steps.now (length c.args.steps.now) old new = rw c.deref_mut.ensures.value at c.release_steps.ensures in
     let back = sym (written c.self.inside.lists new released.owned.as_many) in
     let next = c.self.inside.ids.next in

@@ -1,0 +1,4 @@
+use Rattle.check_rows.proofs.known.KnownWindows.put_firsts.Goals as goal
+
+pub returns : goal.returns
+returns c segments free are = record { count = are.count; each = are.each }

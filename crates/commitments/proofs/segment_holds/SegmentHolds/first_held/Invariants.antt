@@ -1,0 +1,7 @@
+use Rattle.std.proofs.Common.{take}
+use Rattle.window_store.specs.Held.{IsFirstHeld}
+use Rattle.commitments.specs.Held.{spans_by}
+use Rattle.commitments.proofs.segment_holds.SegmentHolds.first_held.Given as goal
+
+abbrev pub invariant-loop-held : goal.invariant-loop-held
+invariant-loop-held l = IsFirstHeld (spans_by l.airport (take l.held-index l.held-items)) l.from l.until l.first

@@ -1,0 +1,113 @@
+-- The steps by which holders hold segments, kept by segment.
+use Rattle.std.specs.Prelude.{ℕ, ◌≡◌, ◌+◌, ◌<◌, ◌≤◌, ◌==◌, Bool, IsTrue, List, ◌∷◌, ◌++◌, length, map, flat_map, count_by, slice_index_or, [], All, Option, Some, None}
+use Rattle.std.specs.List.Sorted.{IsNonDecreasingBy}
+use Rattle.taxi_base.specs.declared.numbers.Segment.{Segment}
+use Rattle.taxi_base.specs.declared.numbers.Class.{Class}
+use Rattle.taxi_base.specs.declared.rows.Step.{Step}
+use Rattle.taxi_base.specs.declared.rows.Span.{Span}
+use Rattle.taxi_base.specs.declared.answers.Flight.{Flight}
+use Rattle.taxi_base.specs.declared.answers.Party.{Party}
+use Rattle.taxi_base.specs.Airport.{Airport, conflict, segment_of, clearance_of}
+use Rattle.window_store.specs.Spans.{nodes}
+use Rattle.window_store.specs.Store.{Store, list_at}
+use Rattle.taxi_base.specs.Windows.{Hold, hold_of}
+use Rattle.taxi_base.specs.State.{State, party_step}
+use Rattle.commitments.specs.declared.segment_holds.HeldStep.{HeldStep}
+
+-- the clearance of a flight's class; a party has none
+abbrev pub clearance_after : Airport → Option Class → ℕ
+clearance_after airport None = 0
+clearance_after airport (Some class) = clearance_of airport class
+
+-- what a step holds
+abbrev pub hold_by : Airport → HeldStep → Hold
+hold_by airport held = hold_of airport.horizon (clearance_after airport held.class) held.step
+
+abbrev pub spans_by : Airport → List HeldStep → List Span
+spans_by airport steps = map (λ held. (hold_by airport held).span) steps
+
+-- the steps of a flight of a class, or of a party
+abbrev pub steps_with : Option Class → List Step → List HeldStep
+steps_with class steps = map (λ step. record { step = step; class = class }) steps
+
+-- those of each holder, the parties first, and those of all
+abbrev pub party_steps : Party → List HeldStep
+party_steps party = steps_with None (party_step party ∷ [])
+
+abbrev pub flight_steps : Flight → List HeldStep
+flight_steps flight = steps_with (Some flight.class) flight.steps
+
+abbrev pub steps_of_each : State → List (List HeldStep)
+steps_of_each state = map party_steps state.parties ++ map flight_steps state.flights
+
+abbrev pub joined : List (List HeldStep) → List HeldStep
+joined each = flat_map (λ steps. steps) each
+
+abbrev pub steps_in : State → List HeldStep
+steps_in state = joined (steps_of_each state)
+
+-- the same steps in another order: as many pass each test
+abbrev pub AreAsMany : List HeldStep → List HeldStep → Type 0
+AreAsMany steps others = (test : HeldStep → Bool) → count_by test steps ≡ count_by test others
+
+-- the steps on one segment, and how many there may be without taking memory
+pub record StepList : Type 0 where
+  pub steps : List HeldStep
+  pub capacity : ℕ
+
+abbrev pub no_step : StepList
+no_step = record { steps = []; capacity = 0 }
+
+abbrev pub list_of : List StepList → Segment → StepList
+list_of lists segment = slice_index_or lists segment.0 no_step
+
+-- the steps of all segments
+abbrev pub all_steps : List StepList → List HeldStep
+all_steps lists = flat_map (λ l. l.steps) lists
+
+-- each list has steps on its segment
+abbrev pub AreBySegment : List StepList → Type 0
+AreBySegment lists = (segment : Segment) → segment.0 < length lists → All (λ held. segment_of held.step.arc ≡ segment) (list_of lists segment).steps
+
+-- the steps of a list from one on: those before it hold nothing after a second, and the others begin in order
+pub record AreSince (steps : List HeldStep) (second : ℕ) (rest : List HeldStep) : Type 0 where
+  pub over : List HeldStep
+  pub all : steps ≡ over ++ rest
+  pub short : All (λ held. held.step.leave + 600 ≤ second) over
+  pub rising : IsNonDecreasingBy (λ held. held.step.enter) rest
+
+-- ---- what of the room stays, and what is gained
+
+-- each list has as much room
+pub record KeepsHoldRoom (old new : List StepList) : Type 0 where
+  pub lists : length new ≡ length old
+  pub capacity : (segment : Segment) → (list_of new segment).capacity ≡ (list_of old segment).capacity
+
+-- each list has the same steps and at least as much room
+pub record GainsHoldRoom (old new : List StepList) : Type 0 where
+  pub lists : length new ≡ length old
+  pub steps : all_steps new ≡ all_steps old
+  pub capacity : (segment : Segment) → (list_of old segment).capacity ≤ (list_of new segment).capacity
+
+-- each list in conflict with a segment has room for as many steps as the store counts holds there, and for some more
+abbrev pub HasRoomInConflict : List (List Segment) → Store → ℕ → Segment → List StepList → Type 0
+HasRoomInConflict sets store more segment lists =
+    (s : Segment) → IsTrue (conflict sets segment s) → (list_at store s).held + more ≤ (list_of lists s).capacity
+
+-- each list has room for those of some steps that lie on its segment
+abbrev pub HaveRoomForSteps : List Step → List StepList → Type 0
+HaveRoomForSteps steps lists =
+    (segment : Segment) → segment.0 < length lists → length (list_of lists segment).steps + count_by (λ s. (segment_of s.arc).0 == segment.0) steps ≤ (list_of lists segment).capacity
+
+-- each list has room for one step fewer than there are nodes in the store
+abbrev pub HasHoldRoom : Store → List StepList → Type 0
+HasHoldRoom store lists = (segment : Segment) → segment.0 < length store.lists → nodes (list_at store segment) ≤ 1 + (list_of lists segment).capacity
+
+-- some steps are among others
+abbrev pub AreAmong : List HeldStep → List HeldStep → Type 0
+AreAmong some steps = (rest : List HeldStep) × AreAsMany steps (rest ++ some)
+
+-- the free windows, and the steps that leave them
+pub record HeldBook : Type 0 where
+  pub store : Store
+  pub steps : List HeldStep

@@ -1,0 +1,201 @@
+//! The steps that hold segments, by segment.
+ghost use Rattle.std.specs.Prelude.{◌≡◌, ◌+◌, ◌/◌, ◌^◌, ◌<◌, ◌≤◌, ◌==◌, if◌then◌else◌, ◌∷◌, ◌++◌, [], length, All, Contains, IfOk, OnOk};
+ghost use Rattle.window_store.specs.Held.{IsFirstHeld};
+ghost use Rattle.window_store.specs.Conflicting.{ReachesUpTo};
+ghost use Rattle.taxi_base.specs.declared.numbers.Segment.{Segment as SegmentNumber};
+ghost use Rattle.taxi_base.specs.Airport.{segment_of};
+ghost use Rattle.window_store.specs.Stands.{AreOnSegments};
+ghost use Rattle.commitments.specs.Held.{steps_with, all_steps, list_of, spans_by, AreAsMany, HaveRoomForSteps, AreBySegment, KeepsHoldRoom, GainsHoldRoom, HasRoomInConflict, AreAmong};
+
+use crate::segment_holds::{HeldStep, SegmentHolds};
+use airport_file::Airport;
+use conflict_sets::Conflicts;
+use segment_graph::segment_of;
+use std::alloc::Global;
+use std::marker::Model;
+use taxi_base::{Class, Memory, Segment, Step, Time};
+use window_store::{OtherHolds, WindowStore};
+
+/// The steps that hold segments, by segment.
+#[derive(Drop)]
+pub(crate) struct HoldIndex {
+    lists: Vec<SegmentHolds>,
+}
+
+impl Model for HoldIndex {
+    ghost use Rattle.std.specs.Prelude.{List};
+    ghost use Rattle.commitments.specs.Held.{StepList, AreBySegment};
+
+    ghost Value = { List StepList };
+
+    ghost view = { λ i. i.lists.items };
+
+    ghost invariant = { λ i. AreBySegment i.lists.items };
+}
+
+impl HoldIndex {
+    /// Nothing is held on so many segments.
+    pub(crate) fn new(alloc: Global, segments: usize) -> Result<HoldIndex, Memory>
+        ensures segments { IfOk result (λ i. length i ≡ segments) }
+        ensures none { IfOk result (λ i. all_steps i ≡ []) }
+    {
+        let mut lists = Vec::new(alloc);
+        for _ in 0..segments {
+            lists.push(SegmentHolds::new(alloc))?;
+        }
+        Ok(HoldIndex { lists })
+    }
+
+    /// Makes room on each segment in conflict with a step: for as many steps as the store counts there, and for all of these.
+    /// The steps stay, also where memory runs out.
+    pub(crate) fn reserve(
+        &mut self,
+        conflicts: &Conflicts,
+        store: &WindowStore,
+        steps: &[Step],
+    ) -> Result<(), Memory>
+        requires segments { length self.old ≡ conflicts.now.segments }
+        requires lists { length store.now.lists ≡ conflicts.now.segments }
+        requires steps { AreOnSegments conflicts.now.segments steps.now }
+        requires few { All (λ l. l.held + length steps.now < 2 ^ 33) store.now.lists }
+        ensures room { OnOk result (All (λ step. HasRoomInConflict conflicts.now.sets store.now (length steps.now) (segment_of step.arc) self.new) steps.now) }
+        ensures gained { GainsHoldRoom self.old self.new }
+    {
+        for step in steps {
+            self.reserve_for_step(conflicts, store, step, steps.len())?;
+        }
+        Ok(())
+    }
+
+    fn reserve_for_step(
+        &mut self,
+        conflicts: &Conflicts,
+        store: &WindowStore,
+        step: &Step,
+        more: usize,
+    ) -> Result<(), Memory>
+        requires segments { length self.old ≡ conflicts.now.segments }
+        requires lists { length store.now.lists ≡ conflicts.now.segments }
+        requires step { step.now.arc.0 / 2 < conflicts.now.segments }
+        requires few { All (λ l. l.held + more < 2 ^ 33) store.now.lists }
+        ensures room { OnOk result (HasRoomInConflict conflicts.now.sets store.now more (segment_of step.now.arc) self.new) }
+        ensures gained { GainsHoldRoom self.old self.new }
+    {
+        for segment in conflicts.of(segment_of(step.arc)) {
+            self.make_room(*segment, store.held(*segment) + more)?;
+        }
+        Ok(())
+    }
+
+    // Makes room for so many steps together on a segment.
+    fn make_room(&mut self, segment: Segment, wanted: usize) -> Result<(), Memory>
+        requires { segment.0 < length self.old }
+        ensures room { OnOk result (wanted ≤ (list_of self.new segment).capacity) }
+        ensures gained { GainsHoldRoom self.old self.new }
+    {
+        self.lists[segment.0 as usize].make_room(wanted)
+    }
+
+    /// Puts steps among the others. It needs no memory.
+    pub(crate) fn insert(&mut self, steps: &[Step], class: Option<Class>)
+        requires segments { AreOnSegments (length self.old) steps.now }
+        requires room { HaveRoomForSteps steps.now self.old }
+        ensures steps { AreAsMany (all_steps self.old ++ steps_with class steps.now) (all_steps self.new) }
+        ensures capacity { KeepsHoldRoom self.old self.new }
+    {
+        for step in steps {
+            self.insert_one(HeldStep { step: *step, class });
+        }
+    }
+
+    fn insert_one(&mut self, held: HeldStep)
+        requires segment { held.step.arc.0 / 2 < length self.old }
+        requires room { length (list_of self.old (segment_of held.step.arc)).steps < (list_of self.old (segment_of held.step.arc)).capacity }
+        ensures steps { AreAsMany (held ∷ all_steps self.old) (all_steps self.new) }
+        ensures lengths { (segment : SegmentNumber) → length (list_of self.new segment).steps ≡ length (list_of self.old segment).steps + (if held.step.arc.0 / 2 == segment.0 then 1 else 0) }
+        ensures capacity { KeepsHoldRoom self.old self.new }
+    {
+        self.lists[segment_of(held.step.arc).0 as usize].insert(held);
+    }
+
+    /// Takes steps out that are among the others. It needs no memory.
+    pub(crate) fn remove(&mut self, steps: &[Step], class: Option<Class>)
+        requires segments { AreOnSegments (length self.old) steps.now }
+        requires among { AreAmong (steps_with class steps.now) (all_steps self.old) }
+        ensures steps { AreAsMany (all_steps self.old) (all_steps self.new ++ steps_with class steps.now) }
+        ensures capacity { KeepsHoldRoom self.old self.new }
+    {
+        for step in steps {
+            self.remove_one(HeldStep { step: *step, class });
+        }
+    }
+
+    fn remove_one(&mut self, held: HeldStep)
+        requires segment { held.step.arc.0 / 2 < length self.old }
+        requires there { Contains (all_steps self.old) held }
+        ensures steps { AreAsMany (all_steps self.old) (held ∷ all_steps self.new) }
+        ensures capacity { KeepsHoldRoom self.old self.new }
+    {
+        self.lists[segment_of(held.step.arc).0 as usize].remove(held);
+    }
+
+    /// Each list has steps on its segment.
+    pub(crate) fn keep_segments(&self)
+        ensures { AreBySegment self.now }
+    {
+        let _lists = &self.lists;
+    }
+
+    // The first second that a step on a segment has, from `from` on and before `until`; `until` where none has one.
+    fn first_held(&self, airport: &Airport, segment: Segment, from: Time, until: Time) -> Time
+        requires { from ≤ until }
+        ensures { IsFirstHeld (spans_by airport.now (list_of self.now segment).steps) from until result }
+    {
+        match self.lists.get(segment.0 as usize) {
+            Some(list) => list.first_held(airport, from, until),
+            None => until,
+        }
+    }
+
+    // Up to when a step on a segment has each second from one on; that second where none has it.
+    fn held_until(&self, airport: &Airport, segment: Segment, from: Time) -> Time
+        ensures { ReachesUpTo (spans_by airport.now (list_of self.now segment).steps) from result }
+    {
+        match self.lists.get(segment.0 as usize) {
+            Some(list) => list.held_until(airport, from),
+            None => from,
+        }
+    }
+}
+
+/// What the steps of an index hold at an airport.
+#[derive(Drop)]
+pub(crate) struct IndexHolds<'a> {
+    pub(crate) index: &'a HoldIndex,
+    pub(crate) airport: &'a Airport,
+}
+
+impl<'a> OtherHolds for IndexHolds<'a> {
+    ghost use Rattle.std.specs.Prelude.{map};
+    ghost use Rattle.commitments.specs.Held.{hold_by, all_steps};
+
+    ghost holds = { λ h. map (hold_by h.airport.now) (all_steps h.index.now) };
+
+    fn first_held(&self, conflicts: &Conflicts, segment: Segment, from: Time, until: Time) -> Time {
+        self.index.keep_segments();
+        let mut first = until;
+        for other in conflicts.of(segment) {
+            first = self.index.first_held(self.airport, *other, from, first);
+        }
+        first
+    }
+
+    fn held_until(&self, conflicts: &Conflicts, segment: Segment, from: Time) -> Time {
+        self.index.keep_segments();
+        let mut until = from;
+        for other in conflicts.of(segment) {
+            until = until.max(self.index.held_until(self.airport, *other, from));
+        }
+        until
+    }
+}

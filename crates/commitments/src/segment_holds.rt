@@ -1,0 +1,192 @@
+//! The steps that hold one segment itself, in the order in which they begin.
+ghost use Rattle.std.specs.Prelude.{◌≡◌, ◌≢◌, ◌↔◌, ◌+◌, ◌<◌, ◌≤◌, [], ◌∷◌, length, Some, slice_get, All, Contains, IsTrue, IfSome, IfNone, OnOk};
+ghost use Rattle.std.specs.List.{AllWithin};
+ghost use Rattle.std.specs.List.Sorted.{IsPermutation, IsNonDecreasingBy};
+ghost use Rattle.window_store.specs.Held.{IsFirstHeld};
+ghost use Rattle.window_store.specs.Conflicting.{ReachesUpTo};
+ghost use Rattle.commitments.specs.Held.{hold_by, clearance_after, spans_by, AreSince};
+
+use crate::holds::keep_rules;
+use airport_file::Airport;
+use std::alloc::Global;
+use std::marker::Model;
+use taxi_base::{Class, Memory, Span, Step, Time};
+
+/// A step by which a segment is held, with the class of its flight; a work party's has none.
+#[derive(Clone, Copy, PartialEq, Eq)]
+pub(crate) struct HeldStep {
+    pub(crate) step: Step,
+    pub(crate) class: Option<Class>,
+}
+
+impl HeldStep {
+    // For which seconds it holds its segment.
+    fn span(&self, airport: &Airport) -> Span
+        ensures { result ≡ (hold_by airport.now self.now).span }
+    {
+        self.step
+            .held(airport.horizon(), clearance_after(airport, self.class))
+    }
+}
+
+/// For how long a flight of a class keeps a segment shut after leaving it; a party does not.
+pub(crate) fn clearance_after(airport: &Airport, class: Option<Class>) -> Time
+    ensures clearance { result ≡ clearance_after airport.now class }
+    ensures range { result ≤ 600 }
+{
+    class.map_or(0, |class| airport.clearance(class))
+}
+
+/// The steps that hold one segment, in the order in which they begin.
+#[derive(Drop)]
+pub(crate) struct SegmentHolds {
+    steps: Vec<HeldStep>,
+    // No step holds the segment for longer, its clearance among that.
+    longest: u64,
+}
+
+impl Model for SegmentHolds {
+    ghost use Rattle.std.specs.Prelude.{◌+◌, ◌≤◌, All, vec_capacity};
+    ghost use Rattle.std.specs.List.Sorted.{IsNonDecreasingBy};
+    ghost use Rattle.commitments.specs.Held.{StepList};
+
+    ghost Value = { StepList };
+
+    ghost view = { λ l. record { steps = l.steps.items; capacity = vec_capacity l.steps } };
+
+    ghost invariant = { λ l. IsNonDecreasingBy (λ held. held.step.enter) l.steps.items × All (λ s. s.step.leave + 600 ≤ s.step.enter + l.longest) l.steps.items };
+}
+
+impl SegmentHolds {
+    /// No step.
+    pub(crate) fn new(alloc: Global) -> SegmentHolds
+        ensures { result.steps ≡ [] }
+    {
+        SegmentHolds {
+            steps: Vec::new(alloc),
+            longest: 0,
+        }
+    }
+
+    /// Makes room for so many steps together. The steps stay, also where memory runs out.
+    pub(crate) fn make_room(&mut self, wanted: usize) -> Result<(), Memory>
+        ensures room { OnOk result (wanted ≤ self.new.capacity) }
+        ensures steps { self.new.steps ≡ self.old.steps }
+        ensures kept { self.old.capacity ≤ self.new.capacity }
+    {
+        let lacking = wanted.saturating_sub(self.steps.len());
+        self.steps.reserve(lacking)?;
+        Ok(())
+    }
+
+    /// Puts a step among the others. It needs no memory.
+    pub(crate) fn insert(&mut self, held: HeldStep)
+        requires { length self.old.steps < self.old.capacity }
+        ensures steps { IsPermutation (held ∷ self.old.steps) self.new.steps }
+        ensures capacity { self.new.capacity ≡ self.old.capacity }
+    {
+        let place = begun_before(&self.steps, u64::from(held.step.enter));
+        let reach = u64::from(held.step.leave) + 600;
+        self.longest = self
+            .longest
+            .max(reach.saturating_sub(u64::from(held.step.enter)));
+        self.steps.insert(place, held).unwrap();
+    }
+
+    /// Takes a step out. It needs no memory.
+    pub(crate) fn remove(&mut self, held: HeldStep)
+        requires { Contains self.old.steps held }
+        ensures steps { IsPermutation self.old.steps (held ∷ self.new.steps) }
+        ensures capacity { self.new.capacity ≡ self.old.capacity }
+    {
+        let place = self.place(&held);
+        self.steps.remove(place);
+        if self.steps.is_empty() {
+            self.longest = 0;
+        }
+    }
+
+    // Where a step is.
+    fn place(&self, held: &HeldStep) -> usize
+        requires { Contains self.now.steps held.now }
+        ensures here { result < length self.now.steps }
+        ensures is { slice_get self.now.steps result ≡ Some held.now }
+    {
+        let start = begun_before(&self.steps, u64::from(held.step.enter));
+        start + place_among(&self.steps[start..], held).unwrap()
+    }
+
+    /// The first second that a step has, from `from` on and before `until`; `until` where none has one.
+    pub(crate) fn first_held(&self, airport: &Airport, from: Time, until: Time) -> Time
+        requires { from ≤ until }
+        ensures { IsFirstHeld (spans_by airport.now self.now.steps) from until result }
+    {
+        keep_rules(airport);
+        let mut first = until;
+        for held in self.since(from) {
+            let span = held.span(airport);
+            if first <= span.from {
+                return first;
+            }
+            let begin = from.max(span.from);
+            if begin < span.until {
+                first = first.min(begin);
+            }
+        }
+        first
+    }
+
+    /// Up to when a step has each second from one on; that second where none has it.
+    pub(crate) fn held_until(&self, airport: &Airport, from: Time) -> Time
+        ensures { ReachesUpTo (spans_by airport.now self.now.steps) from result }
+    {
+        keep_rules(airport);
+        for held in self.since(from) {
+            let span = held.span(airport);
+            if from < span.from {
+                return from;
+            }
+            if from < span.until {
+                return span.until;
+            }
+        }
+        from
+    }
+
+    // The steps from the first on that may reach beyond a second.
+    fn since(&self, second: Time) -> &[HeldStep]
+        ensures { AreSince self.now.steps second result.now }
+    {
+        let past = (u64::from(second) + 1).saturating_sub(self.longest);
+        &self.steps[begun_before(&self.steps, past)..]
+    }
+}
+
+// How many of some steps begin before a second.
+fn begun_before(steps: &[HeldStep], second: u64) -> usize
+    requires { IsNonDecreasingBy (λ held. held.step.enter) steps.now }
+    ensures few { result ≤ length steps.now }
+    ensures before { AllWithin (λ s. s.step.enter < second) steps.now 0 result }
+    ensures after { AllWithin (λ s. second ≤ s.step.enter) steps.now result (length steps.now) }
+{
+    steps.partition_point(|held| u64::from(held.step.enter) < second)
+}
+
+// The place of a step among others.
+fn place_among(steps: &[HeldStep], held: &HeldStep) -> Option<usize>
+    ensures some { IfSome result (λ k. slice_get steps.now k ≡ Some held.now) }
+    ensures none { IfNone result (All (λ other. other ≢ held.now) steps.now) }
+{
+    for (place, other) in steps.iter().enumerate() {
+        if is_same(other, held) {
+            return Some(place);
+        }
+    }
+    None
+}
+
+fn is_same(one: &HeldStep, other: &HeldStep) -> bool
+    ensures { IsTrue result ↔ one.now ≡ other.now }
+{
+    *one == *other
+}

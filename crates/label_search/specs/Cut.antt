@@ -1,0 +1,25 @@
+-- Which problem has only the seconds up to one?
+use Rattle.std.specs.Prelude.{ℕ, min}
+use Rattle.label_core.specs.Walks.{Network}
+use Rattle.label_search.specs.Problem.{Problem}
+
+-- no step may leave after the second
+abbrev pub cut_network : ℕ → Network ℕ → Network ℕ
+cut_network until net = record {
+  from = net.from;
+  last = λ c. min (net.last c) until;
+  seconds = net.seconds;
+  turn = net.turn;
+}
+
+abbrev pub cut_problem : ℕ → Problem → Problem
+cut_problem until p = record {
+  network = cut_network until p.network;
+  starts = p.starts;
+  target = p.target;
+  count = p.count;
+  runs = p.runs;
+  run = p.run;
+  first_runs = p.first_runs;
+  first_run = p.first_run;
+}

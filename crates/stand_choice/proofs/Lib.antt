@@ -1,0 +1,4 @@
+pub mod FirstNames
+pub mod EndNodes
+pub mod ArrivalWays
+pub mod DepartureWays
