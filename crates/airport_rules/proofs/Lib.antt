@@ -4,5 +4,6 @@ pub mod ArcLaws
 pub mod AirportViews
 pub mod MemberLaws
 pub mod ConflictLaws
+pub mod LinkLaws
 pub mod SoundLaws
 pub mod WellFormed

@@ -1,6 +1,6 @@
 -- The rules let only sound plans through.
 use Rattle.std.proofs.Common.{◌≡◌, ◌≢◌, ℕ, ◌<◌, ◌≤◌, ◌+◌, ◌/◌, ◌%◌, zero, suc, Bool, true, false, List, [], ◌∷◌, ◌++◌, length, length-append, Option, Some, None, Ok, Err, refl, ap, subst, arith, ◌∙◌, inl, inr, lit≤}
-use Rattle.std.specs.Prelude.{Result, All, AllPairs, IsTrue, ◌==◌, ◌&&◌, ◌||◌, not, nat_le, is_some, slice_get, option_map, option_and_then, bytes_eq, codes, if◌then◌else◌}
+use Rattle.std.specs.Prelude.{Result, All, AllPairs, IsTrue, ◌==◌, ◌&&◌, ◌||◌, not, nat_le, is_some, bytes_eq, codes, if◌then◌else◌}
 use Rattle.std.specs.List.{list_all}
 use Rattle.std.proofs.lemmas.Bool.{cases_Bool, eqb-true}
 use Rattle.std.proofs.lemmas.Bool.Decides.{nat_tests}
@@ -12,7 +12,7 @@ use Rattle.taxi_base.specs.declared.numbers.Node.{Node}
 use Rattle.taxi_base.specs.declared.numbers.Segment.{Segment}
 use Rattle.taxi_base.specs.declared.numbers.Arc.{Arc}
 use Rattle.taxi_base.specs.Words.{is_name}
-use Rattle.taxi_base.specs.Airport.{Link, Layout, AreNames, place_of, Ends, ends_of_link, IsConflictSet, head, tail, meet, ends, pair_precedes, arc_of, own_ends, link_ends, is_forbidden}
+use Rattle.taxi_base.specs.Airport.{Link, Layout, AreNames, place_of, IsConflictSet, pair_precedes, arc_of, is_forbidden}
 use Rattle.taxi_text.specs.Fields.{number_of, arc_word_of}
 use Rattle.airport_rules.specs.declared.rows.TimeRow.{TimeRow}
 use Rattle.airport_rules.specs.declared.rows.ClearanceRow.{ClearanceRow}
@@ -23,7 +23,7 @@ use Rattle.airport_rules.specs.Plan.{Plan, empty_plan, layout_of_plan}
 use Rattle.airport_rules.specs.Rules.{◌>>=◌, kind_of, both_of, refused, some_or, is_given, is_crowded, judge, judge_horizon, judge_node, judge_class, judge_link, judge_segment, judge_seconds, judge_clearance, judge_turn, judge_forbid, judge_members, judge_conflict, judge_horizon_row, judge_node_row, judge_class_row, judge_segment_row, judge_seconds_row, judge_clearance_row, judge_forbid_row, judge_conflict_row, members_of, repeats, number_within, within, is_timed, has_clearance, goes_on, with_pair, in_order}
 use Rattle.airport_rules.specs.declared.faults.AirportFault.TheVariants.{FieldCount}
 use Rattle.airport_rules.proofs.ConflictLaws.{order-in_order, length-in_order, All-in_order, members-of}
-use Rattle.airport_rules.proofs.CountLaws.{link_ends-push}
+use Rattle.airport_rules.proofs.LinkLaws.{both_true, goes_on-links, goes_on-more, degree-more}
 use Rattle.airport_rules.proofs.AirportViews.{place-within}
 use Rattle.name_list.proofs.PlaceLaws.{not_found-differs}
 use Rattle.airport_rules.specs.Sound.{IsSound, IsSoundTime, IsSoundClearance}
@@ -131,11 +131,6 @@ IsSound-class plan new name h e =
       clearances = All-weaker (IsSoundClearance plan) (IsSoundClearance grown) (λ r s. (rw length-append (omega (arith, s.0)), s.1)) plan.clearances h.clearances;
     })
 
--- arcs depend on the links alone
-goes_on-links : (a b : Layout) (x y : Arc) → a.links ≡ b.links → goes_on a x y ≡ goes_on b x y
-unfolding ends
-goes_on-links a b x y e = rw e refl
-
 abbrev GoOn : Layout → Arc × Arc → Type 0
 GoOn layout p = IsTrue (goes_on layout p.0 p.1)
 
@@ -167,56 +162,6 @@ IsSound-node plan new name kind h e =
     })
 
 -- ---- one more segment
-
-slice_get-more : {X : Type 0} (xs : List X) (y x : X) (k : ℕ) → slice_get xs k ≡ Some x → slice_get (xs ++ y ∷ []) k ≡ Some x
-slice_get-more [] y x k e = absurd (cc e)
-slice_get-more (z ∷ xs) y x zero e = e
-slice_get-more (z ∷ xs) y x (suc k) e = slice_get-more xs y x k e
-
--- an arc keeps its ends
-ends-more : (links : List Link) (l : Link) (a b : Layout) (arc : Arc) (e : Ends) → a.links ≡ links → b.links ≡ links ++ l ∷ [] → ends a arc ≡ Some e → ends b arc ≡ Some e
-unfolding ends
-ends-more links l a b arc e old new found = rw new (go (slice_get links (arc.0 / 2)) refl (rw old at found))
-  where
-    go : (o : Option Link) → slice_get links (arc.0 / 2) ≡ o → option_and_then (ends_of_link (arc.0 % 2)) o ≡ Some e
-        → option_and_then (ends_of_link (arc.0 % 2)) (slice_get (links ++ l ∷ []) (arc.0 / 2)) ≡ Some e
-    go (Some k) is h = rw (slice_get-more links l k (arc.0 / 2) is) h
-    go None is h = absurd (cc h)
-
-both_true : (a b : Bool) → (a && b) ≡ true → (a ≡ true) × (b ≡ true)
-both_true true b h = (refl, h)
-both_true false b h = absurd (cc h)
-
-meet-more : (a b c d : Option Ends) → ((e : Ends) → a ≡ Some e → c ≡ Some e) → ((e : Ends) → b ≡ Some e → d ≡ Some e)
-    → meet (option_map (λ e. e.head) a) (option_map (λ e. e.tail) b) ≡ true → meet (option_map (λ e. e.head) c) (option_map (λ e. e.tail) d) ≡ true
-meet-more (Some a) (Some b) c d f g h = rw (f a refl, g b refl) h
-meet-more (Some a) None c d f g h = absurd (cc h)
-meet-more None b c d f g h = absurd (cc h)
-
-goes_on-more : (links : List Link) (l : Link) (a b : Layout) (x y : Arc) → a.links ≡ links → b.links ≡ links ++ l ∷ [] → goes_on a x y ≡ true → goes_on b x y ≡ true
-goes_on-more links l a b x y old new h =
-    let parts = both_true (meet (head a x) (tail a y)) (not (x.0 / 2 == y.0 / 2)) h in
-    let joined = meet-more (ends a x) (ends a y) (ends b x) (ends b y) (λ e. ends-more links l a b x e old new) (λ e. ends-more links l a b y e old new) parts.0 in
-    rw (joined, parts.1) refl
-
--- elsewhere no end is added
-own_ends-other : (k : ℕ) (l : Link) → (l.from.0 == k) ≡ false → (l.to.0 == k) ≡ false → own_ends (record { 0 = k }) l ≡ 0
-own_ends-other k l a b = rw (a, b) refl
-
-degree-more : (links : List Link) (l : Link) → ((node : Node) → link_ends node links ≤ 32) → is_crowded links l ≡ false → (node : Node) → link_ends node (links ++ l ∷ []) ≤ 32
-degree-more links l h room node = elim (cases_Bool (l.from.0 == node.0)) [
-  | inl same ↦
-      let is : l.from.0 ≡ node.0 = eqb-true l.from.0 node.0 same in
-      let few : link_ends l.from (links ++ l ∷ []) ≤ 32 = grind (arith, nat_tests, room) in
-      subst (λ k. link_ends (record { 0 = k }) (links ++ l ∷ []) ≤ 32) is few
-  | inr other ↦ elim (cases_Bool (l.to.0 == node.0)) [
-    | inl same ↦
-        let is : l.to.0 ≡ node.0 = eqb-true l.to.0 node.0 same in
-        let few : link_ends l.to (links ++ l ∷ []) ≤ 32 = grind (arith, nat_tests, room) in
-        subst (λ k. link_ends (record { 0 = k }) (links ++ l ∷ []) ≤ 32) is few
-    | inr elsewhere ↦ omega (arith, link_ends-push node.0 links l, own_ends-other node.0 l other elsewhere, h node)
-  ]
-]
 
 pub IsSound-link : (plan new : Plan) (name : List ℕ) (l : Link) → IsSound plan → not (is_name name) ≡ false → is_given name plan.segments ≡ false → l.from.0 < length plan.nodes → l.to.0 < length plan.nodes
     → judge_link plan name l ≡ Ok new → IsSound new
