@@ -5,10 +5,11 @@ ghost use Rattle.taxi_base.specs.declared.numbers.Node.{Node as NodeNumber};
 ghost use Rattle.taxi_base.specs.Airport.{head};
 ghost use Rattle.label_search.specs.Backward.{BackwardProblem, finish_of};
 ghost use Rattle.place_cells.specs.Grounds.{ground_of};
+ghost use Rattle.place_cells.specs.Tells.{IsBackward, TellsCell};
 ghost use Rattle.backward_search.specs.Departures.{finish_at, last_arcs, departure_problem};
 
-use label_search::{BackwardCells, Cell, Closing, Run};
-use place_cells::SearchGround;
+use label_search::{BackwardCells, Cell, Closing, Part, Run};
+use place_cells::{ArcRow, Beside, SearchGround};
 use std::alloc::Global;
 use taxi_base::{Arc, Memory, Node, Time};
 
@@ -56,8 +57,16 @@ impl DepartureCells<'_> {
     }
 }
 
-impl BackwardCells for DepartureCells<'_> {
+impl<'a> BackwardCells for DepartureCells<'a> {
+    type Place = Beside<'a>;
+
+    type Row = ArcRow<'a>;
+
     ghost backward = { λ s. departure_problem (ground_of s.ground.now) s.from (record { to = s.to.now; earliest = s.earliest_out; latest = s.latest_out }) };
+
+    ghost stands = { λ s place cell. IsBackward (ground_of s.ground.now) cell place };
+
+    ghost tells = { λ s row cell. TellsCell (ground_of s.ground.now) row cell };
 
     fn count(&self) -> usize {
         self.ground.count()
@@ -71,6 +80,7 @@ impl BackwardCells for DepartureCells<'_> {
         self.ground.cell(cell)
     }
 
+    #[inline(always)]
     fn finish(&self, cell: usize) -> Option<Closing> {
         match self.ground.usable(cell) {
             None => None,
@@ -78,8 +88,16 @@ impl BackwardCells for DepartureCells<'_> {
         }
     }
 
-    fn is_source(&self, cell: usize) -> bool {
-        self.ground.leaves(self.ground.arc(cell), self.from)
+    fn place(&self, cell: usize) -> Beside<'a> {
+        self.ground.backward(cell)
+    }
+
+    fn is_source(&self, _cell: usize, at: Beside<'a>) -> bool {
+        self.ground.leaves(at.place.arc, self.from)
+    }
+
+    fn from(&self, _cell: usize, at: Beside<'a>) -> u32 {
+        at.place.window.from
     }
 
     fn last_runs(&self) -> usize {
@@ -90,15 +108,23 @@ impl BackwardCells for DepartureCells<'_> {
         self.ground.run(self.last[run])
     }
 
-    fn runs_before(&self, cell: usize) -> usize {
-        match self.ground.usable(cell) {
-            None => 0,
-            Some(arc) => self.ground.previous(arc).len(),
-        }
+    fn runs_before(&self, _cell: usize, at: Beside<'a>) -> usize {
+        at.arcs.len()
     }
 
-    fn run_before(&self, cell: usize, run: usize, ready: u32, from: u32) -> Run {
-        let previous = self.ground.previous(self.ground.arc(cell))[run];
+    fn run_before(
+        &self,
+        _cell: usize,
+        at: Beside<'a>,
+        run: usize,
+        ready: u32,
+        from: u32,
+    ) -> Part<ArcRow<'a>> {
+        let previous = at.arcs[run];
         self.ground.part(previous, from, ready)
+    }
+
+    fn cell_in(&self, row: ArcRow<'a>, cell: usize) -> Cell {
+        self.ground.cell_in(row, cell)
     }
 }

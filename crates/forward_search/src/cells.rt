@@ -5,11 +5,12 @@ ghost use Rattle.taxi_base.specs.declared.numbers.Node.{Node as NodeNumber};
 ghost use Rattle.taxi_base.specs.Airport.{tail};
 ghost use Rattle.label_search.specs.Problem.{Problem};
 ghost use Rattle.place_cells.specs.Grounds.{ground_of};
+ghost use Rattle.place_cells.specs.Tells.{IsOnward, TellsCell};
 ghost use Rattle.forward_search.specs.Arrivals.{beginning_of, arrival_problem};
 
 use crate::starting::{Start, opening_at};
-use label_search::{Cell, ForwardCells, Opening, Run};
-use place_cells::SearchGround;
+use label_search::{Cell, ForwardCells, Opening, Part, Run};
+use place_cells::{ArcRow, Beside, SearchGround};
 use taxi_base::Node;
 
 /// Walks on a ground that begin so and lead to one of some nodes.
@@ -21,8 +22,16 @@ pub(crate) struct ArrivalCells<'a> {
     ghost nodes: { (a : ArcNumber) (n : NodeNumber) → tail ground.now.graph.now a ≡ Some n → n.0 < ground.now.graph.now.nodes },
 }
 
-impl ForwardCells for ArrivalCells<'_> {
+impl<'a> ForwardCells for ArrivalCells<'a> {
+    type Place = Beside<'a>;
+
+    type Row = ArcRow<'a>;
+
     ghost problem = { λ s. arrival_problem (ground_of s.ground.now) (beginning_of s.start 0) s.to.now };
+
+    ghost stands = { λ s place cell. IsOnward (ground_of s.ground.now) cell place };
+
+    ghost tells = { λ s row cell. TellsCell (ground_of s.ground.now) row cell };
 
     fn count(&self) -> usize {
         self.ground.count()
@@ -39,6 +48,7 @@ impl ForwardCells for ArrivalCells<'_> {
         self.ground.cell(cell)
     }
 
+    #[inline(always)]
     fn start(&self, cell: usize) -> Option<Opening> {
         match self.ground.usable(cell) {
             None => None,
@@ -46,8 +56,16 @@ impl ForwardCells for ArrivalCells<'_> {
         }
     }
 
-    fn is_target(&self, cell: usize) -> bool {
-        self.ground.leads_to(self.ground.arc(cell), self.to)
+    fn place(&self, cell: usize) -> Beside<'a> {
+        self.ground.onward(cell)
+    }
+
+    fn is_target(&self, _cell: usize, at: Beside<'a>) -> bool {
+        self.ground.leads_to(at.place.arc, self.to)
+    }
+
+    fn last(&self, _cell: usize, at: Beside<'a>) -> u32 {
+        self.ground.last(at.place.window)
     }
 
     fn first_runs(&self) -> usize {
@@ -64,15 +82,23 @@ impl ForwardCells for ArrivalCells<'_> {
         }
     }
 
-    fn runs(&self, cell: usize) -> usize {
-        match self.ground.usable(cell) {
-            None => 0,
-            Some(arc) => self.ground.next(arc).len(),
-        }
+    fn runs(&self, _cell: usize, at: Beside<'a>) -> usize {
+        at.arcs.len()
     }
 
-    fn run(&self, cell: usize, run: usize, ready: u32, last: u32) -> Run {
-        let next = self.ground.next(self.ground.arc(cell))[run];
+    fn run(
+        &self,
+        _cell: usize,
+        at: Beside<'a>,
+        run: usize,
+        ready: u32,
+        last: u32,
+    ) -> Part<ArcRow<'a>> {
+        let next = at.arcs[run];
         self.ground.part(next, ready, last)
+    }
+
+    fn cell_in(&self, row: ArcRow<'a>, cell: usize) -> Cell {
+        self.ground.cell_in(row, cell)
     }
 }

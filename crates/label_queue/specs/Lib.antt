@@ -2,3 +2,4 @@ pub mod Keys
 pub mod Least
 pub mod Heap
 pub mod Places
+pub mod Place

@@ -4,6 +4,7 @@
 #![tactic(auto)]
 
 mod heap;
+mod place;
 mod queue;
 #[cfg(test)]
 mod tests;

@@ -5,19 +5,20 @@ ghost use Rattle.label_queue.specs.Least.{IsLeast};
 
 use crate::heap;
 use crate::heap::Entry;
+use crate::place::Place;
 use std::alloc::Global;
 use std::marker::Model;
 use taxi_base::Memory;
 
-/// Labels are below this, so that an entry of the heap takes eight bytes.
-const LABELS: usize = 4294967296;
+/// There are so many labels at most, so that an entry of the heap takes eight bytes and a place four.
+const LABELS: usize = 4294967295;
 
 /// A map from labels to keys with its least. All its room is made at the start.
 #[derive(Drop)]
 pub struct LabelQueue {
     heap: Vec<Entry>,
     // By label: where its entry lies in the heap.
-    places: Vec<Option<usize>>,
+    places: Vec<Place>,
 }
 
 impl Model for LabelQueue {
@@ -25,17 +26,17 @@ impl Model for LabelQueue {
 
     ghost Value = { List (Option ℕ) };
 
-    ghost use Rattle.std.specs.Prelude.{◌≤◌, ◌^◌, length, vec_capacity};
+    ghost use Rattle.std.specs.Prelude.{◌<◌, ◌≤◌, ◌^◌, length, vec_capacity};
     ghost use Rattle.label_queue.specs.Places.{keys_of, IsIndexedHeap};
 
     ghost view = { λ q. keys_of q.heap.items q.places.items };
 
     ghost invariant = { λ q.
-        IsIndexedHeap q.heap.items q.places.items × (length q.places.items ≤ vec_capacity q.heap) × (length q.places.items ≤ 2 ^ 32) };
+        IsIndexedHeap q.heap.items q.places.items × (length q.places.items ≤ vec_capacity q.heap) × (length q.places.items < 2 ^ 32) };
 }
 
 impl LabelQueue {
-    /// An empty queue for the labels below `limit`, with room for all of them. There is none for more than 2^32 labels.
+    /// An empty queue for the labels below `limit`, with room for all of them. There is none for 2^32 labels or more.
     pub fn new(alloc: Global, limit: usize) -> Result<LabelQueue, Memory>
         ensures { IfOk result (λ q. q ≡ replicate limit None) }
     {
@@ -43,7 +44,7 @@ impl LabelQueue {
             return Err(Memory);
         }
         let heap = Vec::with_capacity(alloc, limit)?;
-        let places = Vec::from_elem(alloc, None, limit)?;
+        let places = Vec::from_elem(alloc, Place::none(), limit)?;
         Ok(LabelQueue { heap, places })
     }
 
@@ -55,12 +56,13 @@ impl LabelQueue {
     }
 
     /// Gives the label this key, or leaves it the lesser one that it has. No memory is taken.
+    #[inline(always)]
     pub fn insert_or_lower(&mut self, label: usize, key: u32) -> Result<(), Memory>
         requires { label < length self.old }
         ensures ok { IsOk result }
         ensures lowered { self.new ≡ lowered self.old label key }
     {
-        match self.places[label] {
+        match self.places[label].get() {
             None => {
                 let entry = Entry {
                     label: label as u32,
@@ -78,6 +80,7 @@ impl LabelQueue {
     }
 
     /// Takes out the label with the least key, at a tie the least label.
+    #[inline(always)]
     pub fn pop_least(&mut self) -> Option<(usize, u32)>
         ensures none { IsNone result ↔ IsEmpty self.old }
         ensures unchanged { IfNone result (self.new ≡ self.old) }

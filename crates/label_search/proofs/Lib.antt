@@ -7,6 +7,7 @@ pub mod Begins
 pub mod Picking
 pub mod GroupLaws
 pub mod ValueLaws
+pub mod Taking
 pub mod Ends
 pub mod Mirroring
 pub mod Lists

@@ -4,6 +4,7 @@ use Rattle.label_core.specs.Walks.{Network}
 use Rattle.label_core.specs.BackwardWalks.{Finish}
 use Rattle.label_core.specs.BackwardLabels.{IsExpansionBack}
 use Rattle.label_core.specs.Mirror.{mirror_network, mirror_starts}
+use Rattle.label_search.specs.declared.cells.Cell.{Cell}
 use Rattle.label_search.specs.declared.cells.Closing.{Closing}
 use Rattle.label_search.specs.declared.cells.Run.{Run}
 use Rattle.label_search.specs.declared.values.CellValue.{CellValue}
@@ -64,7 +65,10 @@ mirror_problem b = record {
   first_run = b.last_run;
 }
 
--- a value, and a step, in the mirror
+-- a cell, a value, and a step, in the mirror
+abbrev pub mirror_cell : Cell → Cell
+mirror_cell cell = record { from = mirror_second - cell.last; last = mirror_second - cell.from; seconds = cell.seconds }
+
 abbrev pub mirror_value : CellValue → CellValue
 mirror_value row = record { cell = row.cell; value = mirror_second - row.value }
 

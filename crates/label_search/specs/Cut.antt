@@ -1,6 +1,7 @@
 -- Which problem has only the seconds up to one?
 use Rattle.std.specs.Prelude.{ℕ, min}
 use Rattle.label_core.specs.Walks.{Network}
+use Rattle.label_search.specs.declared.cells.Cell.{Cell}
 use Rattle.label_search.specs.Problem.{Problem}
 
 -- no step may leave after the second
@@ -11,6 +12,10 @@ cut_network until net = record {
   seconds = net.seconds;
   turn = net.turn;
 }
+
+-- a cell of which only the seconds up to one count
+abbrev pub cut_cell : ℕ → Cell → Cell
+cut_cell until cell = record { from = cell.from; last = min cell.last until; seconds = cell.seconds }
 
 abbrev pub cut_problem : ℕ → Problem → Problem
 cut_problem until p = record {

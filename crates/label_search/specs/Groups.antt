@@ -1,29 +1,26 @@
--- In which run do the labels of a group of cells lie?
-use Rattle.std.specs.Prelude.{◌≡◌, ℕ, ◌+◌, ◌*◌, ◌/◌, ◌<◌, ◌≤◌, min, max, List, length, Option, None, slice_index_or}
-use Rattle.label_search.specs.declared.cells.Run.{Run}
+-- Which cells may have a label? Each has a bit, those of 64 cells in one number.
+use Rattle.std.specs.Prelude.{◌≡◌, ◌≢◌, ℕ, ◌/◌, ◌%◌, ◌<◌, List, length, Option, None, slice_index_or}
+use Rattle.std.specs.Int.{bit_at}
 
--- a run with no cell
-abbrev pub no_cells : Run
-no_cells = record { first = 0; until = 0 }
+-- the bits of a group of cells
+abbrev pub bits_of_group : List ℕ → ℕ → ℕ
+bits_of_group groups g = slice_index_or groups g 0
 
-abbrev pub run_of_group : List Run → ℕ → Run
-run_of_group groups g = slice_index_or groups g no_cells
+-- 1 where the cell is marked, and else 0
+abbrev pub bit_of : List ℕ → ℕ → ℕ
+bit_of groups c = bit_at (bits_of_group groups (c / 64)) (c % 64)
 
--- No cell before the run of its group has anything, nor one after it; and a run with a cell is of cells of its group for which
--- there are places.
-pub record AreGathered {A : Type 0} (known : List (Option A)) (groups : List Run) : Type 0 where
-  pub before : (c : ℕ) → c < (run_of_group groups (c / 64)).first → slice_index_or known c None ≡ None
-  pub after : (c : ℕ) → (run_of_group groups (c / 64)).until ≤ c → slice_index_or known c None ≡ None
-  pub from_first : (g : ℕ) → (run_of_group groups g).first < (run_of_group groups g).until → g * 64 ≤ (run_of_group groups g).first
-  pub to_last : (g : ℕ) → (run_of_group groups g).first < (run_of_group groups g).until → (run_of_group groups g).until ≤ g * 64 + 64
-  pub inside : (g : ℕ) → (run_of_group groups g).first < (run_of_group groups g).until → (run_of_group groups g).until ≤ length known
+-- no cell but those that are marked has anything, and there are places for these
+pub record AreMarked {A : Type 0} (known : List (Option A)) (groups : List ℕ) : Type 0 where
+  pub others : (c : ℕ) → bit_of groups c ≡ 0 → slice_index_or known c None ≡ None
+  pub inside : (c : ℕ) → bit_of groups c ≡ 1 → c < length known
 
 -- no cell has anything
 abbrev pub HaveNothing : {A : Type 0} → List (Option A) → Type 0
 HaveNothing known = (c : ℕ) → slice_index_or known c None ≡ None
 
--- the run has one more cell, and those that lie between
-pub record IsWidened (run : Run) (cell : ℕ) (wide : Run) : Type 0 where
-  pub first : run.first < run.until → wide.first ≡ min run.first cell
-  pub until : run.first < run.until → wide.until ≡ max run.until (cell + 1)
-  pub alone : run.until ≤ run.first → (wide.first ≡ cell) × (wide.until ≡ cell + 1)
+-- the cell is marked, and others are as before
+pub record IsMarkedToo (old new : List ℕ) (cell : ℕ) : Type 0 where
+  pub as_many : length new ≡ length old
+  pub here : bit_of new cell ≡ 1
+  pub others : (c : ℕ) → c ≢ cell → bit_of new c ≡ bit_of old c

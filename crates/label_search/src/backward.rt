@@ -4,11 +4,11 @@ ghost use Rattle.std.specs.Prelude.{◌≡◌, ◌<◌, ◌-◌, option_map, map
 ghost use Rattle.label_core.specs.BackwardBest.{IsBestBegin, HasNoWalkFrom, IsPickedRouteOn};
 ghost use Rattle.label_core.specs.Mirror.{mirror_start, IsUpTo};
 ghost use Rattle.label_search.specs.Problem.{start_of};
-ghost use Rattle.label_search.specs.Backward.{IsBackwardProblem, mirror_problem, mirror_second, mirror_value, mirror_cell_step, finish_of};
+ghost use Rattle.label_search.specs.Backward.{IsBackwardProblem, mirror_problem, mirror_cell, mirror_second, mirror_value, mirror_cell_step, finish_of};
 ghost use Rattle.label_search.specs.Values.{AreEntries};
 ghost use Rattle.label_search.specs.Answer.{step_of, best_of, ComesBefore};
 
-use crate::cells::{BackwardCells, Cell, Closing, ForwardCells, Opening, Run};
+use crate::cells::{BackwardCells, Cell, Closing, ForwardCells, Opening, Part, Run};
 use crate::forward::{Found, LabelRoom, Route, earliest_exits};
 use crate::pick::CellStep;
 use crate::values::CellValue;
@@ -26,7 +26,15 @@ struct Mirror<'a, C: BackwardCells> {
 }
 
 impl<C: BackwardCells> ForwardCells for Mirror<'_, C> {
+    type Place = C::Place;
+
+    type Row = C::Row;
+
     ghost problem = { λ m. mirror_problem (C.backward m.cells.now) };
+
+    ghost stands = { λ m place cell. C.stands m.cells.now place cell };
+
+    ghost tells = { λ m row cell. C.tells m.cells.now row cell };
 
     fn count(&self) -> usize {
         self.cells.count()
@@ -37,14 +45,10 @@ impl<C: BackwardCells> ForwardCells for Mirror<'_, C> {
     }
 
     fn cell(&self, cell: usize) -> Cell {
-        let cell = self.cells.cell(cell);
-        Cell {
-            from: MIRROR.saturating_sub(cell.last),
-            last: MIRROR.saturating_sub(cell.from),
-            seconds: cell.seconds,
-        }
+        mirror_cell(self.cells.cell(cell))
     }
 
+    #[inline(always)]
     fn start(&self, cell: usize) -> Option<Opening> {
         match self.cells.finish(cell) {
             None => None,
@@ -52,8 +56,16 @@ impl<C: BackwardCells> ForwardCells for Mirror<'_, C> {
         }
     }
 
-    fn is_target(&self, cell: usize) -> bool {
-        self.cells.is_source(cell)
+    fn place(&self, cell: usize) -> C::Place {
+        self.cells.place(cell)
+    }
+
+    fn is_target(&self, cell: usize, place: C::Place) -> bool {
+        self.cells.is_source(cell, place)
+    }
+
+    fn last(&self, cell: usize, place: C::Place) -> u32 {
+        MIRROR.saturating_sub(self.cells.from(cell, place))
     }
 
     fn first_runs(&self) -> usize {
@@ -64,14 +76,29 @@ impl<C: BackwardCells> ForwardCells for Mirror<'_, C> {
         self.cells.last_run(run)
     }
 
-    fn runs(&self, cell: usize) -> usize {
-        self.cells.runs_before(cell)
+    fn runs(&self, cell: usize, place: C::Place) -> usize {
+        self.cells.runs_before(cell, place)
     }
 
-    fn run(&self, cell: usize, run: usize, ready: u32, last: u32) -> Run {
+    fn run(&self, cell: usize, place: C::Place, run: usize, ready: u32, last: u32) -> Part<C::Row> {
         let until = MIRROR.saturating_sub(ready);
         let from = MIRROR.saturating_sub(last);
-        self.cells.run_before(cell, run, until, from)
+        self.cells.run_before(cell, place, run, until, from)
+    }
+
+    fn cell_in(&self, row: C::Row, cell: usize) -> Cell {
+        mirror_cell(self.cells.cell_in(row, cell))
+    }
+}
+
+/// The cell in the mirror.
+fn mirror_cell(cell: Cell) -> Cell
+    ensures { result ≡ mirror_cell cell }
+{
+    Cell {
+        from: MIRROR.saturating_sub(cell.last),
+        last: MIRROR.saturating_sub(cell.from),
+        seconds: cell.seconds,
     }
 }
 

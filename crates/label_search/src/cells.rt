@@ -1,6 +1,6 @@
 //! What a search is asked: cells by their numbers, and which may follow which.
-ghost use Rattle.std.specs.Prelude.{◌≡◌, ◌<◌, option_map};
-ghost use Rattle.label_search.specs.Problem.{Problem, cell_of, start_of, IsPartOf};
+ghost use Rattle.std.specs.Prelude.{◌≡◌, ℕ, ◌<◌, option_map};
+ghost use Rattle.label_search.specs.Problem.{Problem, cell_of, start_of, IsIn, IsPartOf};
 ghost use Rattle.label_search.specs.Backward.{BackwardProblem, finish_of, IsBackwardPartOf};
 
 /// A cell's window, from its first second to the last at which a step in it may leave, and the seconds that it takes.
@@ -33,9 +33,27 @@ pub struct Run {
     pub until: usize,
 }
 
+/// Cells of a run, and the row that tells them.
+#[derive(Clone, Copy)]
+pub struct Part<R> {
+    pub run: Run,
+    pub row: R,
+}
+
 /// A network of cells, how walks may begin in it, and where they shall end.
 pub trait ForwardCells {
+    /// What is read once of a cell from which walks go on.
+    type Place: Copy + Drop;
+
+    /// What is read once for all cells of a run.
+    type Row: Copy + Drop;
+
     ghost problem: { Self → Problem };
+
+    // Whether a place is that of a cell, and whether a row tells a cell.
+    ghost stands: { Self → Self.Place → ℕ → Type 0 };
+
+    ghost tells: { Self → Self.Row → ℕ → Type 0 };
 
     /// How many cells there are.
     fn count(&self) -> usize
@@ -53,10 +71,19 @@ pub trait ForwardCells {
         requires { cell < (problem self.now).count }
         ensures { option_map start_of result ≡ (problem self.now).starts cell };
 
-    /// Whether a walk may end in the cell.
-    fn is_target(&self, cell: usize) -> bool
+    fn place(&self, cell: usize) -> Self::Place
         requires { cell < (problem self.now).count }
+        ensures { stands self.now result cell };
+
+    /// Whether a walk may end in the cell at this place.
+    fn is_target(&self, cell: usize, place: Self::Place) -> bool
+        requires { stands self.now place cell }
         ensures { result ≡ (problem self.now).target cell };
+
+    /// The last second at which a step may leave the cell at this place.
+    fn last(&self, cell: usize, place: Self::Place) -> u32
+        requires { stands self.now place cell }
+        ensures { result ≡ (problem self.now).network.last cell };
 
     /// How many runs of cells there are in which walks may begin.
     fn first_runs(&self) -> usize
@@ -67,21 +94,45 @@ pub trait ForwardCells {
         requires { run < (problem self.now).first_runs }
         ensures { result ≡ (problem self.now).first_run run };
 
-    /// How many runs of cells may follow the cell.
-    fn runs(&self, cell: usize) -> usize
-        requires { cell < (problem self.now).count }
+    /// How many runs of cells may follow the cell at this place.
+    fn runs(&self, cell: usize, place: Self::Place) -> usize
+        requires { stands self.now place cell }
         ensures { result ≡ (problem self.now).runs cell };
 
     /// The part of a run that a walk can go on to which may leave the cell from `ready` on, and until `last`.
-    fn run(&self, cell: usize, run: usize, ready: u32, last: u32) -> Run
-        requires inside { cell < (problem self.now).count }
+    fn run(
+        &self,
+        cell: usize,
+        place: Self::Place,
+        run: usize,
+        ready: u32,
+        last: u32,
+    ) -> Part<Self::Row>
+        requires stands { stands self.now place cell }
         requires is_run { run < (problem self.now).runs cell }
-        ensures { IsPartOf (problem self.now) cell ready last ((problem self.now).run cell run) result };
+        ensures part { IsPartOf (problem self.now) cell ready last ((problem self.now).run cell run) result.run }
+        ensures told { (d : ℕ) → IsIn result.run d → tells self.now result.row d };
+
+    /// A cell that a row tells.
+    fn cell_in(&self, row: Self::Row, cell: usize) -> Cell
+        requires { tells self.now row cell }
+        ensures { result ≡ cell_of (problem self.now).network cell };
 }
 
 /// A network of cells, how walks may end in it, and where they shall begin.
 pub trait BackwardCells {
+    /// What is read once of a cell to which walks come.
+    type Place: Copy + Drop;
+
+    /// What is read once for all cells of a run.
+    type Row: Copy + Drop;
+
     ghost backward: { Self → BackwardProblem };
+
+    // Whether a place is that of a cell, and whether a row tells a cell.
+    ghost stands: { Self → Self.Place → ℕ → Type 0 };
+
+    ghost tells: { Self → Self.Row → ℕ → Type 0 };
 
     /// How many cells there are.
     fn count(&self) -> usize
@@ -99,10 +150,19 @@ pub trait BackwardCells {
         requires { cell < (backward self.now).count }
         ensures { option_map finish_of result ≡ (backward self.now).finishes cell };
 
-    /// Whether a walk may begin in the cell.
-    fn is_source(&self, cell: usize) -> bool
+    fn place(&self, cell: usize) -> Self::Place
         requires { cell < (backward self.now).count }
+        ensures { stands self.now result cell };
+
+    /// Whether a walk may begin in the cell at this place.
+    fn is_source(&self, cell: usize, place: Self::Place) -> bool
+        requires { stands self.now place cell }
         ensures { result ≡ (backward self.now).source cell };
+
+    /// The first second of the window of the cell at this place.
+    fn from(&self, cell: usize, place: Self::Place) -> u32
+        requires { stands self.now place cell }
+        ensures { result ≡ (backward self.now).network.from cell };
 
     /// How many runs of cells there are in which walks may end.
     fn last_runs(&self) -> usize
@@ -113,14 +173,27 @@ pub trait BackwardCells {
         requires { run < (backward self.now).last_runs }
         ensures { result ≡ (backward self.now).last_run run };
 
-    /// How many runs of cells may come before the cell.
-    fn runs_before(&self, cell: usize) -> usize
-        requires { cell < (backward self.now).count }
+    /// How many runs of cells may come before the cell at this place.
+    fn runs_before(&self, cell: usize, place: Self::Place) -> usize
+        requires { stands self.now place cell }
         ensures { result ≡ (backward self.now).runs cell };
 
     /// The part of a run from which a walk can come that may enter the cell from `from` on, and until `ready`.
-    fn run_before(&self, cell: usize, run: usize, ready: u32, from: u32) -> Run
-        requires inside { cell < (backward self.now).count }
+    fn run_before(
+        &self,
+        cell: usize,
+        place: Self::Place,
+        run: usize,
+        ready: u32,
+        from: u32,
+    ) -> Part<Self::Row>
+        requires stands { stands self.now place cell }
         requires is_run { run < (backward self.now).runs cell }
-        ensures { IsBackwardPartOf (backward self.now) cell ready from ((backward self.now).run cell run) result };
+        ensures part { IsBackwardPartOf (backward self.now) cell ready from ((backward self.now).run cell run) result.run }
+        ensures told { (d : ℕ) → IsIn result.run d → tells self.now result.row d };
+
+    /// A cell that a row tells.
+    fn cell_in(&self, row: Self::Row, cell: usize) -> Cell
+        requires { tells self.now row cell }
+        ensures { result ≡ cell_of (backward self.now).network cell };
 }

@@ -1,8 +1,8 @@
 //! Cells with their windows cut at a second, so that a search does not look past it.
 ghost use Rattle.std.specs.Prelude.{◌≡◌};
-ghost use Rattle.label_search.specs.Cut.{cut_problem};
+ghost use Rattle.label_search.specs.Cut.{cut_cell, cut_problem};
 
-use crate::cells::{Cell, ForwardCells, Opening, Run};
+use crate::cells::{Cell, ForwardCells, Opening, Part, Run};
 
 /// The same cells, of whose windows only the seconds up to `until` count.
 #[derive(Drop)]
@@ -12,7 +12,15 @@ pub(crate) struct CutCells<'a, C: ForwardCells> {
 }
 
 impl<C: ForwardCells> ForwardCells for CutCells<'_, C> {
+    type Place = C::Place;
+
+    type Row = C::Row;
+
     ghost problem = { λ s. cut_problem s.until (C.problem s.cells.now) };
+
+    ghost stands = { λ s place cell. C.stands s.cells.now place cell };
+
+    ghost tells = { λ s row cell. C.tells s.cells.now row cell };
 
     fn count(&self) -> usize {
         self.cells.count()
@@ -23,20 +31,24 @@ impl<C: ForwardCells> ForwardCells for CutCells<'_, C> {
     }
 
     fn cell(&self, cell: usize) -> Cell {
-        let cell = self.cells.cell(cell);
-        Cell {
-            from: cell.from,
-            last: cell.last.min(self.until),
-            seconds: cell.seconds,
-        }
+        cut(self.cells.cell(cell), self.until)
     }
 
+    #[inline(always)]
     fn start(&self, cell: usize) -> Option<Opening> {
         self.cells.start(cell)
     }
 
-    fn is_target(&self, cell: usize) -> bool {
-        self.cells.is_target(cell)
+    fn place(&self, cell: usize) -> C::Place {
+        self.cells.place(cell)
+    }
+
+    fn is_target(&self, cell: usize, place: C::Place) -> bool {
+        self.cells.is_target(cell, place)
+    }
+
+    fn last(&self, cell: usize, place: C::Place) -> u32 {
+        self.cells.last(cell, place).min(self.until)
     }
 
     fn first_runs(&self) -> usize {
@@ -47,11 +59,26 @@ impl<C: ForwardCells> ForwardCells for CutCells<'_, C> {
         self.cells.first_run(run)
     }
 
-    fn runs(&self, cell: usize) -> usize {
-        self.cells.runs(cell)
+    fn runs(&self, cell: usize, place: C::Place) -> usize {
+        self.cells.runs(cell, place)
     }
 
-    fn run(&self, cell: usize, run: usize, ready: u32, last: u32) -> Run {
-        self.cells.run(cell, run, ready, last)
+    fn run(&self, cell: usize, place: C::Place, run: usize, ready: u32, last: u32) -> Part<C::Row> {
+        self.cells.run(cell, place, run, ready, last)
+    }
+
+    fn cell_in(&self, row: C::Row, cell: usize) -> Cell {
+        cut(self.cells.cell_in(row, cell), self.until)
+    }
+}
+
+/// The cell with its window cut.
+fn cut(cell: Cell, until: u32) -> Cell
+    ensures { result ≡ cut_cell until cell }
+{
+    Cell {
+        from: cell.from,
+        last: cell.last.min(until),
+        seconds: cell.seconds,
     }
 }

@@ -44,17 +44,18 @@ fn is_known_by(known: Option<Label>, time: u32) -> bool
 }
 
 /// Offers the next cell its expansion. One that can't better its label is skipped early.
-fn expand_to<C: ForwardCells>(cells: &C, from: Ready, next: usize, labels: &mut Labels)
+fn expand_to<C: ForwardCells>(cells: &C, from: Ready, row: C::Row, next: usize, labels: &mut Labels)
     requires sound { IsProblem (C.problem cells.now) }
     requires room { HasRoom (C.problem cells.now).count (standing labels.old) }
     requires ready { IsReady (C.problem cells.now) from }
     requires permitted { IsTrue ((C.problem cells.now).network.turn from.cell next) }
+    requires told { C.tells cells.now row next }
     ensures { IsExpanded (C.problem cells.now).network from.cell from.at (λ d. d ≡ next) (standing labels.old) (standing labels.new) }
 {
     if is_known_by(labels.known[next], from.at) {
         return;
     }
-    if let Some(value) = leave_after(from, cells.cell(next)) {
+    if let Some(value) = leave_after(from, cells.cell_in(row, next)) {
         labels.offer(
             next,
             Label {
@@ -66,27 +67,29 @@ fn expand_to<C: ForwardCells>(cells: &C, from: Ready, next: usize, labels: &mut 
 }
 
 /// Offers each cell of the part of a run its expansion.
-fn expand_run<C: ForwardCells>(cells: &C, from: Ready, run: Run, labels: &mut Labels)
+fn expand_run<C: ForwardCells>(cells: &C, from: Ready, run: Run, row: C::Row, labels: &mut Labels)
     requires sound { IsProblem (C.problem cells.now) }
     requires room { HasRoom (C.problem cells.now).count (standing labels.old) }
     requires ready { IsReady (C.problem cells.now) from }
     requires permitted { (d : ℕ) → IsIn run d → IsTrue ((C.problem cells.now).network.turn from.cell d) }
+    requires told { (d : ℕ) → IsIn run d → C.tells cells.now row d }
     ensures { IsExpanded (C.problem cells.now).network from.cell from.at (IsIn run) (standing labels.old) (standing labels.new) }
 {
     for next in run.first..run.until {
-        expand_to(cells, from, next, labels);
+        expand_to(cells, from, row, next, labels);
     }
 }
 
 /// Offers each cell that may follow its expansion.
-pub(crate) fn expand<C: ForwardCells>(cells: &C, from: Ready, labels: &mut Labels)
+pub(crate) fn expand<C: ForwardCells>(cells: &C, from: Ready, place: C::Place, labels: &mut Labels)
     requires sound { IsProblem (C.problem cells.now) }
     requires room { HasRoom (C.problem cells.now).count (standing labels.old) }
     requires ready { IsReady (C.problem cells.now) from }
+    requires stands { C.stands cells.now place from.cell }
     ensures { IsExpanded (C.problem cells.now).network from.cell from.at (λ d. ⊤) (standing labels.old) (standing labels.new) }
 {
-    for run in 0..cells.runs(from.cell) {
-        let part = cells.run(from.cell, run, from.at, from.last);
-        expand_run(cells, from, part, labels);
+    for run in 0..cells.runs(from.cell, place) {
+        let part = cells.run(from.cell, place, run, from.at, from.last);
+        expand_run(cells, from, part.run, part.row, labels);
     }
 }

@@ -1,8 +1,7 @@
 //! The labels of a search, and the queue of those cells that are not settled.
 ghost use Rattle.std.specs.Prelude.{◌≡◌, ◌≤◌, ◌+◌, ◌/◌, false, length};
-ghost use Rattle.label_search.specs.Groups.{AreGathered, HaveNothing};
+ghost use Rattle.label_search.specs.Groups.{AreMarked, HaveNothing};
 
-use crate::cells::Run;
 use label_queue::LabelQueue;
 
 /// A time at which a walk can leave a cell, and the cell that it came by, which means nothing for a walk that begins there.
@@ -13,18 +12,19 @@ pub struct Label {
 }
 
 /// The least label that each cell was offered, and the cells whose label may still be bettered, by its value. So that no
-/// search looks at all cells, each group of cells has the run in which its labels lie.
+/// search looks at all cells, those that may have a label are marked.
 #[derive(Drop)]
 pub(crate) struct Labels {
     pub(crate) known: Vec<Option<Label>>,
     pub(crate) queue: LabelQueue,
-    pub(crate) groups: Vec<Run>,
+    // The marks, a bit for each cell.
+    pub(crate) groups: Vec<u64>,
     // Whether there may be labels.
     pub(crate) touched: bool,
     // How many values the last search handed out.
     pub(crate) usual: usize,
     ghost counted: { length groups.items ≡ length known.items / 64 + 1 },
-    ghost gathered: { AreGathered known.items groups.items },
+    ghost marked: { AreMarked known.items groups.items },
     ghost untouched: { touched ≡ false → HaveNothing known.items },
     ghost keyed: { length known.items ≤ length queue },
 }

@@ -15,7 +15,7 @@ mod settle;
 mod values;
 
 pub use backward::latest_entries;
-pub use cells::{BackwardCells, Cell, Closing, ForwardCells, Opening, Run};
+pub use cells::{BackwardCells, Cell, Closing, ForwardCells, Opening, Part, Run};
 pub use forward::{Found, LabelRoom, Route, earliest_exits};
 pub use list::{BackwardList, ForwardList, ListedCell, are_fit};
 pub use pick::CellStep;

@@ -1,10 +1,10 @@
 //! Cells in a list: the plain way to give a small network.
-ghost use Rattle.std.specs.Prelude.{◌<◌, ◌^◌, ◌↔◌, length, IsTrue, All, IfSome};
+ghost use Rattle.std.specs.Prelude.{◌≡◌, ◌<◌, ◌^◌, ◌↔◌, length, IsTrue, All, IfSome, ⊤};
 ghost use Rattle.label_search.specs.Problem.{IsProblem};
 ghost use Rattle.label_search.specs.Backward.{IsBackwardProblem};
-ghost use Rattle.label_search.specs.Listed.{listed_problem, listed_backward, IsFit};
+ghost use Rattle.label_search.specs.Listed.{listed_problem, listed_backward, cell_at, run_of, IsFit};
 
-use crate::cells::{BackwardCells, Cell, Closing, ForwardCells, Opening, Run};
+use crate::cells::{BackwardCells, Cell, Closing, ForwardCells, Opening, Part, Run};
 
 /// A cell, how a walk may begin or end there, whether the search may end there, and two runs of cells beside it: for a
 /// search forward those that may follow, for one backward those that may come before.
@@ -16,6 +16,27 @@ pub struct ListedCell {
     pub is_goal: bool,
     pub near: Run,
     pub far: Run,
+}
+
+/// One of the two runs of cells beside a cell.
+fn run_beside(cell: &ListedCell, run: usize) -> Run
+    ensures { result ≡ run_of cell.now run }
+{
+    if run == 0 { cell.near } else { cell.far }
+}
+
+/// The cell with this number; where the list has none, one that no step can leave.
+fn cell_of(cells: &[ListedCell], cell: usize) -> Cell
+    ensures { result ≡ (cell_at cells.now cell).cell }
+{
+    match cells.get(cell) {
+        Some(listed) => listed.cell,
+        None => Cell {
+            from: 0,
+            last: 0,
+            seconds: 1,
+        },
+    }
 }
 
 const TIMES: u32 = 2147483648;
@@ -54,7 +75,15 @@ pub struct ForwardList<'a> {
 }
 
 impl ForwardCells for ForwardList<'_> {
+    type Place = ();
+
+    type Row = ();
+
     ghost problem = { λ l. listed_problem l.cells.now };
+
+    ghost stands = { λ l place cell. cell < length l.cells.now };
+
+    ghost tells = { λ l row cell. ⊤ };
 
     fn count(&self) -> usize {
         self.cells.len()
@@ -72,8 +101,14 @@ impl ForwardCells for ForwardList<'_> {
         self.cells[cell].opening
     }
 
-    fn is_target(&self, cell: usize) -> bool {
+    fn place(&self, _cell: usize) {}
+
+    fn is_target(&self, cell: usize, _place: ()) -> bool {
         self.cells[cell].is_goal
+    }
+
+    fn last(&self, cell: usize, _place: ()) -> u32 {
+        self.cells[cell].cell.last
     }
 
     fn first_runs(&self) -> usize {
@@ -87,16 +122,19 @@ impl ForwardCells for ForwardList<'_> {
         }
     }
 
-    fn runs(&self, _cell: usize) -> usize {
+    fn runs(&self, _cell: usize, _place: ()) -> usize {
         2
     }
 
-    fn run(&self, cell: usize, run: usize, _ready: u32, _last: u32) -> Run {
-        if run == 0 {
-            self.cells[cell].near
-        } else {
-            self.cells[cell].far
+    fn run(&self, cell: usize, _place: (), run: usize, _ready: u32, _last: u32) -> Part<()> {
+        Part {
+            run: run_beside(&self.cells[cell], run),
+            row: (),
         }
+    }
+
+    fn cell_in(&self, _row: (), cell: usize) -> Cell {
+        cell_of(self.cells, cell)
     }
 }
 
@@ -107,7 +145,15 @@ pub struct BackwardList<'a> {
 }
 
 impl BackwardCells for BackwardList<'_> {
+    type Place = ();
+
+    type Row = ();
+
     ghost backward = { λ l. listed_backward l.cells.now };
+
+    ghost stands = { λ l place cell. cell < length l.cells.now };
+
+    ghost tells = { λ l row cell. ⊤ };
 
     fn count(&self) -> usize {
         self.cells.len()
@@ -125,8 +171,14 @@ impl BackwardCells for BackwardList<'_> {
         self.cells[cell].closing
     }
 
-    fn is_source(&self, cell: usize) -> bool {
+    fn place(&self, _cell: usize) {}
+
+    fn is_source(&self, cell: usize, _place: ()) -> bool {
         self.cells[cell].is_goal
+    }
+
+    fn from(&self, cell: usize, _place: ()) -> u32 {
+        self.cells[cell].cell.from
     }
 
     fn last_runs(&self) -> usize {
@@ -140,15 +192,18 @@ impl BackwardCells for BackwardList<'_> {
         }
     }
 
-    fn runs_before(&self, _cell: usize) -> usize {
+    fn runs_before(&self, _cell: usize, _place: ()) -> usize {
         2
     }
 
-    fn run_before(&self, cell: usize, run: usize, _ready: u32, _from: u32) -> Run {
-        if run == 0 {
-            self.cells[cell].near
-        } else {
-            self.cells[cell].far
+    fn run_before(&self, cell: usize, _place: (), run: usize, _ready: u32, _from: u32) -> Part<()> {
+        Part {
+            run: run_beside(&self.cells[cell], run),
+            row: (),
         }
+    }
+
+    fn cell_in(&self, _row: (), cell: usize) -> Cell {
+        cell_of(self.cells, cell)
     }
 }

@@ -5,9 +5,9 @@ ghost use Rattle.label_search.specs.Labels.{IsImproved, standing, label_of};
 ghost use Rattle.label_search.specs.Expanding.{HasRoom};
 ghost use Rattle.label_search.specs.Values.{rows_from, values_kept};
 
-use crate::groups::{GROUP, clear_gathered, nothing, widened};
+use crate::groups::{GROUP, mark};
 use crate::labels::{Label, Labels};
-use crate::values::{CellValue, take_gathered};
+use crate::values::{CellValue, take_marked};
 use label_queue::LabelQueue;
 use std::alloc::Global;
 use taxi_base::Memory;
@@ -21,7 +21,7 @@ impl Labels {
         Ok(Labels {
             known: Vec::from_elem(alloc, None, count)?,
             queue: LabelQueue::new(alloc, count)?,
-            groups: Vec::from_elem(alloc, nothing(), count / GROUP + 1)?,
+            groups: Vec::from_elem(alloc, 0, count / GROUP + 1)?,
             touched: false,
             usual: 0,
         })
@@ -49,7 +49,8 @@ impl Labels {
         ensures queue { self.new.queue ≡ replicate (length self.old.queue) None }
         ensures unlabelled { (c : ℕ) → label_of self.new.known.items c ≡ None }
     {
-        clear_gathered(&mut self.known, &mut self.groups);
+        self.known.fill(None);
+        self.groups.fill(0);
         self.touched = false;
         self.queue.clear();
     }
@@ -76,8 +77,7 @@ impl Labels {
         ensures queue { self.new.queue ≡ self.old.queue }
     {
         self.touched = true;
-        let group = cell / GROUP;
-        self.groups[group] = widened(self.groups[group], cell);
+        mark(&mut self.groups, cell);
         self.known[cell] = Some(label);
     }
 
@@ -93,7 +93,7 @@ impl Labels {
         let mut values = Vec::with_capacity(alloc, self.usual)?;
         // Where memory runs out, some labels are left.
         self.touched = true;
-        take_gathered(&mut values, &mut self.known, &mut self.groups, bound)?;
+        take_marked(&mut values, &mut self.known, &mut self.groups, bound)?;
         self.touched = false;
         self.usual = values.len();
         Ok(values)

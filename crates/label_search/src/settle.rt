@@ -20,6 +20,7 @@ pub(crate) struct Goal {
 }
 
 /// When a walk that begins in the cell leaves it at the soonest, if one may begin there.
+#[inline(always)]
 pub(crate) fn start_entry<C: ForwardCells>(cells: &C, cell: usize) -> Option<u32>
     requires sound { IsProblem (C.problem cells.now) }
     requires inside { cell < (C.problem cells.now).count }
@@ -85,11 +86,12 @@ pub(crate) fn settle<C: ForwardCells>(cells: &C, labels: &mut Labels) -> Option<
     ensures { IsAtEnd (C.problem cells.now) (standing labels.new) result }
 {
     while let Some((cell, at)) = labels.queue.pop_least() {
-        if cells.is_target(cell) {
+        let place = cells.place(cell);
+        if cells.is_target(cell, place) {
             return Some(Goal { cell, end: at });
         }
-        let last = cells.cell(cell).last;
-        expand(cells, Ready { cell, last, at }, labels);
+        let last = cells.last(cell, place);
+        expand(cells, Ready { cell, last, at }, place, labels);
     }
     None
 }

@@ -1,12 +1,12 @@
 //! The values that are handed out of labels.
-ghost use Rattle.std.specs.Prelude.{◌≡◌, ℕ, ◌+◌, ◌/◌, ◌<◌, ◌≤◌, List, [], length, Option, None, OnOk};
+ghost use Rattle.std.specs.Prelude.{◌≡◌, ℕ, ◌+◌, ◌/◌, ◌<◌, ◌≤◌, List, [], min, length, Option, None, OnOk};
+ghost use Rattle.std.specs.Int.{bit_at};
 ghost use Rattle.label_search.specs.declared.labels.Label.{Label as KnownLabel};
 ghost use Rattle.label_search.specs.Labels.{label_of};
-ghost use Rattle.label_search.specs.Groups.{AreGathered, HaveNothing};
+ghost use Rattle.label_search.specs.Groups.{AreMarked, HaveNothing};
 ghost use Rattle.label_search.specs.Values.{rows_from, value_kept, values_kept, AreAsBeforeFrom, AreRowsTo};
 
-use crate::cells::Run;
-use crate::groups::nothing;
+use crate::groups::GROUP;
 use crate::labels::Label;
 use std::alloc::Global;
 use taxi_base::Memory;
@@ -35,51 +35,56 @@ fn value_below(bound: Option<u32>, known: Option<Label>) -> Option<u32>
     }
 }
 
-/// Adds the values below the bound, or all where there is none, by cell, and takes all labels away. Each is in the run of its
-/// group.
-pub(crate) fn take_gathered(
+/// Adds the values below the bound, or all where there is none, by cell, and takes all labels away. Each is of a marked cell.
+pub(crate) fn take_marked(
     values: &mut Vec<CellValue>,
     known: &mut [Option<Label>],
-    groups: &mut [Run],
+    groups: &mut [u64],
     bound: Option<u32>,
 ) -> Result<(), Memory>
     requires none_yet { values.old.items ≡ [] }
     requires counted { length groups.old ≡ length known.old / 64 + 1 }
-    requires gathered { AreGathered known.old groups.old }
+    requires marked { AreMarked known.old groups.old }
     ensures known { length known.new ≡ length known.old }
     ensures groups { length groups.new ≡ length groups.old }
-    ensures gathered { AreGathered known.new groups.new }
+    ensures marked { AreMarked known.new groups.new }
     ensures taken { OnOk result (HaveNothing known.new) }
     ensures values { OnOk result (values.new.items ≡ rows_from 0 (values_kept bound known.old)) }
 {
     for group in 0..groups.len() {
-        let run = groups[group];
-        if run.first < run.until {
-            take_run(values, known, bound, run.first, run.until)?;
-            groups[group] = nothing();
+        let marks = groups[group];
+        if marks != 0 {
+            take_group(values, known, bound, group * GROUP, marks)?;
+            groups[group] = 0;
         }
     }
     Ok(())
 }
 
-/// Adds the values below the bound of some cells, and takes their labels away. `all` are the labels before any was taken away.
-fn take_run(
+/// Adds the values below the bound of the marked cells of a group, and takes their labels away. `all` are the labels before any
+/// was taken away.
+fn take_group(
     values: &mut Vec<CellValue>,
     known: &mut [Option<Label>],
     bound: Option<u32>,
     first: usize,
-    until: usize,
+    marks: u64,
 ) -> Result<(), Memory>
-    requires order { first ≤ until }
-    requires inside { until ≤ length known.old }
+    requires inside { (k : ℕ) → k < 64 → bit_at marks k ≡ 1 → first + k < length known.old }
+    requires unmarked { (k : ℕ) → k < 64 → bit_at marks k ≡ 0 → label_of known.old (first + k) ≡ None }
     ensures length { length known.new ≡ length known.old }
-    ensures taken { OnOk result ((c : ℕ) → first ≤ c → c < until → label_of known.new c ≡ None) }
+    ensures taken { OnOk result ((k : ℕ) → k < 64 → bit_at marks k ≡ 1 → label_of known.new (first + k) ≡ None) }
     ensures others { (c : ℕ) → label_of known.old c ≡ None → label_of known.new c ≡ None }
-    ensures rest { (c : ℕ) → until ≤ c → label_of known.new c ≡ label_of known.old c }
+    ensures rest { (c : ℕ) → first + 64 ≤ c → label_of known.new c ≡ label_of known.old c }
     ensures values { (all : List (Option KnownLabel)) → AreAsBeforeFrom first all known.old → length all ≡ length known.old
-        → AreRowsTo bound all first values.old.items → OnOk result (AreRowsTo bound all until values.new.items) }
+        → AreRowsTo bound all (min first (length all)) values.old.items
+        → OnOk result (AreRowsTo bound all (min (first + 64) (length all)) values.new.items) }
 {
-    for cell in first..until {
+    let mut left = marks;
+    'cells: while left != 0 {
+        let lowest = left.trailing_zeros();
+        left &= !(1u64 << lowest);
+        let cell = first + lowest as usize;
         let value = value_below(bound, known[cell]);
         known[cell] = None;
         if let Some(value) = value {

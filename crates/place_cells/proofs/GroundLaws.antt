@@ -20,9 +20,12 @@ use Rattle.label_search.specs.declared.cells.Run.{Run}
 use Rattle.label_search.specs.Problem.{IsIn}
 use Rattle.walk_labels.specs.Places.{Place}
 use Rattle.walk_labels.specs.PlacesInWindows.{AreWindowLists}
+use Rattle.window_store.specs.Rows.{span_in}
 use Rattle.window_store.proofs.Rows.{apart_at}
 use Rattle.place_cells.specs.Laid.{Numbers, first_in, AreNumbered, HaveNumbers}
+use Rattle.place_cells.specs.declared.spots.ArcRow.{ArcRow}
 use Rattle.place_cells.specs.Cut.{IsCut}
+use Rattle.place_cells.specs.Tells.{TellsCell}
 use Rattle.place_cells.specs.Turns.{next_arcs, previous_arcs, no_arc}
 use Rattle.place_cells.specs.Ground.{Ground, ground_in, cells_of, run_of_arc, IsSound, seconds_on, last_in, arc_in, window_in, can_use_in, usable_in, network_in, IsArcPart}
 use Rattle.place_cells.proofs.RunLaws.{row_of, usable_parts, in_run_of_arc, in_run, run_inside, window_by, window_from_by}
@@ -58,6 +61,18 @@ module _ (g : Ground) where
           let some = (apart_at 0 (row_of g arc) apart (k - first_in g.numbers.first arc.0) (omega (arith, here.from_first, here.until_end))).1 in
           and_from _ _ (lt-ltb k (length (cells_of g)) (omega (arith, here.until_end, (run_inside g numbered room arc below).1)))
           (subst (λ (p : Place). IsTrue (can_use_in g p.arc && ltb p.window.from p.window.until)) (sym is) (and_from _ _ can (lt-ltb _ _ some)))
+
+  -- and the arc's row tells its cells
+  pub arc_told : AreNumbered g.numbers.spots g.numbers.first → HaveNumbers g.windows g.numbers.first → (arc : Arc) → arc.0 < 2 * length g.windows
+      → (row : ArcRow) → row.first ≡ first_in g.numbers.first arc.0 → row.windows.now ≡ row_of g arc → seconds_on g (segment_of arc) ≡ Some row.seconds
+      → (k : ℕ) → IsIn (run_of_arc g arc) k → TellsCell g row k
+  arc_told numbered room arc below row first windows timed k here =
+      let is = in_run g numbered room arc below k here in record {
+        from_first = omega (arith, here.from_first, first);
+        within = omega (arith, here.from_first, here.until_end, first, ap length windows);
+        window = ap (λ (n : ℕ). span_in row.windows.now (k - n)) first ∙ ap (λ (xs : List Span). span_in xs (k - first_in g.numbers.first arc.0)) windows ∙ sym (ap (λ (p : Place). p.window) is);
+        seconds = sym (ap (λ (p : Place). unwrap_or (seconds_on g (segment_of p.arc)) 1) is ∙ ap (λ (o : Option ℕ). unwrap_or o 1) timed);
+      }
 
   pub usable_exists : (arc : Arc) → IsTrue (can_use_in g arc) → IsTrue (arc_exists g.layout arc)
   usable_exists arc h = (and_parts (arc_exists g.layout arc) (is_some (seconds_on g (segment_of arc))) h).0

@@ -11,7 +11,7 @@ pub record IsCut (row : List Span) (low high : ℕ) (part : Run) : Type 0 where
   pub within : part.until ≤ length row
   pub whole : (k : ℕ) → k < length row → low ≤ (span_in row k).until → (span_in row k).from ≤ high → IsIn part k
 
--- so many windows of a row end before a second, and the others do not
+-- so many windows of a row end before a second
 pub record IsFirstNotOver (row : List Span) (second n : ℕ) : Type 0 where
   pub few : n ≤ length row
   pub over : (k : ℕ) → k < n → (span_in row k).until < second

@@ -4,4 +4,5 @@ pub mod Cut
 pub mod Turns
 pub mod Ground
 pub mod Grounds
+pub mod Tells
 pub mod Found

@@ -14,4 +14,4 @@ pub use answer::{rows_of, steps_of};
 pub use ground::SearchGround;
 pub use numbers::CellNumbers;
 pub use room::SearchRoom;
-pub use spots::{CellPlace, Spot};
+pub use spots::{ArcRow, Beside, CellPlace, Spot};

@@ -112,8 +112,9 @@ fn numbers_for(arcs: usize, store: &WindowStore) -> usize
 fn push_block(spots: &mut Vec<Spot>, arc: Arc, room: usize) -> Result<(), Memory>
     ensures { OnOk result (spots.new.items ≡ spots.old.items ++ block arc room) }
 {
+    spots.reserve(room)?;
     for window in 0..room {
-        spots.push(Spot { arc, window })?;
+        spots.push_reserved(Spot { arc, window });
     }
     Ok(())
 }

@@ -1,20 +1,21 @@
 //! What a search asks of its ground.
-ghost use Rattle.std.specs.Prelude.{◌≡◌, ℕ, ◌/◌, ◌<◌, length, unwrap_or, Some, is_some, IsTrue, IfSome};
+ghost use Rattle.std.specs.Prelude.{◌≡◌, ℕ, ◌/◌, ◌<◌, length, unwrap_or, Some, is_some, nat_lt, ◌&&◌, IsTrue, IfSome};
 ghost use Rattle.taxi_base.specs.declared.numbers.Arc.{Arc as ArcNumber};
 ghost use Rattle.taxi_base.specs.declared.numbers.Node.{Node as NodeNumber};
 ghost use Rattle.taxi_base.specs.Airport.{arc_exists, tail, head, meet, segment_of, seconds_in};
-ghost use Rattle.label_search.specs.Problem.{cell_of};
+ghost use Rattle.label_search.specs.Problem.{cell_of, IsIn};
 ghost use Rattle.walk_labels.specs.Places.{place_at};
 ghost use Rattle.walk_labels.specs.Requests.{leads_to_one_of};
 ghost use Rattle.place_cells.specs.Turns.{next_arcs, previous_arcs, leaving_arcs, entering_arcs};
 ghost use Rattle.place_cells.specs.Laid.{windows_of, window_of_spot};
 ghost use Rattle.place_cells.specs.Ground.{last_in, network_in, cells_of, run_of_arc, arc_in, can_use_in, usable_in, IsArcPart};
+ghost use Rattle.place_cells.specs.Tells.{TellsCell, IsOnward, IsBackward};
 ghost use Rattle.place_cells.specs.Grounds.{ground_of, place_of};
 
 use crate::cut::part_between;
 use crate::ground::SearchGround;
-use crate::spots::{CellPlace, Spot};
-use label_search::{Cell, Run};
+use crate::spots::{ArcRow, Beside, CellPlace, Spot};
+use label_search::{Cell, Part, Run};
 use segment_graph::segment_of;
 use taxi_base::{Arc, Node, Span, Time};
 
@@ -37,10 +38,57 @@ impl<'a> SearchGround<'a> {
                 window: Span { from: 0, until: 0 },
             };
         }
+        self.place_of(cell)
+    }
+
+    /// The same of a number that there is.
+    #[inline(always)]
+    fn place_of(&self, cell: usize) -> CellPlace
+        requires { cell < length (cells_of (ground_of self.now)) }
+        ensures { place_of result ≡ place_at (cells_of (ground_of self.now)) cell }
+    {
         let spot = self.numbers.spots[cell];
         CellPlace {
             arc: spot.arc,
             window: self.window(spot),
+        }
+    }
+
+    /// Whether the class can use the arc, and the window is not empty.
+    #[inline(always)]
+    fn is_cell(&self, place: CellPlace) -> bool
+        ensures { result ≡ can_use_in (ground_of self.now) place.arc && nat_lt place.window.from place.window.until }
+    {
+        self.can_use(place.arc) && place.window.from < place.window.until
+    }
+
+    /// A number's place, with the arcs that may follow.
+    #[inline(always)]
+    pub fn onward(&self, cell: usize) -> Beside<'a>
+        requires { cell < length (cells_of (ground_of self.now)) }
+        ensures { IsOnward (ground_of self.now) cell result }
+    {
+        let place = self.place_of(cell);
+        if self.is_cell(place) {
+            let arcs = self.next(place.arc);
+            Beside { place, arcs }
+        } else {
+            Beside { place, arcs: &[] }
+        }
+    }
+
+    /// A number's place, with the arcs that may come before.
+    #[inline(always)]
+    pub fn backward(&self, cell: usize) -> Beside<'a>
+        requires { cell < length (cells_of (ground_of self.now)) }
+        ensures { IsBackward (ground_of self.now) cell result }
+    {
+        let place = self.place_of(cell);
+        if self.is_cell(place) {
+            let arcs = self.previous(place.arc);
+            Beside { place, arcs }
+        } else {
+            Beside { place, arcs: &[] }
         }
     }
 
@@ -58,15 +106,6 @@ impl<'a> SearchGround<'a> {
         }
     }
 
-    /// The arc of a number.
-    #[inline(always)]
-    pub fn arc(&self, cell: usize) -> Arc
-        requires { cell < length (cells_of (ground_of self.now)) }
-        ensures { result ≡ arc_in (ground_of self.now) cell }
-    {
-        self.numbers.spots[cell].arc
-    }
-
     /// The arc of a number, if it is that of a cell.
     #[inline(always)]
     pub fn usable(&self, cell: usize) -> Option<Arc>
@@ -74,8 +113,8 @@ impl<'a> SearchGround<'a> {
         ensures some { IfSome result (λ arc. arc ≡ arc_in (ground_of self.now) cell) }
         ensures is { is_some result ≡ usable_in (ground_of self.now) cell }
     {
-        let place = self.place(cell);
-        if self.can_use(place.arc) && place.window.from < place.window.until {
+        let place = self.place_of(cell);
+        if self.is_cell(place) {
             Some(place.arc)
         } else {
             None
@@ -90,9 +129,17 @@ impl<'a> SearchGround<'a> {
         let place = self.place(cell);
         Cell {
             from: place.window.from,
-            last: last_second(place.window.until, self.horizon, self.clearance),
+            last: self.last(place.window),
             seconds: self.seconds(place.arc),
         }
+    }
+
+    /// The last second at which a step may leave in a window.
+    #[inline(always)]
+    pub fn last(&self, window: Span) -> Time
+        ensures { result ≡ last_in self.now.horizon self.now.clearance window }
+    {
+        last_second(window.until, self.horizon, self.clearance)
     }
 
     /// The seconds that the class takes on an arc; one second where it may not use it.
@@ -190,23 +237,63 @@ impl<'a> SearchGround<'a> {
 
     /// Those cells of an arc that the class may use which do not end before one second nor begin after another.
     #[inline(always)]
-    pub fn part(&self, arc: Arc, low: Time, high: Time) -> Run
+    pub fn part(&self, arc: Arc, low: Time, high: Time) -> Part<ArcRow<'a>>
         requires { IsTrue (arc_exists (ground_of self.now).layout arc) }
-        ensures { IsArcPart (ground_of self.now) arc low high result }
+        ensures part { IsArcPart (ground_of self.now) arc low high result.run }
+        ensures told { (k : ℕ) → IsIn result.run k → TellsCell (ground_of self.now) result.row k }
     {
-        if self.classes.seconds(self.class, segment_of(arc)).is_none() {
-            return Run { first: 0, until: 0 };
+        match self.classes.seconds(self.class, segment_of(arc)) {
+            None => no_cells(),
+            Some(seconds) => {
+                let first = self.numbers.first[arc.0 as usize];
+                let windows = self.store.spans(segment_of(arc));
+                let part = part_between(windows, low, high);
+                Part {
+                    run: Run {
+                        first: first + part.first,
+                        until: first + part.until,
+                    },
+                    row: ArcRow {
+                        windows,
+                        first,
+                        seconds,
+                    },
+                }
+            }
         }
-        let first = self.numbers.first[arc.0 as usize];
-        let part = part_between(self.store.spans(segment_of(arc)), low, high);
-        Run {
-            first: first + part.first,
-            until: first + part.until,
+    }
+
+    /// A cell of an arc, read from the arc's row.
+    #[inline(always)]
+    pub fn cell_in(&self, row: ArcRow, cell: usize) -> Cell
+        requires { TellsCell (ground_of self.now) row cell }
+        ensures { result ≡ cell_of (network_in (ground_of self.now)) cell }
+    {
+        let window = row.windows[cell - row.first];
+        Cell {
+            from: window.from,
+            last: self.last(window),
+            seconds: row.seconds,
         }
     }
 }
 
+/// No cells of any arc.
+fn no_cells<'a>() -> Part<ArcRow<'a>>
+    ensures { (k : ℕ) → IsIn result.run k → ⊥ }
+{
+    Part {
+        run: Run { first: 0, until: 0 },
+        row: ArcRow {
+            windows: &[],
+            first: 0,
+            seconds: 0,
+        },
+    }
+}
+
 /// The last second at which a step may leave in a window that ends so.
+#[inline(always)]
 fn last_second(until: Time, horizon: Time, clearance: Time) -> Time
     ensures { (from : ℕ) → result ≡ last_in horizon clearance (record { from = from; until = until }) }
 {

@@ -20,14 +20,14 @@ loop-run-init g c =
 pub loop-run-preserved : goal.loop-run-preserved
 loop-run-preserved g c =
     let p = g.C.ForwardCells.problem c.args.cells.now in
-    expanded_then p.network c.args.from.cell c.args.from.at _ (IsIn c.run-part.result)
+    expanded_then p.network c.args.from.cell c.args.from.at _ (IsIn c.run-part.result.run)
     (standing c.args.labels.now) (standing c.loop-run.labels) (standing c.expand_run.new.labels) c.loop-run.invariant c.expand_run.ensures
     (λ d. (k : ℕ) × (k < c.loop-run.run + 1) × IsIn (p.run c.args.from.cell k) d)
     (λ d t is e. elim (cases_lt is.0 c.loop-run.run) [
       | inl lt ↦ inl (is.0, lt, is.2)
       | inr le ↦ (
           let same : is.0 ≡ c.loop-run.run = omega (arith, is.1) in
-          inr (c.run-part.ensures.expansions_in d t (subst (λ k. IsIn (p.run c.args.from.cell k) d) same is.2) e (omega (arith, e.still_held, c.requires.ready.last))))
+          inr (c.run-part.ensures.part.expansions_in d t (subst (λ k. IsIn (p.run c.args.from.cell k) d) same is.2) e (omega (arith, e.still_held, c.requires.ready.last))))
     ])
 
 pub returns : goal.returns

@@ -1,8 +1,7 @@
-use Rattle.std.proofs.Common.{◌≡◌, sym, ap, ◌∙◌}
+use Rattle.std.proofs.Common.{◌≡◌, sym, ◌∙◌}
 use Rattle.std.specs.Prelude.{⊤}
 use Rattle.label_queue.specs.Keys.{without}
 use Rattle.label_queue.specs.Least.{IsLeast}
-use Rattle.label_search.specs.declared.cells.Cell.{Cell}
 use Rattle.label_search.specs.Labels.{standing}
 use Rattle.label_search.specs.Expanding.{IsExpanded}
 use Rattle.label_search.proofs.Settling.{taken}
@@ -29,14 +28,8 @@ loop-cell-preserved g c =
     let expanded : IsExpanded p.network cell c.in-Some.at (λ d. ⊤) (taken p c.requires.sound s c.loop-cell.invariant cell c.in-Some.at least) (standing c.expand.new.labels) = (rw same at c.expand.ensures) in
     underway_new p c.requires.sound s c.loop-cell.invariant cell c.in-Some.at least (standing c.expand.new.labels) expanded (sym c.is_target.ensures ∙ c.if-is_target.false)
 
-pub is_target-requires : goal.is_target-requires
-is_target-requires g c =
-    let p = g.C.ForwardCells.problem c.args.cells.now in
-    let least : IsLeast c.loop-cell.labels.queue c.in-Some.cell c.in-Some.at = c.in-Some.ensures.least in
-    cell_inside p c.requires.sound (standing c.loop-cell.labels) c.loop-cell.invariant c.in-Some.cell c.in-Some.at least
-
-pub cell-last-requires : goal.cell-last-requires
-cell-last-requires g c =
+pub place-place-requires : goal.place-place-requires
+place-place-requires g c =
     let p = g.C.ForwardCells.problem c.args.cells.now in
     let least : IsLeast c.loop-cell.labels.queue c.in-Some.cell c.in-Some.at = c.in-Some.ensures.least in
     cell_inside p c.requires.sound (standing c.loop-cell.labels) c.loop-cell.invariant c.in-Some.cell c.in-Some.at least
@@ -47,7 +40,7 @@ expand-requires-clause-ready g c =
     let least : IsLeast c.loop-cell.labels.queue c.in-Some.cell c.in-Some.at = c.in-Some.ensures.least in
     record {
       inside = cell_inside p c.requires.sound (standing c.loop-cell.labels) c.loop-cell.invariant c.in-Some.cell c.in-Some.at least;
-      last = ap (λ (x : Cell). x.last) c.cell-last.ensures;
+      last = c.last-last.ensures;
     }
 
 pub returns-then-is_target : goal.returns-then-is_target

@@ -1,9 +1,10 @@
-use Rattle.std.proofs.Common.{◌-◌, arith}
-use Rattle.window_store.proofs.Rows.{apart_rising}
+use Rattle.std.proofs.Common.{◌-◌, length, arith}
+use Rattle.window_store.proofs.Rows.{apart_in_order}
 use Rattle.place_cells.proofs.cut.first_not_over.Goals as goal
 
-pub returns-then-row-first : goal.returns-then-row-first
-returns-then-row-first c = record {
-  few = omega (arith, c.loop-first.invariant);
-  over = λ k below. omega (arith, apart_rising 0 c.args.row.now c.requires k (c.loop-first.first - 1) (omega (arith, below)) (omega (arith, c.loop-first.invariant, below)), c.if-row-first.true);
+-- the last window begins by the second, so those before it end before
+pub returns-then-row-count : goal.returns-then-row-count
+returns-then-row-count c = record {
+  few = omega arith;
+  over = λ k below. omega (arith, (apart_in_order 0 c.args.row.now c.requires k (length c.args.row.now - 1) (omega (arith, below)) (omega (arith, c.if-count-gt0.true))).1, c.if-row-count.true);
 }

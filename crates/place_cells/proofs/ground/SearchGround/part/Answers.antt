@@ -1,4 +1,4 @@
-use Rattle.std.proofs.Common.{◌≡◌, ℕ, suc, ◌+◌, ◌*◌, ◌/◌, ◌<◌, ◌≤◌, List, [], get_or, length, IsTrue, is_some, sym, ◌∙◌, ap, subst, arith}
+use Rattle.std.proofs.Common.{◌≡◌, ℕ, suc, ◌+◌, ◌*◌, ◌/◌, ◌<◌, ◌≤◌, List, [], get_or, length, IsTrue, Some, is_some, sym, ◌∙◌, ap, subst, arith}
 use Rattle.std.proofs.lemmas.Bool.{and_from}
 use Rattle.std.proofs.lemmas.List.{get_or_default}
 use Rattle.taxi_base.specs.declared.numbers.Arc.{Arc}
@@ -14,7 +14,7 @@ use Rattle.place_cells.specs.Ground.{can_use_in, IsArcPart}
 use Rattle.place_cells.specs.Grounds.{ground_of}
 use Rattle.place_cells.proofs.LaidLaws.{windows_of-at, windows_of-length}
 use Rattle.place_cells.proofs.TurnLaws.{exists-below}
-use Rattle.place_cells.proofs.GroundLaws.{arc_part}
+use Rattle.place_cells.proofs.GroundLaws.{arc_part, arc_told}
 use Rattle.place_cells.proofs.ground.SearchGround.part.Goals as goal
 
 pub index-first-requires : goal.index-first-requires
@@ -22,10 +22,10 @@ index-first-requires c =
     let s = c.args.self.now in
     omega (arith, exists-below s.graph.now c.args.arc c.requires, s.lists, windows_of-length s.store.now, s.room.arcs, s.numbers.now.first.ok.0)
 
-pub spans-requires : goal.spans-requires
-spans-requires c =
+pub spans-windows-requires : goal.spans-windows-requires
+spans-windows-requires c =
     let s = c.args.self.now in
-    omega (arith, exists-below s.graph.now c.args.arc c.requires, s.lists, ap (λ (t : Segment). t.0) c.segment_of-2.ensures)
+    omega (arith, exists-below s.graph.now c.args.arc c.requires, s.lists, ap (λ (t : Segment). t.0) c.segment_of-in-Some.ensures)
 
 first_is : (s : SearchGround) (arc : Arc) → IsTrue (arc_exists s.graph.now arc) → (first : ℕ) → first ≡ get_or s.numbers.now.first.items arc.0 first → first ≡ first_in s.numbers.now.first.items arc.0
 first_is s arc exists first read =
@@ -52,21 +52,33 @@ overflow_add-result c =
     record {
       fits = omega (
         arith,
-        fits s c.args.arc c.requires c.index-first.result.now c.index-first.ensures c.segment_of-2.result c.spans.result.now c.segment_of-2.ensures c.spans.ensures.spans,
+        fits s c.args.arc c.requires c.index-first.result.now c.index-first.ensures c.segment_of-in-Some.result c.spans-windows.result.now c.segment_of-in-Some.ensures c.spans-windows.ensures.spans,
         c.part_between-part.ensures.ordered,
         c.part_between-part.ensures.within,
         s.numbers.now.spots.small,
       );
     }
 
-pub returns : goal.returns
-returns c =
+pub returns-in-Some-clause-part : goal.returns-in-Some-clause-part
+returns-in-Some-clause-part c =
     let s = c.args.self.now in
     let below : c.args.arc.0 < 2 * length (windows_of s.store.now) = omega (arith, exists-below s.graph.now c.args.arc c.requires, s.lists, windows_of-length s.store.now) in
-    let row = row_is s c.args.arc c.segment_of-2.result c.spans.result.now c.segment_of-2.ensures c.spans.ensures.spans in
-    let can : IsTrue (can_use_in (ground_of s) c.args.arc) = and_from _ _ c.requires
-    (sym (ap is_some (c.seconds.ensures.set ∙ ap (λ (t : Segment). seconds_in s.classes.now.table s.class t) c.segment_of.ensures)) ∙ c.if-is_none.ensures) in
+    let row = row_is s c.args.arc c.segment_of-in-Some.result c.spans-windows.result.now c.segment_of-in-Some.ensures c.spans-windows.ensures.spans in
+    let timed : seconds_in s.classes.now.table s.class (segment_of c.args.arc) ≡ Some c.in-Some.seconds =
+    sym (c.seconds.ensures.set ∙ ap (λ (t : Segment). seconds_in s.classes.now.table s.class t) c.segment_of.ensures) ∙ c.in-Some.is in
+    let can : IsTrue (can_use_in (ground_of s) c.args.arc) = and_from _ _ c.requires (ap is_some timed) in
     subst (λ (n : ℕ). IsArcPart (ground_of s) c.args.arc c.args.low c.args.high (record { first = n + c.part_between-part.result.first; until = n + c.part_between-part.result.until }))
     (sym (first_is s c.args.arc c.requires c.index-first.result.now c.index-first.ensures))
-    (arc_part (ground_of s) s.numbers.now.numbered s.room c.args.arc below (subst (AreApart 0) row c.spans.ensures.apart) can c.args.low c.args.high c.part_between-part.result
+    (arc_part (ground_of s) s.numbers.now.numbered s.room c.args.arc below (subst (AreApart 0) row c.spans-windows.ensures.apart) can c.args.low c.args.high c.part_between-part.result
     (subst (λ (xs : List Span). IsCut xs c.args.low c.args.high c.part_between-part.result) row c.part_between-part.ensures))
+
+pub returns-in-Some-clause-told : goal.returns-in-Some-clause-told
+returns-in-Some-clause-told c k on =
+    let s = c.args.self.now in
+    let below : c.args.arc.0 < 2 * length (windows_of s.store.now) = omega (arith, exists-below s.graph.now c.args.arc c.requires, s.lists, windows_of-length s.store.now) in
+    let first = first_is s c.args.arc c.requires c.index-first.result.now c.index-first.ensures in
+    let row = row_is s c.args.arc c.segment_of-in-Some.result c.spans-windows.result.now c.segment_of-in-Some.ensures c.spans-windows.ensures.spans in
+    let timed : seconds_in s.classes.now.table s.class (segment_of c.args.arc) ≡ Some c.in-Some.seconds =
+    sym (c.seconds.ensures.set ∙ ap (λ (t : Segment). seconds_in s.classes.now.table s.class t) c.segment_of.ensures) ∙ c.in-Some.is in
+    arc_told (ground_of s) s.numbers.now.numbered s.room c.args.arc below _ first row timed k
+    (record { from_first = omega (arith, on.from_first, first); until_end = omega (arith, on.until_end, first, c.part_between-part.ensures.within, ap length row) })

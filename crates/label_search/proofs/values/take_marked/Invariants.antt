@@ -1,11 +1,11 @@
 use Rattle.std.proofs.Common.{◌*◌, min, length}
 use Rattle.label_search.specs.Values.{AreAsBeforeFrom, AreRowsTo}
-use Rattle.label_search.proofs.GroupLaws.{GroupsClearedTo}
-use Rattle.label_search.proofs.values.take_gathered.Given as goal
+use Rattle.label_search.proofs.GroupLaws.{AreTakenTo}
+use Rattle.label_search.proofs.values.take_marked.Given as goal
 
 abbrev pub invariant-loop-group : goal.invariant-loop-group
 invariant-loop-group l = record {
-  cleared : GroupsClearedTo l.initial.known l.known l.initial.groups l.groups l.group;
+  taken : AreTakenTo l.initial.known l.known l.initial.groups l.groups l.group;
   rest : AreAsBeforeFrom (l.group * 64) l.initial.known l.known;
   rows : AreRowsTo l.bound l.initial.known (min (l.group * 64) (length l.initial.known)) l.values.items;
 }

@@ -1,5 +1,5 @@
 use Rattle.std.proofs.Common.{◌≤◌, length}
-use Rattle.place_cells.proofs.cut.first_not_over.Given as goal
+use Rattle.place_cells.proofs.cut.first_among.Given as goal
 
 abbrev pub invariant-loop-first : goal.invariant-loop-first
 invariant-loop-first l = l.first ≤ length l.row
