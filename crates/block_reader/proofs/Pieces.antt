@@ -1,11 +1,14 @@
 -- A text, or a word, that stands at the front of the bytes.
-use Rattle.std.proofs.Common.{◌≡◌, ◌≢◌, ◌==◌, ◌&&◌, ◌+◌, ◌-◌, ◌<◌, ◌≤◌, ◌∙◌, ℕ, zero, suc, Bool, true, false, cond, List, [], ◌∷◌, ◌++◌, length, get_or, take, drop, Option, Some, None, refl, sym, ap, arith, inl, inr}
-use Rattle.std.specs.Prelude.{option_map}
+use Rattle.std.proofs.Common.{◌≡◌, ◌≢◌, ◌==◌, ◌&&◌, ◌+◌, ◌-◌, ◌*◌, ◌<◌, ◌≤◌, ◌∙◌, ℕ, zero, suc, Bool, true, false, cond, List, [], ◌∷◌, ◌++◌, length, get_or, take, drop, Option, Some, None, refl, sym, ap, arith, inl, inr}
+use Rattle.std.specs.Prelude.{option_map, bytes_eq}
+use Rattle.std.specs.Bool.{one_answer}
 use Rattle.std.specs.List.{position, position_or_len, AllByRecursion}
 use Rattle.std.proofs.lemmas.List.Sums.{fails_before_first}
 use borrow.Author.Tests.{ltb-false}
 use Rattle.std.proofs.lemmas.Bool.{eqb-true, cases_Bool, and_parts}
-use Rattle.std.proofs.lemmas.List.{take_all, drop_more, drop_all, length-drop}
+use Rattle.std.proofs.lemmas.Bool.Decides.{nat_tests}
+use Rattle.std.proofs.lemmas.Slice.Eq.{bytes_eq-Decides}
+use Rattle.std.proofs.lemmas.List.{take_all, take-append-drop, take-take, length-drop}
 use Rattle.std.proofs.lemmas.List.Quantifiers.{position-Some}
 use Rattle.block_reader.specs.Reading.{behind, begins_with, word_at}
 
@@ -103,7 +106,15 @@ word-again last (b ∷ word) rest low plain =
     let differ : (b == last) ≡ false = (let h = plain.0 in grind (arith, low)) in
     rw (differ, word-again last word rest low plain.1) refl
 
--- ---- a text, byte by byte
+-- ---- a text, compared as a whole
+
+-- whether a text stands at the front is told by comparing it with as many bytes
+pub begins-compared : (text bytes : List ℕ) → length text ≤ length bytes → begins_with text bytes ≡ bytes_eq text (take (length text) bytes)
+begins-compared [] bytes fits = refl
+begins-compared (b ∷ text) [] fits = absurd (omega (arith, fits))
+begins-compared (b ∷ text) (c ∷ bytes) fits = rw (eqb-turned c b, begins-compared text bytes (omega (arith, fits))) refl where
+  eqb-turned : (m n : ℕ) → (m == n) ≡ (n == m)
+  eqb-turned m n = grind (arith, nat_tests)
 
 pub begins-short : (text bytes : List ℕ) → length bytes < length text → begins_with text bytes ≡ false
 begins-short [] bytes short = absurd (omega (arith, short))
@@ -113,18 +124,24 @@ begins-short (b ∷ text) (c ∷ bytes) short = rw (begins-short text bytes (ome
   and_false true = refl
   and_false false = refl
 
-module _ (text bytes : List ℕ) (i : ℕ) (low : i < length text) (long : length text ≤ length bytes) where
-  begins-at : begins_with (drop i text) (drop i bytes) ≡ (get_or bytes i 0 == get_or text i 0 && begins_with (drop (i + 1) text) (drop (i + 1) bytes))
-  begins-at = rw (drop_more text i 0 low, drop_more bytes i 0 (omega (arith, low, long))) refl
+-- two texts with the same ends, which overlap or touch, are the same
+ends-same : (n m : ℕ) (a b : List ℕ) → m ≤ n → take n a ≡ take n b → drop m a ≡ drop m b → a ≡ b
+ends-same n m a b low front back =
+    sym (take-append-drop m a)
+    ∙ ap (λ (t : List ℕ). t ++ drop m a) (sym (take-take m n a low) ∙ ap (take m) front ∙ take-take m n b low)
+    ∙ ap (λ (t : List ℕ). take m b ++ t) back
+    ∙ take-append-drop m b
 
-  pub begins-more : (get_or bytes i 0 == get_or text i 0) ≡ true → begins_with (drop i text) (drop i bytes) ≡ begins_with (drop (i + 1) text) (drop (i + 1) bytes)
-  begins-more same = begins-at ∙ rw same refl
-
-  pub begins-other : (get_or bytes i 0 == get_or text i 0) ≡ false → begins_with (drop i text) (drop i bytes) ≡ false
-  begins-other other = begins-at ∙ rw other refl
-
-pub begins-all : (text bytes : List ℕ) (i : ℕ) → length text ≤ i → begins_with (drop i text) (drop i bytes) ≡ true
-begins-all text bytes i past = rw (drop_all i text past) refl
+-- where their first bytes are the same, texts are told apart by their last
+pub compared-by_ends : (n : ℕ) (a b first front last back : List ℕ) → length a ≡ length b → length a ≤ 2 * n → first ≡ take n a → front ≡ take n b
+    → last ≡ drop (length a - n) a → back ≡ drop (length b - n) b → bytes_eq first front ≡ true → bytes_eq last back ≡ bytes_eq a b
+compared-by_ends n a b first front last back long few is_first is_front is_last is_back same =
+    one_answer {P = a ≡ b} (bytes_eq last back) (bytes_eq a b) (
+      (λ e. ends-same n (length a - n) a b (omega (arith, few))
+          (sym is_first ∙ (bytes_eq-Decides first front).0 same ∙ is_front)
+          (sym is_last ∙ (bytes_eq-Decides last back).0 e ∙ is_back ∙ ap (λ m. drop (m - n) b) (sym long))),
+      (λ e. (bytes_eq-Decides last back).1 (is_last ∙ ap (λ (x : List ℕ). drop (length x - n) x) e ∙ sym is_back)),
+    ) (bytes_eq-Decides a b)
 
 pub behind-begins : (text bytes : List ℕ) → begins_with text bytes ≡ true → behind text bytes ≡ Some (drop (length text) bytes)
 behind-begins [] bytes is = refl

@@ -92,7 +92,7 @@ arc-again arc = ap (λ n. record { 0 = n }) (go (arc.0 % 2 == 0) refl)
     go true e = let even : arc.0 % 2 ≡ 0 = eqb-true (arc.0 % 2) 0 e in omega (arith, even)
     go false e = let odd : arc.0 % 2 ≢ 0 = grind (arith, nat_tests, e) in omega (arith, odd)
 
-arc-segment : (s : Segment) (forward : Bool) → segment_of (arc_of s forward) ≡ s
+pub arc-segment : (s : Segment) (forward : Bool) → segment_of (arc_of s forward) ≡ s
 arc-segment s true = ap (λ n. record { 0 = n }) (omega arith)
 arc-segment s false = ap (λ n. record { 0 = n }) (omega arith)
 
@@ -116,6 +116,12 @@ chosen true x y e = (refl, cc)
 chosen false x y e = absurd cc
 
 module _ (airport : Airport) where
+  -- the word of a segment's arc in a direction
+  pub word_of_arc-of : (segment : Segment) (forward : Bool) → word_of_arc airport (arc_of segment forward) ≡ segment_word airport segment ++ sign_of forward ∷ []
+  word_of_arc-of segment forward =
+      ap (λ (s : Segment). arc_word (segment_word airport s) ((arc_of segment forward).0 % 2 == 0)) (arc-segment segment forward)
+      ∙ ap (λ (b : Bool). arc_word (segment_word airport segment) b) (arc-forward segment forward)
+
   module _ (well : IsWellFormed airport) where
     pub arc-read : (arc : Arc) → HasArc airport arc → arc_named airport (segment_word airport (segment_of arc)) (arc.0 % 2 == 0) ≡ Some arc
     unfolding arc_named
@@ -128,9 +134,7 @@ module _ (airport : Airport) where
         let c = chosen (arc_exists (layout_of airport) (arc_of a.0 forward)) (arc_of a.0 forward) arc a.2 in
         let n = segment-named airport segment a.0 a.1 in
         let there : HasArc airport (arc_of a.0 forward) = (let k = c.0 in search rules) in
-        let word : arc_word segment forward ≡ word_of_arc airport (arc_of a.0 forward) =
-        ap (λ (w : List ℕ). arc_word w forward) n.1 ∙ ap (λ (s : Segment). arc_word (segment_word airport s) forward) (sym (arc-segment a.0 forward))
-        ∙ ap (λ (b : Bool). arc_word (segment_word airport (segment_of (arc_of a.0 forward))) b) (sym (arc-forward a.0 forward)) in
+        let word : arc_word segment forward ≡ word_of_arc airport (arc_of a.0 forward) = ap (λ (w : List ℕ). arc_word w forward) n.1 ∙ sym (word_of_arc-of a.0 forward) in
         subst (λ (x : Arc). HasArc airport x × (arc_word segment forward ≡ word_of_arc airport x)) c.1 (there, word)
 
     pub arc-spelled : IsWord (HasArc airport) (word_of_arc airport) (arc_of_word airport)

@@ -1,4 +1,5 @@
 pub mod Fields
+pub mod Fronts
 pub mod Reading
 pub mod Blocks
 pub mod Read

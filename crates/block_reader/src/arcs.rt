@@ -1,12 +1,11 @@
 //! An arc and a blank, looked for first where it is likely.
-ghost use Rattle.std.specs.Prelude.{◌≡◌, ◌∷◌, [], ◌%◌, ◌==◌, IfSome, Some};
+ghost use Rattle.std.specs.Prelude.{◌≡◌, ◌∷◌, IfSome, Some};
 ghost use Rattle.taxi_text.specs.Fields.{sign_of};
 ghost use Rattle.block_reader.specs.Fields.{arc_of_word};
 ghost use Rattle.block_reader.specs.Reading.{field_at, Finds};
 
 use crate::fields::{behind, word_at};
 use airport_file::Airport;
-use segment_graph::segment_of;
 use taxi_base::Arc;
 use taxi_text::read_arc_word;
 
@@ -18,10 +17,10 @@ pub(crate) fn label_arc<'a>(
 ) -> Option<(Arc, &'a [u8])>
     ensures { Finds (λ x. (x.0, x.1.now)) result (field_at (arc_of_word airport.now) 32 bytes.now) }
 {
-    for ahead in [1, 2, 0, 3] {
-        let arc = Arc(before.0.saturating_add(ahead));
-        if let Some(rest) = behind_arc(airport, arc, bytes) {
-            return Some((arc, rest));
+    for ahead in [1, 3, 0] {
+        let near = Arc(before.0.saturating_add(ahead));
+        if let Some(found) = arc_beside(airport, near, bytes) {
+            return Some(found);
         }
     }
     any_arc(airport, bytes)
@@ -36,9 +35,9 @@ pub(crate) fn step_arc<'a>(
     ensures { Finds (λ x. (x.0, x.1.now)) result (field_at (arc_of_word airport.now) 32 bytes.now) }
 {
     if airport.graph().exists(before) {
-        for arc in airport.graph().next(before) {
-            if let Some(rest) = behind_arc(airport, *arc, bytes) {
-                return Some((*arc, rest));
+        for near in airport.graph().next(before) {
+            if let Some(found) = arc_beside(airport, *near, bytes) {
+                return Some(found);
             }
         }
     }
@@ -55,22 +54,36 @@ fn any_arc<'a>(airport: &Airport, bytes: &'a [u8]) -> Option<(Arc, &'a [u8])>
     Some((arc, rest))
 }
 
-// What comes after an arc's word and a blank, where there is this arc and they stand at the front.
-fn behind_arc<'a>(airport: &Airport, arc: Arc, bytes: &'a [u8]) -> Option<&'a [u8]>
-    ensures { IfSome result (λ rest. field_at (arc_of_word airport.now) 32 bytes.now ≡ Some (arc, rest.now)) }
+// The arc at the front, where it is on the segment of this one.
+#[inline(always)]
+fn arc_beside<'a>(airport: &Airport, near: Arc, bytes: &'a [u8]) -> Option<(Arc, &'a [u8])>
+    ensures { IfSome result (λ x. field_at (arc_of_word airport.now) 32 bytes.now ≡ Some (x.0, x.1.now)) }
 {
     // The airport keeps its rules, so no two segments have one name.
     let _ = airport.horizon();
+    let segment = near.segment();
+    if !airport.graph().exists(Arc::of(segment, true)) {
+        return None;
+    }
+    let name = airport.segment_name(segment);
+    let rest = behind(name.bytes(), bytes)?;
+    let (forward, rest) = direction(rest)?;
+    let arc = Arc::of(segment, forward);
     if !airport.graph().exists(arc) {
         return None;
     }
-    let name = airport.segment_name(segment_of(arc));
-    let rest = behind(name.bytes(), bytes)?;
-    behind(sign_and_blank(arc), rest)
+    Some((arc, rest))
 }
 
-fn sign_and_blank(arc: Arc) -> &'static [u8]
-    ensures { result.now ≡ sign_of (arc.0 % 2 == 0) ∷ 32 ∷ [] }
+// Which way a sign means, where one and a blank stand at the front.
+#[inline(always)]
+fn direction(bytes: &[u8]) -> Option<(bool, &[u8])>
+    ensures { IfSome result (λ x. bytes.now ≡ sign_of x.0 ∷ 32 ∷ x.1.now) }
 {
-    if arc.0 % 2 == 0 { b"+ " } else { b"- " }
+    let (front, rest) = bytes.split_first_chunk::<2>()?;
+    match *front {
+        [b'+', b' '] => Some((true, rest)),
+        [b'-', b' '] => Some((false, rest)),
+        _ => None,
+    }
 }

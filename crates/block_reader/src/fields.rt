@@ -1,7 +1,8 @@
 //! The words of a block, read at the front of the bytes.
-ghost use Rattle.std.specs.Prelude.{◌≡◌, ◌<◌, ◌≤◌, ◌^◌, ◌==◌, ◌&&◌, ◌||◌, not, nat_lt, IfSome, Some, length, position, slice_index_or};
+ghost use Rattle.std.specs.Prelude.{◌≡◌, ◌<◌, ◌≤◌, ◌^◌, ◌*◌, ◌==◌, bytes_eq, IfSome, Some, length, position};
 ghost use Rattle.taxi_text.specs.Fields.{name_of};
 ghost use Rattle.block_reader.specs.Fields.{digits_of, decimal_of, number_of, count_of, some_count_of, step_number_of, kind_of, class_of_word, segment_of_word};
+ghost use Rattle.block_reader.specs.Fronts.{IsSeparator, IsFrontOf};
 ghost use Rattle.block_reader.specs.Reading.{behind, begins_with, word_at, field_at, Finds};
 
 use airport_file::Airport;
@@ -11,6 +12,7 @@ use taxi_base::{Class, FlightKind, Name, Segment, Time};
 const MOST_DIGITS: usize = 7;
 
 /// What comes after a text that stands at the front.
+#[inline(always)]
 pub(crate) fn behind<'a>(text: &[u8], bytes: &'a [u8]) -> Option<&'a [u8]>
     ensures { Finds (λ rest. rest.now) result (behind text.now bytes.now) }
 {
@@ -21,19 +23,36 @@ pub(crate) fn behind<'a>(text: &[u8], bytes: &'a [u8]) -> Option<&'a [u8]>
     }
 }
 
-// Whether a text stands at the front. Texts are short, so their bytes are compared one by one.
+// Whether a text stands at the front. Most texts are short, so they are compared by their ends.
+#[inline(always)]
 fn begins_with(text: &[u8], bytes: &[u8]) -> bool
     ensures { result ≡ begins_with text.now bytes.now }
 {
     if bytes.len() < text.len() {
         return false;
     }
-    for (place, byte) in text.iter().enumerate() {
-        if bytes[place] != *byte {
-            return false;
-        }
+    let front = &bytes[..text.len()];
+    match text.len() {
+        4..=8 => have_same_ends::<4>(text, front),
+        9..=16 => have_same_ends::<8>(text, front),
+        _ => text == front,
     }
-    true
+}
+
+// Whether two texts are the same, of which the first so many bytes and the last so many are all.
+#[inline(always)]
+fn have_same_ends<const N: usize>(a: &[u8], b: &[u8]) -> bool
+    requires long { length a.now ≡ length b.now }
+    requires few { (N ≤ length a.now) × (length a.now ≤ 2 * N) }
+    ensures { result ≡ bytes_eq a.now b.now }
+{
+    let (Some(first), Some(last)) = (a.first_chunk::<N>(), a.last_chunk::<N>()) else {
+        return false;
+    };
+    let (Some(front), Some(back)) = (b.first_chunk::<N>(), b.last_chunk::<N>()) else {
+        return false;
+    };
+    *first == *front && *last == *back
 }
 
 /// A word up to its last byte, and what comes after that.
@@ -82,35 +101,55 @@ fn digits_of(digits: &[u8]) -> Option<u64>
     Some(number)
 }
 
-/// A number, read in one pass over its digits.
+/// A number before a blank or a line feed. It and the byte behind it are at most eight bytes.
+#[inline(always)]
 pub(crate) fn number_field(last: u8, bytes: &[u8]) -> Option<(Time, &[u8])>
+    requires { IsSeparator last }
     ensures { Finds (λ x. (x.0, x.1.now)) result (field_at number_of last bytes.now) }
 {
-    let mut number = 0;
-    for (place, byte) in bytes.iter().enumerate() {
-        if *byte == last {
-            if !has_no_leading_zero(bytes, place) {
-                return None;
-            }
-            return Some((number, &bytes[place + 1..]));
-        }
-        if place == MOST_DIGITS {
-            return None;
-        }
-        if !byte.is_ascii_digit() {
-            return None;
-        }
-        number = number * 10 + u32::from(*byte - b'0');
+    match bytes.first_chunk::<8>() {
+        Some(front) => number_in(last, front, bytes),
+        None => number_near_end(last, bytes),
     }
-    None
 }
 
-// Whether there are so many digits, the first of them no 0 where there are more.
-fn has_no_leading_zero(bytes: &[u8], digits: usize) -> bool
-    requires { digits ≤ length bytes.now }
-    ensures { result ≡ (nat_lt 0 digits && (digits == 1 || not (slice_index_or bytes.now 0 0 == 48))) }
+// The same where fewer than eight bytes are left.
+#[inline(never)]
+fn number_near_end(last: u8, bytes: &[u8]) -> Option<(Time, &[u8])>
+    requires last { IsSeparator last }
+    requires few { length bytes.now < 8 }
+    ensures { Finds (λ x. (x.0, x.1.now)) result (field_at number_of last bytes.now) }
 {
-    digits == 1 || digits > 1 && bytes[0] != b'0'
+    let mut front = [0; 8];
+    front[..bytes.len()].copy_from_slice(bytes);
+    number_in(last, &front, bytes)
+}
+
+// The number at the front of the bytes, read in one pass over the first eight, which have zeros behind the end.
+#[inline(always)]
+fn number_in<'a>(last: u8, front: &[u8; 8], bytes: &'a [u8]) -> Option<(Time, &'a [u8])>
+    requires last { IsSeparator last }
+    requires front { IsFrontOf front.now bytes.now }
+    ensures { Finds (λ x. (x.0, x.1.now)) result (field_at number_of last bytes.now) }
+{
+    if front[0] == b'0' {
+        if front[1] == last {
+            return Some((0, &bytes[2..]));
+        }
+        return None;
+    }
+    let mut number = 0;
+    for place in 0..MOST_DIGITS + 1 {
+        let byte = front[place];
+        if !byte.is_ascii_digit() {
+            if byte == last && place > 0 {
+                return Some((number, &bytes[place + 1..]));
+            }
+            return None;
+        }
+        number = number * 10 + u32::from(byte - b'0');
+    }
+    None
 }
 
 pub(crate) fn count_field(last: u8, bytes: &[u8]) -> Option<(u64, &[u8])>
@@ -134,6 +173,7 @@ pub(crate) fn some_count_field(last: u8, bytes: &[u8]) -> Option<(u64, &[u8])>
 
 // The number of a step, from 1 to 256.
 pub(crate) fn step_number_field(last: u8, bytes: &[u8]) -> Option<(u32, &[u8])>
+    requires { IsSeparator last }
     ensures { Finds (λ x. (x.0, x.1.now)) result (field_at step_number_of last bytes.now) }
 {
     let (number, rest) = number_field(last, bytes)?;

@@ -1,5 +1,5 @@
 -- A line of words, as it grows word by word.
-use Rattle.std.proofs.Common.{◌≡◌, ℕ, zero, suc, ◌+◌, ◌<◌, ◌≤◌, ◌^◌, List, [], ◌∷◌, ◌++◌, length, length-append, drop, set, decimal, append_assoc, refl, ◌∙◌, ap, arith}
+use Rattle.std.proofs.Common.{◌≡◌, ℕ, zero, suc, ◌+◌, ◌<◌, ◌≤◌, ◌^◌, List, [], ◌∷◌, ◌++◌, length, length-append, drop, decimal, append_assoc, refl, ◌∙◌, ap, arith}
 use Rattle.std.proofs.lemmas.List.{length-drop}
 use Rattle.std.proofs.lemmas.Fmt.{length-decimal-le}
 use Rattle.certificate.specs.Texts.{line_text, and_words}
@@ -19,13 +19,7 @@ line_text-and_words first (word ∷ words) =
 
 -- ---- a line that is written from its end
 
-pub drop-last : (xs : List ℕ) (n x : ℕ) → length xs ≡ n + 1 → drop n (set xs n x) ≡ x ∷ []
-drop-last [] n x long = absurd (omega (arith, long))
-drop-last (y ∷ []) zero x long = refl
-drop-last (y ∷ z ∷ xs) zero x long = absurd (omega (arith, long))
-drop-last (y ∷ xs) (suc n) x long = drop-last xs n x (omega (arith, long))
-
-pub has-room : (n start : ℕ) (bytes : List ℕ) → n < 2 ^ 64 → start ≤ 96 → length bytes ≡ 96 → length (drop start bytes) + 20 ≤ 96
+pub has-room : (n start : ℕ) (bytes : List ℕ) → n < 2 ^ 64 → start ≤ 1536 → length bytes ≡ 1536 → length (drop start bytes) + 20 ≤ 1536
     → (length (decimal n) ≤ start) × (start ≤ length bytes)
 has-room n start bytes fits low long room =
     let digits = length-decimal-le 20 n (omega arith) (omega (arith, fits)) fits in

@@ -1,5 +1,5 @@
 -- A text that is written piece by piece, and may be cut short.
-use Rattle.std.proofs.Common.{◌≡◌, ◌∙◌, ℕ, List, [], ◌∷◌, ◌++◌, length, map, Result, Ok, Err, decimal, codes, refl, sym, ap, append_assoc}
+use Rattle.std.proofs.Common.{◌≡◌, ◌∙◌, ℕ, zero, suc, List, [], ◌∷◌, ◌++◌, length, take, drop, map, Result, Ok, Err, decimal, codes, refl, sym, ap, append_assoc}
 use Rattle.std.specs.Prelude.{OnErr}
 use Rattle.taxi_base.specs.declared.rows.Step.{Step}
 use Rattle.taxi_base.specs.declared.rows.LabelRow.{LabelRow}
@@ -44,6 +44,25 @@ cut-last a b old before new is cut = record {
 lines-both : (a b : List (List (List ℕ))) → lines_text (a ++ b) ≡ lines_text a ++ lines_text b
 lines-both [] b = refl
 lines-both (l ∷ a) b = ap (λ (t : List ℕ). line_text l ++ t) (lines-both a b) ∙ sym (append_assoc (line_text l) (lines_text a) (lines_text b))
+
+-- the text of some rows, in two pieces
+rows_text-split : {X : Type 0} (words : X → List (List ℕ)) (n : ℕ) (rows : List X) → rows_text words (take n rows) ++ rows_text words (drop n rows) ≡ rows_text words rows
+rows_text-split words zero rows = refl
+rows_text-split words (suc n) [] = refl
+rows_text-split words (suc n) (row ∷ rows) =
+    append_assoc (line_text (words row)) (rows_text words (take n rows)) (rows_text words (drop n rows)) ∙ ap (λ (t : List ℕ). line_text (words row) ++ t) (rows_text-split words n rows)
+
+-- the first of the rows that were left come too
+pub more_come : {X : Type 0} (words : X → List (List ℕ)) (n : ℕ) (rows : List X) (text old before lines new : List ℕ)
+    → HasCome text old (rows_text words rows) before → lines ≡ rows_text words (take n rows) → new ≡ before ++ lines → HasCome text old (rows_text words (drop n rows)) new
+more_come words n rows text old before lines new come is grown =
+    let written : List ℕ = come.0 in
+    let rest : List ℕ = rows_text words (drop n rows) in
+    let both : rows_text words rows ≡ lines ++ rest = sym (rows_text-split words n rows) ∙ ap (λ (t : List ℕ). t ++ rest) (sym is) in (
+      written ++ lines,
+      come.1 ∙ ap (λ (t : List ℕ). written ++ t) both ∙ sym (append_assoc written lines rest),
+      grown ∙ ap (λ (t : List ℕ). t ++ lines) come.2 ∙ append_assoc old written lines,
+    )
 
 abbrev pub route_head : List ℕ → ℕ → ℕ → ℕ → List ℕ
 route_head flight second steps labels = line_text (codes "route" ∷ flight ∷ decimal second ∷ decimal steps ∷ decimal labels ∷ [])

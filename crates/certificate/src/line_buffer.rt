@@ -1,5 +1,5 @@
-//! One line of a block, written from its end to its front in a buffer that is kept for the next. So digits are written
-//! where they are to stand, the last first.
+//! Some lines of a block, written from the end of the last to the front of the first in a buffer that is kept for the next. So
+//! digits are written where they are to stand, the last first, and many lines come to a text in one piece.
 ghost use Rattle.std.specs.Prelude.{◌≡◌, ◌+◌, ◌≤◌, ◌∷◌, ◌++◌, [], length, decimal};
 ghost use Rattle.airport_file.specs.Words.{class_word, segment_word, word_of_arc};
 ghost use Rattle.certificate.specs.Printable.{HasArc, HasSegment, HasClass};
@@ -9,12 +9,15 @@ use itoa::write_digits;
 use std::marker::Model;
 use taxi_base::{Arc, Class, Segment};
 
-const ROOM: usize = 96;
+/// How many lines have room in the buffer. None has more than 96 bytes.
+pub(crate) const MOST_LINES: usize = 16;
 
-/// What is written of a line so far, which is its end.
+const ROOM: usize = 96 * MOST_LINES;
+
+/// What is written of some lines so far, which is their end.
 #[derive(Drop)]
 pub(crate) struct LineBuffer {
-    // The bytes from `start` on are those of the line.
+    // The bytes from `start` on are those of the lines.
     bytes: [u8; ROOM],
     start: usize,
 }
@@ -26,7 +29,7 @@ impl Model for LineBuffer {
 
     ghost view = { λ l. drop l.start l.bytes };
 
-    ghost invariant = { λ l. l.start ≤ 96 };
+    ghost invariant = { λ l. l.start ≤ 1536 };
 }
 
 impl LineBuffer {
@@ -52,17 +55,26 @@ impl LineBuffer {
         self.start = ROOM;
     }
 
-    /// A line of which only the line feed is written.
+    /// A line feed that nothing comes behind.
     pub(crate) fn begin(&mut self)
         ensures { self.new ≡ 10 ∷ [] }
     {
-        self.start = ROOM - 1;
-        self.bytes[ROOM - 1] = b'\n';
+        self.clear();
+        self.put_byte(b'\n');
+    }
+
+    /// A byte before what is written.
+    pub(crate) fn put_byte(&mut self, byte: u8)
+        requires { 1 + length self.old ≤ 1536 }
+        ensures { self.new ≡ byte ∷ self.old }
+    {
+        self.start -= 1;
+        self.bytes[self.start] = byte;
     }
 
     /// A text before what is written.
     pub(crate) fn put(&mut self, text: &[u8])
-        requires { length text.now + length self.old ≤ 96 }
+        requires { length text.now + length self.old ≤ 1536 }
         ensures { self.new ≡ text.now ++ self.old }
     {
         let end = self.start;
@@ -71,8 +83,9 @@ impl LineBuffer {
     }
 
     /// A number before what is written.
+    #[inline(always)]
     pub(crate) fn put_number(&mut self, number: u64)
-        requires { length self.old + 20 ≤ 96 }
+        requires { length self.old + 20 ≤ 1536 }
         ensures text { self.new ≡ decimal number ++ self.old }
         ensures length { length self.new ≤ length self.old + 20 }
     {
@@ -82,7 +95,7 @@ impl LineBuffer {
     /// The name of a segment before what is written.
     pub(crate) fn put_segment(&mut self, airport: &Airport, segment: Segment)
         requires exists { HasSegment airport.now segment }
-        requires room { length self.old + 16 ≤ 96 }
+        requires room { length self.old + 16 ≤ 1536 }
         ensures text { self.new ≡ segment_word airport.now segment ++ self.old }
         ensures length { length self.new ≤ length self.old + 16 }
     {
@@ -92,7 +105,7 @@ impl LineBuffer {
     /// The name of a class before what is written.
     pub(crate) fn put_class(&mut self, airport: &Airport, class: Class)
         requires exists { HasClass airport.now class }
-        requires room { length self.old + 16 ≤ 96 }
+        requires room { length self.old + 16 ≤ 1536 }
         ensures text { self.new ≡ class_word airport.now class ++ self.old }
         ensures length { length self.new ≤ length self.old + 16 }
     {
@@ -102,11 +115,11 @@ impl LineBuffer {
     /// The word of an arc before what is written.
     pub(crate) fn put_arc(&mut self, airport: &Airport, arc: Arc)
         requires exists { HasArc airport.now arc }
-        requires room { length self.old + 17 ≤ 96 }
+        requires room { length self.old + 17 ≤ 1536 }
         ensures text { self.new ≡ word_of_arc airport.now arc ++ self.old }
         ensures length { length self.new ≤ length self.old + 17 }
     {
-        self.put(if arc.is_forward() { b"+" } else { b"-" });
+        self.put_byte(if arc.is_forward() { b'+' } else { b'-' });
         self.put_segment(airport, arc.segment());
     }
 }

@@ -100,11 +100,11 @@ fn write_route_head(flight: &Name, second: Time, steps: usize, labels: usize, li
 {
     line.begin();
     line.put_number(labels as u64);
-    line.put(b" ");
+    line.put_byte(b' ');
     line.put_number(steps as u64);
-    line.put(b" ");
+    line.put_byte(b' ');
     line.put_number(u64::from(second));
-    line.put(b" ");
+    line.put_byte(b' ');
     line.put(flight.bytes());
     line.put(b"route ");
 }
@@ -123,7 +123,7 @@ fn write_windows_head(airport: &Airport, segment: Segment, windows: usize, line:
 {
     line.begin();
     line.put_number(windows as u64);
-    line.put(b" ");
+    line.put_byte(b' ');
     line.put_segment(airport, segment);
     line.put(b"windows ");
 }
@@ -134,7 +134,7 @@ fn write_occupancy_head(airport: &Airport, segment: Segment, held: usize, line: 
 {
     line.begin();
     line.put_number(held as u64);
-    line.put(b" ");
+    line.put_byte(b' ');
     line.put_segment(airport, segment);
     line.put(b"occupancy ");
 }

@@ -1,11 +1,11 @@
 //! The rows of a block, each of one line.
-ghost use Rattle.std.specs.Prelude.{◌≡◌, ◌≤◌, ◌++◌, ℕ, List, length, All, OnOk, OnErr, ⊤};
+ghost use Rattle.std.specs.Prelude.{◌≡◌, ◌≤◌, ◌+◌, ◌*◌, ◌++◌, ℕ, List, length, All, OnOk, OnErr, ⊤};
 ghost use Rattle.taxi_base.specs.Airport.{Airport as Plain};
 ghost use Rattle.certificate.specs.Texts.{line_text, step_words, label_words, window_words, held_words, flight_words, kind_word};
 ghost use Rattle.certificate.specs.Printable.{HasArc, HasSegment, HasClass};
 ghost use Rattle.certificate.specs.Printed.{rows_text, IsCutShort};
 
-use crate::line_buffer::LineBuffer;
+use crate::line_buffer::{LineBuffer, MOST_LINES};
 use airport_file::Airport;
 use taxi_base::{FlightKind, FlightRow, HeldRow, LabelRow, Memory, Span, Step};
 use taxi_text::push_bytes;
@@ -18,10 +18,12 @@ pub(crate) trait Row {
     /// The airport has what the row names.
     ghost IsWritableRow: { Plain → Self → Type 0 };
 
-    /// Writes the line in place of what was there.
+    /// Writes the line before what is there.
     fn write(&self, airport: &Airport, line: &mut LineBuffer)
-        requires { IsWritableRow airport.now self.now }
-        ensures { line.new ≡ line_text (words airport.now self.now) };
+        requires row { IsWritableRow airport.now self.now }
+        requires room { length line.old + 96 ≤ 1536 }
+        ensures text { line.new ≡ line_text (words airport.now self.now) ++ line.old }
+        ensures length { length line.new ≤ length line.old + 96 };
 }
 
 impl Row for Step {
@@ -30,11 +32,11 @@ impl Row for Step {
     ghost IsWritableRow = { λ airport step. HasArc airport step.arc };
 
     fn write(&self, airport: &Airport, line: &mut LineBuffer) {
-        line.begin();
+        line.put_byte(b'\n');
         line.put_number(u64::from(self.leave));
-        line.put(b" ");
+        line.put_byte(b' ');
         line.put_number(u64::from(self.enter));
-        line.put(b" ");
+        line.put_byte(b' ');
         line.put_arc(airport, self.arc);
         line.put(b"step ");
     }
@@ -46,13 +48,13 @@ impl Row for LabelRow {
     ghost IsWritableRow = { λ airport label. HasArc airport label.arc };
 
     fn write(&self, airport: &Airport, line: &mut LineBuffer) {
-        line.begin();
+        line.put_byte(b'\n');
         line.put_number(u64::from(self.value));
-        line.put(b" ");
+        line.put_byte(b' ');
         line.put_number(u64::from(self.until));
-        line.put(b" ");
+        line.put_byte(b' ');
         line.put_number(u64::from(self.from));
-        line.put(b" ");
+        line.put_byte(b' ');
         line.put_arc(airport, self.arc);
         line.put(b"label ");
     }
@@ -65,9 +67,9 @@ impl Row for Span {
 
     fn write(&self, airport: &Airport, line: &mut LineBuffer) {
         let _names = airport;
-        line.begin();
+        line.put_byte(b'\n');
         line.put_number(u64::from(self.until));
-        line.put(b" ");
+        line.put_byte(b' ');
         line.put_number(u64::from(self.from));
         line.put(b"window ");
     }
@@ -79,13 +81,13 @@ impl Row for HeldRow {
     ghost IsWritableRow = { λ airport row. HasSegment airport row.segment };
 
     fn write(&self, airport: &Airport, line: &mut LineBuffer) {
-        line.begin();
+        line.put_byte(b'\n');
         line.put_segment(airport, self.segment);
-        line.put(b" ");
+        line.put_byte(b' ');
         line.put(self.flight.bytes());
-        line.put(b" ");
+        line.put_byte(b' ');
         line.put_number(u64::from(self.until));
-        line.put(b" ");
+        line.put_byte(b' ');
         line.put_number(u64::from(self.from));
         line.put(b"held ");
     }
@@ -97,15 +99,15 @@ impl Row for FlightRow {
     ghost IsWritableRow = { λ airport row. HasClass airport row.class };
 
     fn write(&self, airport: &Airport, line: &mut LineBuffer) {
-        line.begin();
+        line.put_byte(b'\n');
         line.put_number(u64::from(self.end));
-        line.put(b" ");
+        line.put_byte(b' ');
         line.put_number(u64::from(self.start));
-        line.put(b" ");
+        line.put_byte(b' ');
         line.put_class(airport, self.class);
-        line.put(b" ");
+        line.put_byte(b' ');
         line.put(kind_word(self.kind));
-        line.put(b" ");
+        line.put_byte(b' ');
         line.put(self.flight.bytes());
         line.put(b"flight ");
     }
@@ -122,7 +124,7 @@ fn kind_word(kind: FlightKind) -> &'static [u8]
     }
 }
 
-/// Writes the line as it stands, and then rows, at the end of `out`. Where memory runs out a first part of them stands there.
+/// Writes the lines as they stand, and then rows, at the end of `out`. Where memory runs out a first part of them stands there.
 pub(crate) fn print_rows<R: Row>(
     airport: &Airport,
     line: &mut LineBuffer,
@@ -134,9 +136,26 @@ pub(crate) fn print_rows<R: Row>(
     ensures err { OnErr result (IsCutShort (line.old ++ rows_text (R.words airport.now) rows.now) out.old.items out.new.items) }
 {
     push_bytes(out, line.bytes())?;
-    for row in rows {
-        row.write(airport, line);
+    let mut rest = rows;
+    while !rest.is_empty() {
+        let (first, others) = rest.split_at(rest.len().min(MOST_LINES));
+        line.clear();
+        write_rows(airport, first, line);
         push_bytes(out, line.bytes())?;
+        rest = others;
     }
     Ok(())
+}
+
+// Writes rows before what is there, the last first.
+fn write_rows<R: Row>(airport: &Airport, rows: &[R], line: &mut LineBuffer)
+    requires rows { All (R.IsWritableRow airport.now) rows.now }
+    requires room { length line.old + 96 * length rows.now ≤ 1536 }
+    ensures { line.new ≡ rows_text (R.words airport.now) rows.now ++ line.old }
+{
+    let mut at = rows.len();
+    while at > 0 {
+        at -= 1;
+        rows[at].write(airport, line);
+    }
 }

@@ -1,8 +1,15 @@
-use Rattle.std.proofs.Common.{◌++◌, drop}
+use Rattle.std.proofs.Common.{◌++◌, length}
+use Rattle.std.specs.Prelude.{All}
 use Rattle.certificate.specs.Printed.{rows_text}
 use Rattle.certificate.proofs.Pieces.{HasCome}
 use Rattle.certificate.proofs.rows.print_rows.Given as goal
 
-abbrev pub invariant-loop-row : goal.invariant-loop-row
-invariant-loop-row g l =
-    HasCome (l.fn.line ++ rows_text (g.R.Row.words l.fn.airport) l.fn.rows) l.fn.out.items (rows_text (g.R.Row.words l.fn.airport) (drop l.row-index l.rows)) l.out.items
+-- the rows that are left can be written, and what comes before them has come
+abbrev pub invariant-loop-rest : goal.invariant-loop-rest
+invariant-loop-rest g l = record {
+  rows : All (g.R.Row.IsWritableRow l.airport) l.rest;
+  come : HasCome (l.fn.line ++ rows_text (g.R.Row.words l.fn.airport) l.fn.rows) l.fn.out.items (rows_text (g.R.Row.words l.fn.airport) l.rest) l.out.items;
+}
+
+abbrev pub decreases-loop-rest : goal.decreases-loop-rest
+decreases-loop-rest g l = length l.rest

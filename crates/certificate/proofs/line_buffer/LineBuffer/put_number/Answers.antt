@@ -5,7 +5,7 @@ use Rattle.certificate.proofs.line_buffer.LineBuffer.put_number.Goals as goal
 pub write_digits-self-inside-requires : goal.write_digits-self-inside-requires
 write_digits-self-inside-requires c =
     has-room c.args.number c.self.inside.start c.self.inside.bytes c.ranges.number.fits c.self.invariant c.self.told
-    (subst (λ (l : List ℕ). length l + 20 ≤ 96) (sym c.self.view_is) c.requires)
+    (subst (λ (l : List ℕ). length l + 20 ≤ 1536) (sym c.self.view_is) c.requires)
 
 pub returns-clause-length : goal.returns-clause-length
 returns-clause-length c =
