@@ -41,10 +41,11 @@ pub(crate) fn take_out(
     }
 }
 
-/// A node's number and its place, if there is such a node.
+/// A node's number, and the places of the one before and of its own, where there are such nodes.
 #[derive(Clone, Copy)]
 struct Start {
     index: usize,
+    prev: Place,
     place: Place,
 }
 
@@ -53,6 +54,7 @@ struct Start {
 fn first_beyond(windows: &Chain, second: Time) -> Start
     ensures inside { result.index ≤ length windows.now }
     ensures place { result.index < length windows.now → result.place.at ≡ place_of windows.now result.index }
+    ensures prev { 0 < result.index → result.prev.at ≡ place_of windows.now (result.index - 1) }
     ensures over { 0 < result.index → (node_of windows.now (result.index - 1)).window.until ≤ second }
 {
     let mut place = windows.last();
@@ -62,6 +64,7 @@ fn first_beyond(windows: &Chain, second: Time) -> Start
         if windows.window(place, left - 1).until <= second {
             return Start {
                 index: left,
+                prev: place,
                 place: beyond,
             };
         }
@@ -71,6 +74,7 @@ fn first_beyond(windows: &Chain, second: Time) -> Start
     }
     Start {
         index: 0,
+        prev: place,
         place: beyond,
     }
 }
@@ -93,6 +97,8 @@ pub(crate) fn give_back(
     from: Time,
     until: Time,
 )
+    requires some { from < until }
+    requires apart { AreApart 0 (spans_of (windows_of windows.old)) }
     requires room { HasRoomToMerge (span from until) (windows_of windows.old) (ids_of (windows_of spares.old)) }
     requires small { length windows.old + length spares.old < 2 ^ 64 }
     ensures windows { windows_of windows.new ≡ (merged (span from until) (windows_of windows.old) (ids_of (windows_of spares.old))).0 }
@@ -114,8 +120,11 @@ pub(crate) fn give_back(
     );
 }
 
-/// Takes out each window that the seconds meet or touch, and finds the gap for the one that has them all.
+/// Takes out each window that the seconds meet or touch, and finds the gap for the one that has them all. A window that ends
+/// where the seconds begin reaches beyond the second before them.
 fn clear(windows: &mut Chain, spares: &mut Chain, alloc: Global, from: Time, until: Time) -> Gap
+    requires some { from < until }
+    requires apart { AreApart 0 (spans_of (windows_of windows.old)) }
     requires room { HasRoomToMerge (span from until) (windows_of windows.old) (ids_of (windows_of spares.old)) }
     requires small { length windows.old + length spares.old < 2 ^ 64 }
     ensures gap { IsGap windows.new result.index result.prev.at result.next.at }
@@ -126,9 +135,10 @@ fn clear(windows: &mut Chain, spares: &mut Chain, alloc: Global, from: Time, unt
 {
     let mut from = from;
     let mut until = until;
-    let mut index = 0;
-    let mut next = windows.first();
-    let mut prev = next;
+    let start = first_beyond(windows, from.saturating_sub(1));
+    let mut index = start.index;
+    let mut next = start.place;
+    let mut prev = start.prev;
     while index < windows.len() {
         let window = windows.window(next, index);
         if until < window.from {

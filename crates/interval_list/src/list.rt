@@ -95,6 +95,7 @@ impl IntervalList {
     }
 
     /// Makes spare nodes until there are `n`. What was made before memory ran out stays.
+    #[inline(always)]
     pub fn reserve(&mut self, ids: &mut Ids, n: usize) -> Result<(), Memory>
         requires below { All (λ id. id < ids.old.next) (owned self.old) }
         requires fits { ids.old.next + n < 2 ^ 64 }

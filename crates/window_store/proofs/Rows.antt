@@ -1,12 +1,12 @@
 -- In which span of a row another lies, and what taking a span out of a row makes of it.
-use Rattle.std.proofs.Common.{◌≡◌, ℕ, zero, suc, ◌+◌, ◌<◌, ◌≤◌, max, min, List, [], ◌∷◌, ◌++◌, length, take, drop, refl, ap, sym, ◌∙◌, inl, inr, subst, arith}
+use Rattle.std.proofs.Common.{◌≡◌, ℕ, zero, suc, ◌+◌, ◌-◌, ◌<◌, ◌≤◌, max, min, List, [], ◌∷◌, ◌++◌, length, take, drop, refl, ap, sym, ◌∙◌, inl, inr, subst, arith}
 use Rattle.std.proofs.lemmas.Bool.{cases_lt}
 use Rattle.std.proofs.lemmas.List.{get_or_default}
 use Rattle.std.specs.Prelude.{insert, remove, slice_set}
 use Rattle.taxi_base.specs.declared.rows.Span.{Span}
 use Rattle.taxi_base.specs.Windows.{AreApart}
-use Rattle.interval_list.specs.Intervals.{span, before, behind, without_span}
-use Rattle.interval_list.proofs.Seconds.{before-yes, before-no, behind-yes, behind-no, without_span-after}
+use Rattle.interval_list.specs.Intervals.{span, before, behind, without_span, hull, with_span}
+use Rattle.interval_list.proofs.Seconds.{before-yes, before-no, behind-yes, behind-no, without_span-after, with_span-stops, with_span-past, with_span-joins}
 use Rattle.window_store.specs.Kept.{LiesInOne}
 use Rattle.window_store.specs.Rows.{no_span, AreOverBy, span_in, cut_in}
 
@@ -128,3 +128,57 @@ module _ (row : List Span) (at : ℕ) (s w : Span) (on : at < length row) (is : 
   cut-none begins ends =
       sym (ap (λ zs. take at row ++ (zs ++ (behind s w ++ rest))) (before-no s w begins) ∙ ap (λ zs. take at row ++ (zs ++ rest)) (behind-no s w ends))
       ∙ ap (λ v. take at row ++ (before s v ++ (behind s v ++ rest))) is
+
+-- ---- what putting a span in makes of a row
+
+-- where it neither meets nor touches the first, it stands before all
+with_span-first : (s : Span) (ws : List Span) → (0 < length ws → s.until < (span_in ws 0).from) → with_span s ws ≡ s ∷ ws
+with_span-first s [] next = refl
+with_span-first s (w ∷ ws) next = with_span-stops s w ws (next (omega arith))
+
+module _ (s : Span) (some : s.from < s.until) where
+  with_past : (w : Span) (ws : List Span) → w.from < w.until → w.until < s.from → with_span s (w ∷ ws) ≡ w ∷ with_span s ws
+  with_past w ws whole past = with_span-past s w ws (omega (arith, whole, past, some)) past
+
+  -- those that end by the second before s end before s, since none is empty
+  pub past-of : (ws : List Span) (second at : ℕ) → AreApart 0 ws → second ≡ s.from - 1 → AreOverBy ws second at
+      → ((k : ℕ) → k < at → (span_in ws k).until < s.from) × (at < length ws → s.from ≤ (span_in ws at).until)
+  past-of ws second at apart before over = (
+    λ k below. omega (arith, over.over k below, before, (apart_at 0 ws apart k (omega (arith, below, over.few))).1),
+    λ on. omega (arith, over.later at (omega arith) on, before),
+  )
+
+  -- where it touches none
+  pub with-gap : (low : ℕ) (ws : List Span) (at : ℕ) → AreApart low ws → at ≤ length ws → ((k : ℕ) → k < at → (span_in ws k).until < s.from)
+      → (at < length ws → s.until < (span_in ws at).from) → with_span s ws ≡ insert ws at s
+  with-gap low ws zero apart on past next = with_span-first s ws next
+  with-gap low [] (suc at) apart on past next = absurd (omega arith)
+  with-gap low (w ∷ ws) (suc at) apart on past next =
+      with_past w ws apart.1 (past 0 (omega arith))
+      ∙ ap (λ zs. w ∷ zs) (with-gap (w.until + 1) ws at apart.2 (omega (arith, on)) (λ k below. past (suc k) (omega (arith, below))) (λ more. next (omega (arith, more))))
+
+  -- where it is joined with one
+  pub with-one : (low : ℕ) (ws : List Span) (at : ℕ) → AreApart low ws → at < length ws → ((k : ℕ) → k < at → (span_in ws k).until < s.from)
+      → s.from ≤ (span_in ws at).until → (span_in ws at).from ≤ s.until → (suc at < length ws → s.until < (span_in ws (suc at)).from)
+      → with_span s ws ≡ slice_set ws at (hull s (span_in ws at))
+  with-one low [] at apart on past ends begins next = absurd (omega arith)
+  with-one low (w ∷ ws) zero apart on past ends begins next =
+      with_span-joins s w ws begins ends
+      ∙ with_span-first (hull s w) ws (λ more. omega (arith, next (omega (arith, more)), (apart_at (w.until + 1) ws apart.2 0 more).0))
+  with-one low (w ∷ ws) (suc at) apart on past ends begins next =
+      with_past w ws apart.1 (past 0 (omega arith))
+      ∙ ap (λ zs. w ∷ zs) (with-one (w.until + 1) ws at apart.2 (omega (arith, on)) (λ k below. past (suc k) (omega (arith, below))) ends begins (λ more. next (omega (arith, more))))
+
+  -- where it is joined with two
+  pub with-two : (low : ℕ) (ws : List Span) (at : ℕ) → AreApart low ws → suc at < length ws → ((k : ℕ) → k < at → (span_in ws k).until < s.from)
+      → s.from ≤ (span_in ws at).until → (span_in ws (suc at)).from ≤ s.until → (suc (suc at) < length ws → s.until < (span_in ws (suc (suc at))).from)
+      → with_span s ws ≡ slice_set (remove ws (suc at)) at (hull (hull s (span_in ws at)) (span_in ws (suc at)))
+  with-two low [] at apart on past ends begins next = absurd (omega arith)
+  with-two low (w ∷ []) at apart on past ends begins next = absurd (omega (arith, on))
+  with-two low (w ∷ v ∷ ws) zero apart on past ends begins next =
+      with_span-joins s w (v ∷ ws) (omega (arith, begins, apart.1, apart.2.0)) ends
+      ∙ with_span-joins (hull s w) v ws (omega (arith, begins)) (omega (arith, apart.1, apart.2.0, apart.2.1))
+      ∙ with_span-first (hull (hull s w) v) ws (λ more. omega (arith, next (omega (arith, more)), apart.2.0, apart.2.1, (apart_at (v.until + 1) ws apart.2.2 0 more).0))
+  with-two low (w ∷ v ∷ ws) (suc at) apart on past ends begins next =
+      with_past w (v ∷ ws) apart.1 (past 0 (omega arith))
+      ∙ ap (λ zs. w ∷ zs) (with-two (w.until + 1) (v ∷ ws) at apart.2 (omega (arith, on)) (λ k below. past (suc k) (omega (arith, below))) ends begins (λ more. next (omega (arith, more))))

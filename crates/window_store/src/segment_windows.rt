@@ -1,12 +1,12 @@
 //! One segment's windows.
-ghost use Rattle.std.specs.Prelude.{ℕ, ◌≡◌, ◌+◌, ◌-◌, ◌^◌, ◌<◌, ◌≤◌, max, List, [], ◌∷◌, ◌++◌, length, All, IfOk, OnOk, OnErr};
+ghost use Rattle.std.specs.Prelude.{ℕ, ◌≡◌, ◌+◌, ◌-◌, ◌^◌, ◌<◌, ◌≤◌, max, List, [], ◌∷◌, ◌++◌, length, All, IfOk, OnOk, OnErr, vec_capacity};
 ghost use Rattle.taxi_base.specs.declared.rows.Span.{Span as Plain};
 ghost use Rattle.taxi_base.specs.Windows.{AreWindows};
 ghost use Rattle.interval_list.specs.Intervals.{spans_of, owned, drawn, IsNormal, OwnsSame, KeepsUnmet, KeepsUntouched};
 ghost use Rattle.window_store.specs.Spans.{Listed, nodes, is_unheld, StandsForSpans};
 
 use crate::held::HeldSeconds;
-use crate::row::{copy_row, follow};
+use crate::row::{copy_row, follow, follow_back};
 use interval_list::{Ids, IntervalList};
 use std::alloc::Global;
 use std::marker::Model;
@@ -93,7 +93,9 @@ impl SegmentWindows {
         ensures err { OnErr result (nodes self.new ≤ max wanted (nodes self.old)) }
     {
         let lacking = wanted.saturating_sub(self.intervals.len());
-        self.row.reserve(lacking)?;
+        if self.row.capacity() < wanted {
+            self.row.reserve(lacking)?;
+        }
         self.intervals.reserve(ids, lacking)
     }
 
@@ -137,15 +139,21 @@ impl SegmentWindows {
         ensures ids { OwnsSame self.old.intervals self.new.intervals }
         ensures nodes { nodes self.new ≡ nodes self.old }
     {
-        give_back_unheld(&mut self.intervals, span, others);
-        copy_row(&mut self.row, &self.intervals);
+        give_back_unheld(&mut self.intervals, &mut self.row, span, others);
         self.held -= 1;
     }
 }
 
-/// Gives those seconds of the span back that no other span has.
-fn give_back_unheld<H: HeldSeconds>(intervals: &mut IntervalList, span: Span, others: &H)
+/// Gives those seconds of the span back that no other span has, in the list and in its row.
+fn give_back_unheld<H: HeldSeconds>(
+    intervals: &mut IntervalList,
+    row: &mut Vec<Span>,
+    span: Span,
+    others: &H,
+)
     requires some { span.from < span.until }
+    requires row { row.old.items ≡ spans_of intervals.old.windows }
+    requires capacity { length intervals.old.windows + length intervals.old.spare ≤ vec_capacity row.old }
     requires normal { IsNormal intervals.old }
     requires windows { (horizon : ℕ) × (span.until ≤ horizon) × AreWindows (is_unheld horizon (span ∷ H.spans others.now)) (spans_of intervals.old.windows) }
     requires room { 2 + length (H.spans others.now) ≤ length intervals.old.windows + length intervals.old.spare }
@@ -154,6 +162,8 @@ fn give_back_unheld<H: HeldSeconds>(intervals: &mut IntervalList, span: Span, ot
     ensures kept { KeepsUntouched span intervals.old.windows intervals.new.windows }
     ensures ids { OwnsSame intervals.old intervals.new }
     ensures number { length intervals.new.windows + length intervals.new.spare ≡ length intervals.old.windows + length intervals.old.spare }
+    ensures row { row.new.items ≡ spans_of intervals.new.windows }
+    ensures capacity { vec_capacity row.new ≡ vec_capacity row.old }
 {
     // The windows stand for the other spans and for what of this one is left to look at, which is one span at most. So
     // they need no more nodes at any moment than they did before.
@@ -162,6 +172,7 @@ fn give_back_unheld<H: HeldSeconds>(intervals: &mut IntervalList, span: Span, ot
         let until = others.first_held(from, span.until);
         if from < until {
             intervals.add(from, until);
+            follow_back(row, Span { from, until }, intervals);
             from = until;
         } else {
             from = others.held_until(from).min(span.until);

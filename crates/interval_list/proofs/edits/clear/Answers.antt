@@ -1,10 +1,11 @@
-use Rattle.std.proofs.Common.{◌≡◌, ◌+◌, ◌-◌, ◌<◌, ◌≤◌, ◌∷◌, min, max, length, sym, ap, ◌∙◌, subst, arith}
+use Rattle.std.proofs.Common.{◌≡◌, ◌+◌, ◌-◌, ◌<◌, ◌≤◌, ◌∷◌, min, max, length, refl, sym, ap, ◌∙◌, subst, arith}
 use Rattle.std.specs.Prelude.{ℕ, List}
 use Rattle.interval_list.specs.declared.window.Window.{Window}
 use Rattle.interval_list.specs.Cells.{Cell, windows_of, no_cell, no_window}
 use Rattle.interval_list.specs.Edits.{item}
 use Rattle.interval_list.specs.Intervals.{span, span_of, ids_of, hull}
 use Rattle.interval_list.specs.Steps.{merged}
+use Rattle.interval_list.proofs.Beginnings.{merge-begins}
 use Rattle.interval_list.proofs.Edited.{item-map, length-windows_of}
 use Rattle.interval_list.proofs.Owning.{length-ids_of}
 use Rattle.interval_list.proofs.Progress.{merge-past, merge-join, merge-stops, merge-ends}
@@ -14,6 +15,20 @@ use Rattle.interval_list.proofs.edits.clear.Goals as goal
 -- the window at a place, among the windows
 read : (cells : List Cell) (i : ℕ) → item no_window (windows_of cells) i ≡ (item no_cell cells i).1.window
 read cells i = item-map (λ (x : Cell). x.1.window) no_cell cells i
+
+pub loop-index-init : goal.loop-index-init
+loop-index-init c =
+    let cells = c.args.windows.now in let start = c.first_beyond-start in (
+      (start.ensures.inside, start.ensures.prev, start.ensures.place),
+      refl,
+      merge-begins (span c.args.from c.args.until) c.requires.some 0 (windows_of cells) (ids_of (windows_of c.args.spares.now)) start.result.index c.requires.apart c.requires.room
+          (omega (arith, start.ensures.inside, length-windows_of cells)) (λ n e. (
+          let at : start.result.index - 1 ≡ n = omega (arith, e) in
+          let over : (item no_window (windows_of cells) n).until ≤ c.saturating_sub.result =
+          subst (λ (k : ℕ). (item no_window (windows_of cells) k).until ≤ c.saturating_sub.result) at
+          (subst (λ (w : Window). w.until ≤ c.saturating_sub.result) (sym (read cells (start.result.index - 1))) (start.ensures.over (omega (arith, e)))) in
+          omega (arith, over, c.saturating_sub.ensures))),
+    )
 
 pub returns-then-until-window-clause-windows : goal.returns-then-until-window-clause-windows
 returns-then-until-window-clause-windows c =

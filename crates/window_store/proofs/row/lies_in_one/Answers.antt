@@ -1,4 +1,4 @@
-use Rattle.std.proofs.Common.{arith, rules}
+use Rattle.std.proofs.Common.{arith}
 use Rattle.std.proofs.lemmas.Bool.{leb-true, le-leb}
 use Rattle.window_store.proofs.Rows.{lies-at, lies-only-at}
 use Rattle.window_store.proofs.row.lies_in_one.Goals as goal

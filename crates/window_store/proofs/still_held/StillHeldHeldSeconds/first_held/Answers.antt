@@ -1,4 +1,3 @@
-use Rattle.std.proofs.Common.{arith}
 use Rattle.taxi_base.specs.Windows.{holds_of}
 use Rattle.window_store.proofs.Seconds.{first-both}
 use Rattle.window_store.proofs.still_held.StillHeldHeldSeconds.first_held.Goals as goal

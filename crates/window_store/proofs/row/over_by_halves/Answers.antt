@@ -6,7 +6,7 @@ use Rattle.std.proofs.lemmas.Fn.{always_returns_same}
 use Rattle.taxi_base.specs.declared.rows.Span.{Span}
 use Rattle.window_store.specs.Rows.{no_span, span_in}
 use Rattle.window_store.proofs.Rows.{apart_rising}
-use Rattle.window_store.proofs.row.over_by.Goals as goal
+use Rattle.window_store.proofs.row.over_by_halves.Goals as goal
 
 pub returns : goal.returns
 returns c =
