@@ -1,6 +1,7 @@
 -- As many steps pass each test where one comes or goes, and what that says of lists by segment.
 use Rattle.std.proofs.Common.{◌≡◌, ℕ, zero, suc, ◌+◌, ◌<◌, ◌≤◌, eqb, Bool, true, false, ◌&&◌, cond, List, [], ◌∷◌, ◌++◌, length, map, get_or, set, take, drop, Option, Some, None, IsTrue, refl, sym, ap, ◌∙◌, inl, inr, subst, arith}
-use Rattle.std.specs.Prelude.{All, Contains, count_by, sum_by, flat_map}
+use Rattle.std.specs.Prelude.{All, Contains, count_by, sum_by, flat_map, bytes_eq}
+use Rattle.std.specs.Cmp.Lexicographic.{bytes_decides}
 use Rattle.std.specs.List.Sorted.{IsPermutation}
 use Rattle.std.proofs.lemmas.Bool.{cases_Bool, and_parts, and_from, eqb-true, eq-eqb, cond-true, cond-false, both_ways}
 use Rattle.std.proofs.lemmas.List.{take-append-drop, map-append, map_more, get_or_default, length-set, get_or-set_same, get_or-set_other}
@@ -13,6 +14,7 @@ use Rattle.taxi_base.specs.declared.rows.Step.{Step}
 use Rattle.taxi_base.specs.Airport.{segment_of}
 use Rattle.taxi_base.proofs.ListLaws.{Contains-first, Contains-rest, flat_map-Contains}
 use Rattle.commitments.specs.declared.segment_holds.HeldStep.{HeldStep}
+use Rattle.commitments.specs.declared.segment_holds.Holder.{Holder}
 use Rattle.commitments.specs.Held.{StepList, no_step, list_of, all_steps, steps_with, AreAsMany, AreAmong, AreBySegment, KeepsHoldRoom, GainsHoldRoom}
 
 -- ---- how many pass a test
@@ -44,6 +46,11 @@ some-passes p (x ∷ xs) some =
           (rest.0, Contains-rest x rest.0 xs rest.1, rest.2)
     ]
 
+-- one pass more of the elements that pass a test
+pub count-part : {X : Type 0} (p : X → Bool) (xs : List X) (i : ℕ) (d : X) → i < length xs → IsTrue (p (get_or xs i d)) → count_by p (take i xs) + 1 ≤ count_by p xs
+count-part p xs i d low passes =
+    omega (arith, count_by_more_yes p xs i d low passes, count-append p (take (i + 1) xs) (drop (i + 1) xs), ap (count_by p) (take-append-drop (i + 1) xs))
+
 -- a list and its permutation pass each test alike
 pub permuted : (xs ys : List HeldStep) → IsPermutation xs ys → AreAsMany xs ys
 permuted xs ys moved test = sym (sum_by-IsPermutation (λ x. cond (test x) 1 0) xs ys moved)
@@ -57,7 +64,7 @@ same_class (Some a) None = false
 same_class (Some a) (Some b) = eqb a.0 b.0
 
 abbrev is_one : HeldStep → HeldStep → Bool
-is_one x y = (eqb x.step.arc.0 y.step.arc.0 && (eqb x.step.enter y.step.enter && eqb x.step.leave y.step.leave)) && same_class x.class y.class
+is_one x y = (eqb x.step.arc.0 y.step.arc.0 && (eqb x.step.enter y.step.enter && eqb x.step.leave y.step.leave)) && (same_class x.holder.class y.holder.class && bytes_eq x.holder.name y.holder.name)
 
 class-same : (a : Option Class) → IsTrue (same_class a a)
 class-same None = refl
@@ -70,41 +77,52 @@ same-class (Some a) None h = absurd (cc h)
 same-class (Some a) (Some b) h = let e = eqb-true a.0 b.0 h in ap Some (λ i. record { 0 = e i })
 
 one-is : (x : HeldStep) → IsTrue (is_one x x)
-one-is x = and_from _ _ (and_from _ _ (eq-eqb x.step.arc.0 x.step.arc.0 refl) (and_from _ _ (eq-eqb x.step.enter x.step.enter refl) (eq-eqb x.step.leave x.step.leave refl))) (class-same x.class)
+one-is x = and_from _ _ (and_from _ _ (eq-eqb x.step.arc.0 x.step.arc.0 refl) (and_from _ _ (eq-eqb x.step.enter x.step.enter refl) (eq-eqb x.step.leave x.step.leave refl)))
+    (and_from _ _ (class-same x.holder.class) ((bytes_decides x.holder.name x.holder.name).1 refl))
 
 is-one : (x y : HeldStep) → IsTrue (is_one x y) → x ≡ y
 is-one x y h =
-    let both = and_parts (eqb x.step.arc.0 y.step.arc.0 && (eqb x.step.enter y.step.enter && eqb x.step.leave y.step.leave)) (same_class x.class y.class) h in
+    let both = and_parts (eqb x.step.arc.0 y.step.arc.0 && (eqb x.step.enter y.step.enter && eqb x.step.leave y.step.leave)) (same_class x.holder.class y.holder.class && bytes_eq x.holder.name y.holder.name) h in
+    let holder = and_parts (same_class x.holder.class y.holder.class) (bytes_eq x.holder.name y.holder.name) both.1 in
     let step = and_parts (eqb x.step.arc.0 y.step.arc.0) (eqb x.step.enter y.step.enter && eqb x.step.leave y.step.leave) both.0 in
     let times = and_parts (eqb x.step.enter y.step.enter) (eqb x.step.leave y.step.leave) step.1 in
     let arc = eqb-true x.step.arc.0 y.step.arc.0 step.0 in
     let enter = eqb-true x.step.enter y.step.enter times.0 in
     let leave = eqb-true x.step.leave y.step.leave times.1 in
-    let class = same-class x.class y.class both.1 in
-    λ i. record { step = record { arc = record { 0 = arc i }; enter = enter i; leave = leave i }; class = class i }
+    let class = same-class x.holder.class y.holder.class holder.0 in
+    let name = (bytes_decides x.holder.name y.holder.name).0 holder.1 in
+    λ i. record { step = record { arc = record { 0 = arc i }; enter = enter i; leave = leave i }; holder = record { class = class i; name = name i } }
+
+-- what is among some steps is among as many
+pub as_many-there : (xs ys : List HeldStep) → AreAsMany xs ys → (x : HeldStep) → Contains xs x → Contains ys x
+as_many-there xs ys same x there =
+    let p = is_one x in
+    let passes : IsTrue (p (get_or xs there.0 x)) = subst (λ (y : HeldStep). IsTrue (is_one x y)) (sym there.2) (one-is x) in
+    let found = some-passes p ys (omega (arith, same p, count-part p xs there.0 x there.1 passes)) in
+    subst (λ (y : HeldStep). Contains ys y) (sym (is-one x found.0 found.2)) found.1
 
 -- the next of some steps that are taken out one by one is there still
-pub next-there : (old now : List HeldStep) (class : Option Class) (steps : List Step) (i : ℕ) (d : Step) → i < length steps → AreAmong (steps_with class steps) old
-    → AreAsMany old (now ++ steps_with class (take i steps)) → Contains now (record { step = get_or steps i d; class = class })
-next-there old now class steps i d low among gone =
-    let x : HeldStep = record { step = get_or steps i d; class = class } in
+pub next-there : (old now : List HeldStep) (holder : Holder) (steps : List Step) (i : ℕ) (d : Step) → i < length steps → AreAmong (steps_with holder steps) old
+    → AreAsMany old (now ++ steps_with holder (take i steps)) → Contains now (record { step = get_or steps i d; holder = holder })
+next-there old now holder steps i d low among gone =
+    let x : HeldStep = record { step = get_or steps i d; holder = holder } in
     let p = is_one x in
-    let more : steps_with class (take (i + 1) steps) ≡ steps_with class (take i steps) ++ x ∷ [] = map_more (λ step. record { step = step; class = class }) steps i d low in
-    let all : steps_with class steps ≡ steps_with class (take (i + 1) steps) ++ steps_with class (drop (i + 1) steps) =
-    ap (steps_with class) (sym (take-append-drop (i + 1) steps)) ∙ map-append (λ step. record { step = step; class = class }) (take (i + 1) steps) (drop (i + 1) steps) in
+    let more : steps_with holder (take (i + 1) steps) ≡ steps_with holder (take i steps) ++ x ∷ [] = map_more (λ step. record { step = step; holder = holder }) steps i d low in
+    let all : steps_with holder steps ≡ steps_with holder (take (i + 1) steps) ++ steps_with holder (drop (i + 1) steps) =
+    ap (steps_with holder) (sym (take-append-drop (i + 1) steps)) ∙ map-append (λ step. record { step = step; holder = holder }) (take (i + 1) steps) (drop (i + 1) steps) in
     let one = cond-true {A = ℕ} (p x) 1 0 (one-is x) in
     let found = some-passes p now (omega (
       arith,
       among.1 p,
       gone p,
-      count-append p among.0 (steps_with class steps),
-      count-append p now (steps_with class (take i steps)),
+      count-append p among.0 (steps_with holder steps),
+      count-append p now (steps_with holder (take i steps)),
       ap (count_by p) more,
-      count-append p (steps_with class (take i steps)) (x ∷ []),
+      count-append p (steps_with holder (take i steps)) (x ∷ []),
       count-cons p x [],
       one,
       ap (count_by p) all,
-      count-append p (steps_with class (take (i + 1) steps)) (steps_with class (drop (i + 1) steps)),
+      count-append p (steps_with holder (take (i + 1) steps)) (steps_with holder (drop (i + 1) steps)),
     )) in
     subst (λ (y : HeldStep). Contains now y) (sym (is-one x found.0 found.2)) found.1
 
@@ -192,11 +210,6 @@ module _ (lists : List StepList) (k : ℕ) (low : k < length lists) where
     steps = steps-kept lists k l low steps;
     capacity = each-list (λ s l. (list_of lists s).capacity ≤ l.capacity) l more (λ t. omega arith);
   }
-
--- one pass more of the elements that pass a test
-pub count-part : {X : Type 0} (p : X → Bool) (xs : List X) (i : ℕ) (d : X) → i < length xs → IsTrue (p (get_or xs i d)) → count_by p (take i xs) + 1 ≤ count_by p xs
-count-part p xs i d low passes =
-    omega (arith, count_by_more_yes p xs i d low passes, count-append p (take (i + 1) xs) (drop (i + 1) xs), ap (count_by p) (take-append-drop (i + 1) xs))
 
 -- ---- room gained step by step
 

@@ -1,5 +1,5 @@
 -- What the lists of the segments in conflict with one have of a second is what all holds in conflict with it have.
-use Rattle.std.proofs.Common.{◌≡◌, ℕ, Bool, true, false, List, length, map, IsTrue, refl, sym, ◌∙◌, inl, inr, subst, arith}
+use Rattle.std.proofs.Common.{◌≡◌, ℕ, Bool, true, false, List, length, map, IsTrue, IsFalse, ◌≤◌, ◌<◌, refl, sym, ◌∙◌, inl, inr, subst, arith}
 use Rattle.std.specs.Prelude.{Contains, flat_map}
 use Rattle.std.specs.List.{list_any}
 use Rattle.std.proofs.lemmas.Bool.{cases_lt, and_parts, and_from}
@@ -16,6 +16,7 @@ use Rattle.window_store.specs.Conflicting.{spans_in_conflict, ReachesUpTo}
 use Rattle.window_store.proofs.Standing.{covers-in_conflict}
 use Rattle.commitments.specs.declared.segment_holds.HeldStep.{HeldStep}
 use Rattle.commitments.specs.Held.{StepList, no_step, list_of, all_steps, hold_by, spans_by, AreBySegment}
+use Rattle.commitments.specs.Taken.{is_taken}
 
 both_same : (a b : Bool) → (IsTrue a → IsTrue b) → (IsTrue b → IsTrue a) → a ≡ b
 both_same true b to from = sym (to refl)
@@ -30,7 +31,7 @@ module _ (airport : Airport) (lists : List StepList) (by_segment : AreBySegment 
   holds = map (hold_by airport) (all_steps lists)
 
   -- a step that is in the list of a segment lies on it, and is one of all
-  in_list : (t : Segment) (held : HeldStep) → Contains (list_of lists t).steps held → (segment_of held.step.arc ≡ t) × Contains (all_steps lists) held
+  pub in_list : (t : Segment) (held : HeldStep) → Contains (list_of lists t).steps held → (segment_of held.step.arc ≡ t) × Contains (all_steps lists) held
   in_list t held there =
       elim (cases_lt t.0 (length lists)) [
         | inl on ↦ (
@@ -43,7 +44,7 @@ module _ (airport : Airport) (lists : List StepList) (by_segment : AreBySegment 
       ]
 
   -- and one of all is in the list of its segment
-  in_its_list : (held : HeldStep) → Contains (all_steps lists) held → Contains (list_of lists (segment_of held.step.arc)).steps held
+  pub in_its_list : (held : HeldStep) → Contains (all_steps lists) held → Contains (list_of lists (segment_of held.step.arc)).steps held
   in_its_list held there =
       let found = flat_map-Contains (λ (l : StepList). l.steps) lists held there in
       let segment : Segment = record { 0 = found.1.0 } in
@@ -89,3 +90,12 @@ module _ (airport : Airport) (lists : List StepList) (by_segment : AreBySegment 
     held = λ t low high. sym (covers-lists t) ∙ reaches.held t low high;
     later = λ h. reaches.later (covers-lists from ∙ h);
   }
+
+-- ---- the first second that is held
+
+module _ (airport : Airport) (s : Segment) (steps : List HeldStep) (from until at : ℕ) (first : IsFirstHeld (spans_in_conflict airport.conflicts s (map (hold_by airport) steps)) from until at) where
+  pub untaken-before : (u : ℕ) → from ≤ u → u < at → IsFalse (is_taken airport s steps u)
+  untaken-before u low high = sym (covers-in_conflict airport.conflicts s u (map (hold_by airport) steps)) ∙ first.none_before u low high
+
+  pub taken-at : at < until → IsTrue (is_taken airport s steps at)
+  taken-at before = sym (covers-in_conflict airport.conflicts s at (map (hold_by airport) steps)) ∙ first.held before

@@ -1,6 +1,6 @@
 -- Whether lists by segment have room, told by the store: a segment's own holds are among those in conflict with it. And a
 -- store stands for what steps hold in any order.
-use Rattle.std.proofs.Common.{◌≡◌, ℕ, ◌<◌, ◌≤◌, eqb, ltb, ◌&&◌, Bool, List, [], ◌∷◌, ◌++◌, length, map, IsTrue, Option, refl, sym, ap, ◌∙◌, inl, inr, subst, arith}
+use Rattle.std.proofs.Common.{◌≡◌, ℕ, ◌<◌, ◌≤◌, eqb, ltb, ◌&&◌, Bool, List, [], ◌∷◌, ◌++◌, length, map, IsTrue, refl, sym, ap, ◌∙◌, inl, inr, subst, arith}
 use Rattle.std.specs.Prelude.{All, count_by}
 use Rattle.std.specs.List.{list_any}
 use Rattle.std.proofs.lemmas.Bool.{cases_Bool, cases_lt, cond-true, cond-false, eqb-true, eq-eqb, lt-ltb, or_left}
@@ -9,7 +9,6 @@ use Rattle.std.proofs.lemmas.List.Elements.{All-contains, All-head, All-tail}
 use Rattle.std.proofs.lemmas.List.Sums.{sum_by-set}
 use Rattle.std.proofs.lemmas.Simd.{map-map}
 use Rattle.taxi_base.specs.declared.numbers.Segment.{Segment}
-use Rattle.taxi_base.specs.declared.numbers.Class.{Class}
 use Rattle.taxi_base.specs.declared.rows.Step.{Step}
 use Rattle.taxi_base.specs.Airport.{Airport, conflict, segment_of, has_member}
 use Rattle.taxi_base.specs.Windows.{Hold, blocks, holds_of}
@@ -19,6 +18,7 @@ use Rattle.window_store.specs.Kept.{DrawsWhatIsLacking}
 use Rattle.window_store.proofs.Standing.{StandsFor-same, conflicting-le}
 use Rattle.window_store.proofs.Changes.{conflict-turned}
 use Rattle.commitments.specs.declared.segment_holds.HeldStep.{HeldStep}
+use Rattle.commitments.specs.declared.segment_holds.Holder.{Holder}
 use Rattle.commitments.specs.Held.{StepList, no_step, list_of, all_steps, hold_by, clearance_after, steps_with, AreAsMany, AreBySegment, GainsHoldRoom, HasRoomInConflict, HaveRoomForSteps, HasHoldRoom}
 use Rattle.commitments.proofs.Arranged.{count-cons, count-joined, count-map, some-passes}
 
@@ -117,25 +117,29 @@ any-counted p (x ∷ xs) =
           rw other (any-counted p xs) ∙ ap (ltb 0) (sym same)
     ]
 
+module _ (airport : Airport) (old new : List HeldStep) (as_many : AreAsMany old new) where
+  holds-counted : (p : Hold → Bool) → count_by p (map (hold_by airport) old) ≡ count_by p (map (hold_by airport) new)
+  holds-counted p = count-map p (hold_by airport) old ∙ as_many (λ held. p (hold_by airport held)) ∙ sym (count-map p (hold_by airport) new)
+
+  -- one of the holds passes a test where one of the others does
+  pub any-as_many : (p : Hold → Bool) → list_any p (map (hold_by airport) old) ≡ list_any p (map (hold_by airport) new)
+  any-as_many p = any-counted p (map (hold_by airport) old) ∙ ap (ltb 0) (holds-counted p) ∙ sym (any-counted p (map (hold_by airport) new))
+
 pub StandsFor-as_many : (airport : Airport) (old new : List HeldStep) (store : Store) → AreAsMany old new → StandsFor airport.conflicts airport.horizon (map (hold_by airport) old) store
     → StandsFor airport.conflicts airport.horizon (map (hold_by airport) new) store
 StandsFor-as_many airport old new store as_many stands =
     StandsFor-same airport.conflicts airport.horizon (map (hold_by airport) old) (map (hold_by airport) new) store
-    (λ s t.
-    any-counted (blocks airport.conflicts s t) (map (hold_by airport) old) ∙ ap (ltb 0) (same (blocks airport.conflicts s t)) ∙ sym (any-counted (blocks airport.conflicts s t) (map (hold_by airport) new)))
-    (λ s. same (λ h. conflict airport.conflicts s h.segment)) stands
-  where
-    same : (p : Hold → Bool) → count_by p (map (hold_by airport) old) ≡ count_by p (map (hold_by airport) new)
-    same p = count-map p (hold_by airport) old ∙ as_many (λ held. p (hold_by airport held)) ∙ sym (count-map p (hold_by airport) new)
+    (λ s t. any-as_many airport old new as_many (blocks airport.conflicts s t))
+    (λ s. holds-counted airport old new as_many (λ h. conflict airport.conflicts s h.segment)) stands
 
 -- what the steps of one holder hold
-pub holds-with : (airport : Airport) (class : Option Class) (steps : List Step) → map (hold_by airport) (steps_with class steps) ≡ holds_of airport.horizon (clearance_after airport class) steps
-holds-with airport class steps = map-map (hold_by airport) (λ step. record { step = step; class = class }) steps
+pub holds-with : (airport : Airport) (holder : Holder) (steps : List Step) → map (hold_by airport) (steps_with holder steps) ≡ holds_of airport.horizon (clearance_after airport holder.class) steps
+holds-with airport holder steps = map-map (hold_by airport) (λ step. record { step = step; holder = holder }) steps
 
-pub StandsFor-parted : (airport : Airport) (old new : List HeldStep) (class : Option Class) (steps : List Step) (store : Store) → AreAsMany old (new ++ steps_with class steps)
+pub StandsFor-parted : (airport : Airport) (old new : List HeldStep) (holder : Holder) (steps : List Step) (store : Store) → AreAsMany old (new ++ steps_with holder steps)
     → StandsFor airport.conflicts airport.horizon (map (hold_by airport) old) store
-    → StandsFor airport.conflicts airport.horizon (map (hold_by airport) new ++ holds_of airport.horizon (clearance_after airport class) steps) store
-StandsFor-parted airport old new class steps store as_many stands =
-    let parts : map (hold_by airport) (new ++ steps_with class steps) ≡ map (hold_by airport) new ++ holds_of airport.horizon (clearance_after airport class) steps =
-    map-append (hold_by airport) new (steps_with class steps) ∙ ap (λ (holds : List Hold). map (hold_by airport) new ++ holds) (holds-with airport class steps) in
-    subst (λ (holds : List Hold). StandsFor airport.conflicts airport.horizon holds store) parts (StandsFor-as_many airport old (new ++ steps_with class steps) store as_many stands)
+    → StandsFor airport.conflicts airport.horizon (map (hold_by airport) new ++ holds_of airport.horizon (clearance_after airport holder.class) steps) store
+StandsFor-parted airport old new holder steps store as_many stands =
+    let parts : map (hold_by airport) (new ++ steps_with holder steps) ≡ map (hold_by airport) new ++ holds_of airport.horizon (clearance_after airport holder.class) steps =
+    map-append (hold_by airport) new (steps_with holder steps) ∙ ap (λ (holds : List Hold). map (hold_by airport) new ++ holds) (holds-with airport holder steps) in
+    subst (λ (holds : List Hold). StandsFor airport.conflicts airport.horizon holds store) parts (StandsFor-as_many airport old (new ++ steps_with holder steps) store as_many stands)

@@ -2,7 +2,7 @@ pub mod Names
 pub mod Inserted
 pub mod Stored
 pub mod Edits
-pub mod TakenFirst
+pub mod FirstNamed
 pub mod TakenCause
 pub mod SameHolds
 pub mod Routes

@@ -1,5 +1,5 @@
 -- The routes of a feasible state can be held, and there are few enough holds that the numbers of a store do not wrap.
-use Rattle.std.proofs.Common.{◌≡◌, ℕ, suc, get_or, ◌-◌, ◌+◌, ◌*◌, ◌^◌, ◌<◌, ◌≤◌, List, [], ◌∷◌, length, Option, Some, None, true, ◌/◌, subst, arith}
+use Rattle.std.proofs.Common.{◌≡◌, ℕ, ◌+◌, ◌*◌, ◌^◌, ◌<◌, ◌≤◌, List, [], ◌∷◌, length, Option, Some, None, true, ◌/◌, subst, arith}
 use Rattle.std.specs.Prelude.{All, map, slice_get}
 use Rattle.std.proofs.lemmas.List.{get_or_default, length-append, length-map}
 use Rattle.std.proofs.lemmas.Option.{get_or_from_slice_get, slice_get_within}
@@ -19,7 +19,6 @@ use Rattle.taxi_base.proofs.WalkLaws.{IsFeasibleWalk-steps, IsFeasibleStep-takes
 use Rattle.taxi_base.proofs.StateLaws.{IsFeasibleState-without}
 use Rattle.window_store.specs.Store.{no_list}
 use Rattle.window_store.specs.Stands.{AreOnSegments, TakeTime, AreInTime}
-use Rattle.commitments.specs.Taken.{AreInTurn, no_step}
 use Rattle.commitments.specs.Book.{Book, without_lifted, remaining, route_of, party_route, routes_of, Fits}
 
 -- steps on arcs lie on segments
@@ -57,34 +56,6 @@ module _ (airport : Airport) (rules : IsWellFormed airport) (class : Class) (hol
   length-walk : (steps : List Step) → IsFeasibleWalk (conditions_among airport class holds) steps → length steps ≤ airport.horizon
   length-walk [] walk = absurd walk
   length-walk (s ∷ steps) walk = omega (arith, length-from s steps walk)
-
-  -- they come in turn
-  walk-turn : (s : Step) (steps : List Step) → IsFeasibleWalk (conditions_among airport class holds) (s ∷ steps) → AreInTurn (s ∷ steps)
-  walk-turn s [] walk = record {
-    some = omega arith;
-    begins = All-cons (λ (x : Step). s.enter ≤ x.enter) s [] (omega arith) (All-nil (λ (x : Step). s.enter ≤ x.enter));
-    ends = All-cons (λ (x : Step). x.leave ≤ s.leave) s [] (omega arith) (All-nil (λ (x : Step). x.leave ≤ s.leave));
-  }
-  walk-turn s (t ∷ steps) walk =
-      let rest = walk-turn t steps walk.2 in
-      let last : Step = get_or (t ∷ steps) (length (t ∷ steps) - 1) no_step in
-      let e : length (s ∷ t ∷ steps) - 1 ≡ suc (length (t ∷ steps) - 1) = omega arith in
-      let joins = takes s walk.0 in
-      record {
-        some = omega arith;
-        begins = All-cons (λ (x : Step). s.enter ≤ x.enter) s (t ∷ steps) (omega arith)
-            (All-weaker (λ (x : Step). t.enter ≤ x.enter) (λ (x : Step). s.enter ≤ x.enter) (λ x h. omega (arith, h, joins, walk.1.at_once)) (t ∷ steps) rest.begins);
-        ends = rw e (All-cons (λ (x : Step). x.leave ≤ last.leave) s (t ∷ steps)
-            (omega (arith, takes-first t steps walk.2, walk.1.at_once, rest.ends 0 t (omega arith))) rest.ends);
-      }
-    where
-      takes-first : (t : Step) (steps : List Step) → IsFeasibleWalk (conditions_among airport class holds) (t ∷ steps) → t.enter < t.leave
-      takes-first t [] walk = takes t walk
-      takes-first t (u ∷ steps) walk = takes t walk.0
-
-  pub walk-in_turn : (steps : List Step) → IsFeasibleWalk (conditions_among airport class holds) steps → AreInTurn steps
-  walk-in_turn [] walk = absurd walk
-  walk-in_turn (s ∷ steps) walk = walk-turn s steps walk
 
 -- ---- the routes of a feasible state
 

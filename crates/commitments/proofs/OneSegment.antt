@@ -24,10 +24,6 @@ use Rattle.commitments.specs.Held.{hold_by, clearance_after, spans_by, AreSince}
 abbrev begins : HeldStep → ℕ
 begins held = held.step.enter
 
--- what is read where there is none
-abbrev pub none_there : HeldStep
-none_there = record { step = record { arc = record { 0 = 0 }; enter = 0; leave = 0 }; class = None }
-
 -- ---- where a step is
 
 slice_get-drop : {X : Type 0} (n : ℕ) (xs : List X) (k : ℕ) → slice_get (drop n xs) k ≡ slice_get xs (n + k)
@@ -88,7 +84,7 @@ module _ (airport : Airport) (rules : IsWellFormed airport) where
       let held = get_or over k d in
       false_from_ne_true (span_has (hold_by airport held).span t) (λ has.
       let inside = span_has-true (hold_by airport held).span t has in
-      absurd (omega (arith, inside.1, short k d low, clearance-short airport held.class rules))))
+      absurd (omega (arith, inside.1, short k d low, clearance-short airport held.holder.class rules))))
 
 -- what begins later has no second before
 later-none : (airport : Airport) (rest : List HeldStep) (i t : ℕ) (e : HeldStep) → IsNonDecreasingBy begins rest → i < length rest → t < (get_or rest i e).step.enter

@@ -15,7 +15,7 @@ use Rattle.window_store.specs.Store.{Store}
 use Rattle.window_store.specs.Stands.{StandsFor, route_holds}
 use Rattle.commitments.specs.declared.segment_holds.HeldStep.{HeldStep}
 use Rattle.commitments.specs.Book.{route_of, party_route, routes_of}
-use Rattle.commitments.specs.Held.{hold_by, party_steps, flight_steps, steps_of_each, joined, steps_in, AreAsMany}
+use Rattle.commitments.specs.Held.{hold_by, flight_holder, party_steps, flight_steps, steps_of_each, joined, steps_in, AreAsMany}
 use Rattle.commitments.proofs.Inserted.{remove-map}
 use Rattle.commitments.proofs.SameHolds.{put_in-holds, remove-holds}
 use Rattle.commitments.proofs.Routes.{AreOver, routes-hold, slice_get-left, slice_get-right}
@@ -63,7 +63,7 @@ module _ (airport : Airport) where
   flights-same : (flights : List Flight) → map held (map (route_of airport) flights) ≡ map (map (hold_by airport)) (map flight_steps flights)
   flights-same [] = refl
   flights-same (f ∷ flights) =
-      ap (λ (first : List Hold). first ∷ map held (map (route_of airport) flights)) (sym (holds-with airport (Some f.class) f.steps))
+      ap (λ (first : List Hold). first ∷ map held (map (route_of airport) flights)) (sym (holds-with airport (flight_holder f) f.steps))
       ∙ ap (λ (rest : List (List Hold)). map (hold_by airport) (flight_steps f) ∷ rest) (flights-same flights)
 
   routes-same : (state : State) → map held (routes_of airport state) ≡ map (map (hold_by airport)) (steps_of_each state)

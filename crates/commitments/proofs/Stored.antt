@@ -1,128 +1,143 @@
--- Flights in a slab under the keys of their names, and what stays stored where a key comes or goes.
-use Rattle.std.proofs.Common.{◌≡◌, ◌≢◌, ℕ, zero, suc, ◌<◌, ◌≤◌, List, [], ◌∷◌, length, get_or, insert, Option, Some, None, refl, ap, ◌∙◌, subst, arith}
-use Rattle.std.specs.Prelude.{IsSomeAnd, All, AllPairs, ⊤}
+-- Flights in a slab under keys, what a search among the keys is among the flights, and what stays stored where a key comes or goes.
+use Rattle.std.proofs.Common.{◌≡◌, ◌≢◌, ℕ, zero, suc, ◌<◌, ◌≤◌, List, [], ◌∷◌, length, get_or, insert, Option, Some, None, refl, sym, ap, ◌∙◌, subst, arith}
+use Rattle.std.specs.Prelude.{IsSome, All, AllPairs, ⊤, Result, Ok, Err}
+use Rattle.std.specs.Option.{option_map_or}
 use Rattle.std.specs.List.{remove}
+use Rattle.std.specs.List.Sorted.{IsSearchInRange, IsBinarySearchResult}
+use Rattle.std.specs.Ordering.{nat_cmp}
+use Rattle.std.specs.declared.cmp.Ordering.{Ordering}
+use Rattle.std.specs.declared.cmp.Ordering.TheVariants.{Less}
+use Rattle.std.specs.Cmp.Lexicographic.{slice_cmp}
 use Rattle.slab.specs.Slab.{Slab, get, Updates}
 use Rattle.taxi_base.specs.declared.answers.Flight.{Flight}
 use Rattle.taxi_base.proofs.ListLaws.{AllPairs-first, AllPairs-rest}
-use Rattle.commitments.specs.Book.{flights_of, AreNamed}
-use Rattle.commitments.specs.Places.{AreInOrder, key_name}
+use Rattle.commitments.specs.Book.{flights_of, name_order}
 use Rattle.taxi_base.proofs.FlightNames.{Precedes, precedes_itself}
 
-abbrev pub Names : Type 0
-Names = List (List ℕ × ℕ)
-
--- each name in turn has a key, and the slab has the flight of that name there
-abbrev pub AreStored : Slab Flight → Names → List Flight → Type 0
+-- each key in turn has the flight there
+abbrev pub AreStored : Slab Flight → List ℕ → List Flight → Type 0
 AreStored s [] [] = ⊤
 AreStored s [] (f ∷ fs) = ⊥
-AreStored s (n ∷ ns) [] = ⊥
-AreStored s (n ∷ ns) (f ∷ fs) = (get s n.1 ≡ Some f) × (f.name ≡ n.0) × AreStored s ns fs
+AreStored s (k ∷ ks) [] = ⊥
+AreStored s (k ∷ ks) (f ∷ fs) = (get s k ≡ Some f) × AreStored s ks fs
+
+abbrev pub HaveFlights : Slab Flight → List ℕ → Type 0
+HaveFlights s ks = All (λ key. IsSome (get s key)) ks
 
 -- ---- stored flights are the view
 
-named-first : (s : Slab Flight) (n : List ℕ × ℕ) (o : Option Flight) → get s n.1 ≡ o → IsSomeAnd o (λ f. f.name ≡ n.0)
-    → (f : Flight) × (get s n.1 ≡ Some f) × (f.name ≡ n.0)
-named-first s n None e h = absurd h
-named-first s n (Some f) e h = (f, e, h)
+there : (s : Slab Flight) (k : ℕ) (o : Option Flight) → get s k ≡ o → IsSome o → (f : Flight) × (get s k ≡ Some f)
+there s k None e h = absurd (cc h)
+there s k (Some f) e h = (f, e)
 
-pub stored_from_named : (s : Slab Flight) (ns : Names) → AreNamed s ns → AreStored s ns (flights_of s ns)
-stored_from_named s [] named = tt
-stored_from_named s (n ∷ ns) named =
-    let first = named-first s n (get s n.1) refl (named 0 n (omega arith)) in
-    rw first.1 (first.1, first.2, stored_from_named s ns (λ k d low. named (suc k) d (omega arith)))
+pub stored_from_keys : (s : Slab Flight) (ks : List ℕ) → HaveFlights s ks → AreStored s ks (flights_of s ks)
+stored_from_keys s [] have = tt
+stored_from_keys s (k ∷ ks) have =
+    let first = there s k (get s k) refl (have 0 k (omega arith)) in
+    rw first.1 (first.1, stored_from_keys s ks (λ j d low. have (suc j) d (omega arith)))
 
-pub view-stored : (s : Slab Flight) (ns : Names) (fs : List Flight) → AreStored s ns fs → flights_of s ns ≡ fs
+pub view-stored : (s : Slab Flight) (ks : List ℕ) (fs : List Flight) → AreStored s ks fs → flights_of s ks ≡ fs
 view-stored s [] [] stored = refl
 view-stored s [] (f ∷ fs) stored = absurd stored
-view-stored s (n ∷ ns) [] stored = absurd stored
-view-stored s (n ∷ ns) (f ∷ fs) stored = rw stored.0 (ap (λ (gs : List Flight). f ∷ gs) (view-stored s ns fs stored.2))
+view-stored s (k ∷ ks) [] stored = absurd stored
+view-stored s (k ∷ ks) (f ∷ fs) stored = rw stored.0 (ap (λ (gs : List Flight). f ∷ gs) (view-stored s ks fs stored.1))
 
-pub named_from_stored : (s : Slab Flight) (ns : Names) (fs : List Flight) → AreStored s ns fs → AreNamed s ns
-named_from_stored s [] fs stored k d low = absurd (omega arith)
-named_from_stored s (n ∷ ns) [] stored k d low = absurd stored
-named_from_stored s (n ∷ ns) (f ∷ fs) stored zero d low = rw stored.0 stored.1
-named_from_stored s (n ∷ ns) (f ∷ fs) stored (suc k) d low = named_from_stored s ns fs stored.2 k d (omega arith)
+pub keys_from_stored : (s : Slab Flight) (ks : List ℕ) (fs : List Flight) → AreStored s ks fs → HaveFlights s ks
+keys_from_stored s [] fs stored j d low = absurd (omega arith)
+keys_from_stored s (k ∷ ks) [] stored j d low = absurd stored
+keys_from_stored s (k ∷ ks) (f ∷ fs) stored zero d low = rw stored.0 refl
+keys_from_stored s (k ∷ ks) (f ∷ fs) stored (suc j) d low = keys_from_stored s ks fs stored.1 j d (omega arith)
 
-pub length-stored : (s : Slab Flight) (ns : Names) (fs : List Flight) → AreStored s ns fs → length ns ≡ length fs
+pub length-stored : (s : Slab Flight) (ks : List ℕ) (fs : List Flight) → AreStored s ks fs → length ks ≡ length fs
 length-stored s [] [] stored = refl
 length-stored s [] (f ∷ fs) stored = absurd stored
-length-stored s (n ∷ ns) [] stored = absurd stored
-length-stored s (n ∷ ns) (f ∷ fs) stored = ap suc (length-stored s ns fs stored.2)
+length-stored s (k ∷ ks) [] stored = absurd stored
+length-stored s (k ∷ ks) (f ∷ fs) stored = ap suc (length-stored s ks fs stored.1)
 
 pub some_flight : (fs : List Flight) → 0 < length fs → Flight
 some_flight [] h = absurd (omega arith)
 some_flight (f ∷ fs) h = f
 
--- the flight and the name at a place
-pub get-stored : (s : Slab Flight) (ns : Names) (fs : List Flight) → AreStored s ns fs → (k : ℕ) (d : List ℕ × ℕ) (e : Flight) → k < length ns
-    → (get s (get_or ns k d).1 ≡ Some (get_or fs k e)) × ((get_or fs k e).name ≡ (get_or ns k d).0)
-get-stored s [] fs stored k d e low = absurd (omega arith)
-get-stored s (n ∷ ns) [] stored k d e low = absurd stored
-get-stored s (n ∷ ns) (f ∷ fs) stored zero d e low = (stored.0, stored.1)
-get-stored s (n ∷ ns) (f ∷ fs) stored (suc k) d e low = get-stored s ns fs stored.2 k d e (omega arith)
+-- the flight at a place
+pub get-stored : (s : Slab Flight) (ks : List ℕ) (fs : List Flight) → AreStored s ks fs → (j : ℕ) (d : ℕ) (e : Flight) → j < length ks
+    → get s (get_or ks j d) ≡ Some (get_or fs j e)
+get-stored s [] fs stored j d e low = absurd (omega arith)
+get-stored s (k ∷ ks) [] stored j d e low = absurd stored
+get-stored s (k ∷ ks) (f ∷ fs) stored zero d e low = stored.0
+get-stored s (k ∷ ks) (f ∷ fs) stored (suc j) d e low = get-stored s ks fs stored.1 j d e (omega arith)
 
--- the names rise as the flights do
-pub names-ordered : (s : Slab Flight) (ns : Names) (fs : List Flight) → AllPairs Precedes fs → AreStored s ns fs → AreInOrder key_name ns
-names-ordered s ns fs ordered stored i j d low high =
-    let long = length-stored s ns fs stored in
-    let g : Flight = some_flight fs (omega arith) in
-    let first = (get-stored s ns fs stored i d g (omega arith)).1 in
-    let second = (get-stored s ns fs stored j d g high).1 in
-    rw (← first, ← second) (ordered i j g low (omega arith))
+-- ---- a search among the keys
+
+module _ (s : Slab Flight) (ks : List ℕ) (fs : List Flight) (stored : AreStored s ks fs) (name : List ℕ) where
+  abbrev flight_order : Flight → Ordering
+  flight_order f = slice_cmp nat_cmp f.name name
+
+  same-order : (j : ℕ) (d : ℕ) (e : Flight) → j < length ks → name_order s name (get_or ks j d) ≡ flight_order (get_or fs j e)
+  same-order j d e low = ap (λ (o : Option Flight). option_map_or flight_order o Less) (get-stored s ks fs stored j d e low)
+
+  pub searched-keys : (r : Result ℕ ℕ) → IsSearchInRange r (length ks) → IsBinarySearchResult (name_order s name) ks r → IsBinarySearchResult flight_order fs r
+  searched-keys (Ok j) bound found = λ e. sym (same-order j 0 e bound) ∙ found 0
+  searched-keys (Err j) bound parted = λ rising.
+      let long = length-stored s ks fs stored in
+      let low : j ≤ length ks = bound in
+      let parts = parted (λ a b d below high.
+      let g : Flight = some_flight fs (omega arith) in
+      rw (same-order a d g (omega arith), same-order b d g high) (rising a b g below (omega arith))) in (
+        λ a e from until. sym (same-order a 0 e (omega arith)) ∙ parts.0 a 0 from until,
+        λ a e from until. sym (same-order a 0 e (omega arith)) ∙ parts.1 a 0 from (omega arith),
+      )
 
 -- ---- a key that comes or goes
 
 -- an update at another key leaves what is stored
-pub stored-kept : (old new : Slab Flight) (key : ℕ) (o : Option Flight) → Updates old new key o → (ns : Names) (fs : List Flight) → All (λ n. n.1 ≢ key) ns
-    → AreStored old ns fs → AreStored new ns fs
+pub stored-kept : (old new : Slab Flight) (key : ℕ) (o : Option Flight) → Updates old new key o → (ks : List ℕ) (fs : List Flight) → All (λ k. k ≢ key) ks
+    → AreStored old ks fs → AreStored new ks fs
 stored-kept old new key o u [] [] others stored = tt
 stored-kept old new key o u [] (f ∷ fs) others stored = absurd stored
-stored-kept old new key o u (n ∷ ns) [] others stored = absurd stored
-stored-kept old new key o u (n ∷ ns) (f ∷ fs) others stored =
-    (u.others n.1 (others 0 n (omega arith)) ∙ stored.0, stored.1, stored-kept old new key o u ns fs (λ k d low. others (suc k) d (omega arith)) stored.2)
+stored-kept old new key o u (k ∷ ks) [] others stored = absurd stored
+stored-kept old new key o u (k ∷ ks) (f ∷ fs) others stored =
+    (u.others k (others 0 k (omega arith)) ∙ stored.0, stored-kept old new key o u ks fs (λ j d low. others (suc j) d (omega arith)) stored.1)
 
--- a key with no flight is no name's
-pub vacant-other : (s : Slab Flight) (key : ℕ) (ns : Names) (fs : List Flight) → get s key ≡ None → AreStored s ns fs → All (λ n. n.1 ≢ key) ns
-vacant-other s key ns fs vacant stored k d low e =
-    let long = length-stored s ns fs stored in
+-- a key with no flight is none of them
+pub vacant-other : (s : Slab Flight) (key : ℕ) (ks : List ℕ) (fs : List Flight) → get s key ≡ None → AreStored s ks fs → All (λ k. k ≢ key) ks
+vacant-other s key ks fs vacant stored j d low e =
+    let long = length-stored s ks fs stored in
     let g : Flight = some_flight fs (omega arith) in
-    let there = (get-stored s ns fs stored k d g low).0 in
-    let there' : get s key ≡ Some (get_or fs k g) = subst (λ x. get s x ≡ Some (get_or fs k g)) e there in
+    let found = get-stored s ks fs stored j d g low in
+    let here : get s key ≡ Some (get_or fs j g) = subst (λ x. get s x ≡ Some (get_or fs j g)) e found in
     cc
 
-pub stored-insert : (old new : Slab Flight) (key : ℕ) (x : Flight) → Updates old new key (Some x) → (ns : Names) (fs : List Flight) (place : ℕ) → All (λ n. n.1 ≢ key) ns
-    → place ≤ length ns → AreStored old ns fs → AreStored new (insert ns place (x.name, key)) (insert fs place x)
-stored-insert old new key x u ns fs zero others low stored = (u.changed, refl, stored-kept old new key (Some x) u ns fs others stored)
+pub stored-insert : (old new : Slab Flight) (key : ℕ) (x : Flight) → Updates old new key (Some x) → (ks : List ℕ) (fs : List Flight) (place : ℕ) → All (λ k. k ≢ key) ks
+    → place ≤ length ks → AreStored old ks fs → AreStored new (insert ks place key) (insert fs place x)
+stored-insert old new key x u ks fs zero others low stored = (u.changed, stored-kept old new key (Some x) u ks fs others stored)
 stored-insert old new key x u [] fs (suc place) others low stored = absurd (omega arith)
-stored-insert old new key x u (n ∷ ns) [] (suc place) others low stored = absurd stored
-stored-insert old new key x u (n ∷ ns) (f ∷ fs) (suc place) others low stored = (
-  u.others n.1 (others 0 n (omega arith)) ∙ stored.0,
-  stored.1,
-  stored-insert old new key x u ns fs place (λ k d within. others (suc k) d (omega arith)) (omega arith) stored.2,
+stored-insert old new key x u (k ∷ ks) [] (suc place) others low stored = absurd stored
+stored-insert old new key x u (k ∷ ks) (f ∷ fs) (suc place) others low stored = (
+  u.others k (others 0 k (omega arith)) ∙ stored.0,
+  stored-insert old new key x u ks fs place (λ j d within. others (suc j) d (omega arith)) (omega arith) stored.1,
 )
 
 -- the keys of flights in order differ
-pub later-other : (s : Slab Flight) (key : ℕ) (f : Flight) (ns : Names) (fs : List Flight) → get s key ≡ Some f → All (Precedes f) fs → AreStored s ns fs → All (λ n. n.1 ≢ key) ns
-later-other s key f ns fs here after stored k d low e =
-    let long = length-stored s ns fs stored in
-    let there = (get-stored s ns fs stored k d f low).0 in
-    let there' : get s key ≡ Some (get_or fs k f) = subst (λ x. get s x ≡ Some (get_or fs k f)) e there in
-    let one : f ≡ get_or fs k f = cc in
-    precedes_itself f.name (get_or fs k f).name (after k f (omega arith)) (ap (λ (x : Flight). x.name) one)
+pub later-other : (s : Slab Flight) (key : ℕ) (f : Flight) (ks : List ℕ) (fs : List Flight) → get s key ≡ Some f → All (Precedes f) fs → AreStored s ks fs → All (λ k. k ≢ key) ks
+later-other s key f ks fs here after stored j d low e =
+    let long = length-stored s ks fs stored in
+    let found = get-stored s ks fs stored j d f low in
+    let same : get s key ≡ Some (get_or fs j f) = subst (λ x. get s x ≡ Some (get_or fs j f)) e found in
+    let one : f ≡ get_or fs j f = cc in
+    precedes_itself f.name (get_or fs j f).name (after j f (omega arith)) (ap (λ (x : Flight). x.name) one)
 
-pub stored-remove : (old new : Slab Flight) (key : ℕ) → Updates old new key None → (ns : Names) (fs : List Flight) (place : ℕ) (d : List ℕ × ℕ) → AllPairs Precedes fs
-    → place < length ns → (get_or ns place d).1 ≡ key → AreStored old ns fs → AreStored new (remove ns place) (remove fs place)
+pub stored-remove : (old new : Slab Flight) (key : ℕ) → Updates old new key None → (ks : List ℕ) (fs : List Flight) (place : ℕ) (d : ℕ) → AllPairs Precedes fs
+    → place < length ks → get_or ks place d ≡ key → AreStored old ks fs → AreStored new (remove ks place) (remove fs place)
 stored-remove old new key u [] fs place d ordered low here stored = absurd (omega arith)
-stored-remove old new key u (n ∷ ns) [] place d ordered low here stored = absurd stored
-stored-remove old new key u (n ∷ ns) (f ∷ fs) zero d ordered low here stored =
-    stored-kept old new key None u ns fs (later-other old key f ns fs (subst (λ k. get old k ≡ Some f) here stored.0) (AllPairs-first Precedes f fs ordered) stored.2) stored.2
-stored-remove old new key u (n ∷ ns) (f ∷ fs) (suc place) d ordered low here stored =
-    let long = length-stored old ns fs stored.2 in
-    let there = (get-stored old ns fs stored.2 place d f (omega arith)).0 in
-    let there' : get old key ≡ Some (get_or fs place f) = subst (λ x. get old x ≡ Some (get_or fs place f)) here there in
-    let other : n.1 ≢ key = λ e.
+stored-remove old new key u (k ∷ ks) [] place d ordered low here stored = absurd stored
+stored-remove old new key u (k ∷ ks) (f ∷ fs) zero d ordered low here stored =
+    stored-kept old new key None u ks fs (later-other old key f ks fs (subst (λ x. get old x ≡ Some f) here stored.0) (AllPairs-first Precedes f fs ordered) stored.1) stored.1
+stored-remove old new key u (k ∷ ks) (f ∷ fs) (suc place) d ordered low here stored =
+    let long = length-stored old ks fs stored.1 in
+    let found = get-stored old ks fs stored.1 place d f (omega arith) in
+    let same : get old key ≡ Some (get_or fs place f) = subst (λ x. get old x ≡ Some (get_or fs place f)) here found in
+    let other : k ≢ key = λ e.
     let first : get old key ≡ Some f = subst (λ x. get old x ≡ Some f) e stored.0 in
     let one : f ≡ get_or fs place f = cc in
     precedes_itself f.name (get_or fs place f).name (AllPairs-first Precedes f fs ordered place f (omega arith)) (ap (λ (x : Flight). x.name) one) in
-    (u.others n.1 other ∙ stored.0, stored.1, stored-remove old new key u ns fs place d (AllPairs-rest Precedes f fs ordered) (omega arith) here stored.2)
+    (u.others k other ∙ stored.0, stored-remove old new key u ks fs place d (AllPairs-rest Precedes f fs ordered) (omega arith) here stored.1)

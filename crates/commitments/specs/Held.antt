@@ -13,6 +13,7 @@ use Rattle.window_store.specs.Store.{Store, list_at}
 use Rattle.taxi_base.specs.Windows.{Hold, hold_of}
 use Rattle.taxi_base.specs.State.{State, party_step}
 use Rattle.commitments.specs.declared.segment_holds.HeldStep.{HeldStep}
+use Rattle.commitments.specs.declared.segment_holds.Holder.{Holder}
 
 -- the clearance of a flight's class; a party has none
 abbrev pub clearance_after : Airport → Option Class → ℕ
@@ -21,21 +22,28 @@ clearance_after airport (Some class) = clearance_of airport class
 
 -- what a step holds
 abbrev pub hold_by : Airport → HeldStep → Hold
-hold_by airport held = hold_of airport.horizon (clearance_after airport held.class) held.step
+hold_by airport held = hold_of airport.horizon (clearance_after airport held.holder.class) held.step
 
 abbrev pub spans_by : Airport → List HeldStep → List Span
 spans_by airport steps = map (λ held. (hold_by airport held).span) steps
 
--- the steps of a flight of a class, or of a party
-abbrev pub steps_with : Option Class → List Step → List HeldStep
-steps_with class steps = map (λ step. record { step = step; class = class }) steps
+-- the steps of one holder
+abbrev pub steps_with : Holder → List Step → List HeldStep
+steps_with holder steps = map (λ step. record { step = step; holder = holder }) steps
+
+-- as whom a party and a flight hold segments
+abbrev pub party_holder : Party → Holder
+party_holder party = record { class = None; name = party.name }
+
+abbrev pub flight_holder : Flight → Holder
+flight_holder flight = record { class = Some flight.class; name = flight.name }
 
 -- those of each holder, the parties first, and those of all
 abbrev pub party_steps : Party → List HeldStep
-party_steps party = steps_with None (party_step party ∷ [])
+party_steps party = steps_with (party_holder party) (party_step party ∷ [])
 
 abbrev pub flight_steps : Flight → List HeldStep
-flight_steps flight = steps_with (Some flight.class) flight.steps
+flight_steps flight = steps_with (flight_holder flight) flight.steps
 
 abbrev pub steps_of_each : State → List (List HeldStep)
 steps_of_each state = map party_steps state.parties ++ map flight_steps state.flights

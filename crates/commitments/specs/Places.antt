@@ -25,10 +25,6 @@ pub record IsNamedPlace {X : Type 0} (name_of : X → List ℕ) (xs : List X) (n
   pub none : IfNone place (named name_of name xs ≡ None)
   pub all : IfNone place (left_out name_of name xs ≡ xs)
 
--- of a name with its key
-abbrev pub key_name : List ℕ × ℕ → List ℕ
-key_name key = key.0
-
 abbrev pub IsFlightPlace : List Flight → List ℕ → Option ℕ → Type 0
 IsFlightPlace flights name place = IsNamedPlace (λ f. f.name) flights name place
 

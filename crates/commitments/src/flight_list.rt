@@ -1,11 +1,12 @@
-//! Flights in a slab, and their names in rising order with the keys.
+//! Flights in a slab, and their keys in the order of their names.
 ghost use Rattle.std.specs.Prelude.{◌≡◌, ◌+◌, ◌<◌, ◌≤◌, [], Some, None, length, remove, slice_get, OnOk, option_copied};
-ghost use Rattle.commitments.specs.Book.{IsBook};
-ghost use Rattle.commitments.specs.Places.{AreInOrder, IsPlace, IsFlightPlace, key_name};
+ghost use Rattle.commitments.specs.Book.{IsBook, flights_of, name_order, IsKept};
+ghost use Rattle.commitments.specs.Places.{IsPlace, IsFlightPlace};
 ghost use Rattle.taxi_base.specs.State.{flight_named, flights_with};
 
 use slab::Slab;
 use std::alloc::Global;
+use std::cmp::Ordering;
 use std::marker::Model;
 use taxi_base::{Flight, Memory, Name};
 
@@ -13,22 +14,23 @@ use taxi_base::{Flight, Memory, Name};
 #[derive(Drop)]
 pub(crate) struct FlightList {
     flights: Slab<Flight>,
-    names: Vec<(Name, usize)>,
+    // In the order of the flights' names.
+    keys: Vec<usize>,
 }
 
 impl Model for FlightList {
     ghost use Rattle.std.specs.Prelude.{◌-◌, min, vec_len, vec_capacity};
     ghost use Rattle.slab.specs.Slab.{slab_len};
-    ghost use Rattle.commitments.specs.Book.{Listing, IsBook, flights_of, AreNamed};
+    ghost use Rattle.commitments.specs.Book.{Listing, flights_of, IsKept};
 
     ghost Value = { Listing };
 
     ghost view = { λ l. record {
-      flights = flights_of l.flights l.names.items;
-      room = min (l.flights.capacity - slab_len l.flights) (vec_capacity l.names - vec_len l.names);
+      flights = flights_of l.flights l.keys.items;
+      room = min (l.flights.capacity - slab_len l.flights) (vec_capacity l.keys - vec_len l.keys);
     } };
 
-    ghost invariant = { λ l. AreNamed l.flights l.names.items × IsBook (flights_of l.flights l.names.items) };
+    ghost invariant = { λ l. IsKept l.flights l.keys.items };
 }
 
 impl FlightList {
@@ -38,7 +40,7 @@ impl FlightList {
     {
         FlightList {
             flights: Slab::new(alloc),
-            names: Vec::new(alloc),
+            keys: Vec::new(alloc),
         }
     }
 
@@ -47,7 +49,7 @@ impl FlightList {
         ensures count { result ≡ length self.now.flights }
         ensures book { IsBook self.now.flights }
     {
-        self.names.len()
+        self.keys.len()
     }
 
     /// The flight at a place, by rising names.
@@ -55,15 +57,14 @@ impl FlightList {
         requires { place < length self.now.flights }
         ensures { slice_get self.now.flights place ≡ Some result.now }
     {
-        let (_, key) = self.names[place];
-        &self.flights[key]
+        &self.flights[self.keys[place]]
     }
 
     /// The place of the flight of a name.
     pub(crate) fn place(&self, name: &Name) -> Option<usize>
         ensures { IsFlightPlace self.now.flights name.now result }
     {
-        place_of(&self.names, name).ok()
+        place_of(&self.flights, &self.keys, name).ok()
     }
 
     /// The flight of a name.
@@ -81,7 +82,7 @@ impl FlightList {
         ensures kept { self.old.room ≤ self.new.room }
     {
         self.flights.reserve(1)?;
-        self.names.reserve(1)?;
+        self.keys.reserve(1)?;
         Ok(())
     }
 
@@ -93,10 +94,9 @@ impl FlightList {
         ensures flights { self.new.flights ≡ flights_with flight self.old.flights }
         ensures room { self.new.room + 1 ≡ self.old.room }
     {
-        let name = flight.name;
-        let place = place_of(&self.names, &name).unwrap_err();
+        let place = place_of(&self.flights, &self.keys, &flight.name).unwrap_err();
         let key = self.flights.insert_reserved(flight);
-        self.names.insert(place, (name, key)).unwrap();
+        self.keys.insert(place, key).unwrap();
     }
 
     /// Takes the flight at a place out. It needs no memory, and leaves room for one flight more.
@@ -106,15 +106,25 @@ impl FlightList {
         ensures flights { self.new.flights ≡ remove self.old.flights place }
         ensures room { self.new.room ≡ self.old.room + 1 }
     {
-        let (_, key) = self.names.remove(place);
+        let key = self.keys.remove(place);
         self.flights.remove(key)
     }
 }
 
-// Where a name is, or where it would go.
-fn place_of(names: &[(Name, usize)], name: &Name) -> Result<usize, usize>
-    requires { AreInOrder key_name names.now }
-    ensures { IsPlace key_name names.now name.now result }
+// Where the flight of a name is among these keys, or where its key would go.
+fn place_of(flights: &Slab<Flight>, keys: &[usize], name: &Name) -> Result<usize, usize>
+    requires { IsKept flights.now keys.now }
+    ensures { IsPlace (λ f. f.name) (flights_of flights.now keys.now) name.now result }
 {
-    names.binary_search_by_key(name, |n| n.0)
+    keys.binary_search_by(|key| name_order(flights, *key, name))
+}
+
+// How the name of the flight at a key compares with another.
+fn name_order(flights: &Slab<Flight>, key: usize, name: &Name) -> Ordering
+    ensures { result ≡ name_order flights.now name.now key }
+{
+    match flights.get(key) {
+        Some(flight) => flight.name.cmp(name),
+        None => Ordering::Less,
+    }
 }

@@ -5,14 +5,15 @@ ghost use Rattle.taxi_base.specs.Windows.{Hold, holds_of};
 ghost use Rattle.window_store.specs.Stands.{StandsFor, HasRoomFor, AreOnSegments, TakeTime, AreInTime};
 ghost use Rattle.window_store.specs.Kept.{IsApartFrom, IsClearOf, KeepsWindows, KeepsNodes, GainsRoom};
 ghost use Rattle.commitments.specs.Held.{hold_by, clearance_after, steps_with, AreAsMany, AreAmong};
+ghost use Rattle.commitments.specs.Taken.{IsFirstTaken};
 
 use crate::hold_index::{HoldIndex, IndexHolds};
-use crate::segment_holds::clearance_after;
+use crate::segment_holds::{Holder, clearance_after};
 use airport_file::Airport;
 use std::alloc::Global;
 use std::marker::Model;
-use taxi_base::{Class, Memory, Step};
-use window_store::WindowStore;
+use taxi_base::{Memory, Name, Segment, Span, Step, Time};
+use window_store::{OtherHolds, WindowStore};
 
 /// The free windows of each segment, and the steps that leave them, by segment.
 #[derive(Drop)]
@@ -53,6 +54,29 @@ impl HeldSegments {
         &self.store
     }
 
+    /// The first second of a span at which a segment in conflict with this one is held, and the first holder by name.
+    pub(crate) fn first_taken(
+        &self,
+        airport: &Airport,
+        segment: Segment,
+        span: Span,
+    ) -> Option<(Time, Name)>
+        requires segment { segment.0 < length airport.now.segments }
+        requires some { span.from < span.until }
+        ensures { IsFirstTaken airport.now segment self.now.steps span result }
+    {
+        let holds = IndexHolds {
+            index: &self.index,
+            airport,
+        };
+        let at = holds.first_held(airport.conflicts(), segment, span.from, span.until);
+        if span.until <= at {
+            return None;
+        }
+        let by = holds.first_holder(segment, at)?;
+        Some((at, by))
+    }
+
     /// Makes room for steps. All windows and steps stay, also where memory runs out.
     pub(crate) fn reserve(&mut self, airport: &Airport, steps: &[Step]) -> Result<(), Memory>
         requires lists { length self.old.store.lists ≡ length airport.now.segments }
@@ -70,7 +94,7 @@ impl HeldSegments {
     }
 
     /// Holds what the steps of a flight or a party hold. It needs no memory. A window that has no second of that stays as it is.
-    pub(crate) fn occupy(&mut self, airport: &Airport, steps: &[Step], class: Option<Class>)
+    pub(crate) fn occupy(&mut self, airport: &Airport, steps: &[Step], holder: &Holder)
         requires lists { length self.old.store.lists ≡ length airport.now.segments }
         requires horizon { self.old.store.horizon ≡ airport.now.horizon }
         requires steps { AreOnSegments (length airport.now.segments) steps.now }
@@ -78,35 +102,35 @@ impl HeldSegments {
         requires in_time { AreInTime airport.now.horizon steps.now }
         requires stands { StandsFor airport.now.conflicts airport.now.horizon (map (hold_by airport.now) self.old.steps) self.old.store }
         requires room { HasRoomFor airport.now.conflicts steps.now self.old.store }
-        ensures stands { (holds : List Hold) → StandsFor airport.now.conflicts airport.now.horizon holds self.old.store → StandsFor airport.now.conflicts airport.now.horizon (holds ++ holds_of airport.now.horizon (clearance_after airport.now class) steps.now) self.new.store }
-        ensures kept { KeepsWindows IsApartFrom airport.now.conflicts (holds_of airport.now.horizon (clearance_after airport.now class) steps.now) self.old.store self.new.store }
+        ensures stands { (holds : List Hold) → StandsFor airport.now.conflicts airport.now.horizon holds self.old.store → StandsFor airport.now.conflicts airport.now.horizon (holds ++ holds_of airport.now.horizon (clearance_after airport.now holder.now.class) steps.now) self.new.store }
+        ensures kept { KeepsWindows IsApartFrom airport.now.conflicts (holds_of airport.now.horizon (clearance_after airport.now holder.now.class) steps.now) self.old.store self.new.store }
         ensures nodes { KeepsNodes self.old.store self.new.store }
-        ensures steps { AreAsMany (self.old.steps ++ steps_with class steps.now) self.new.steps }
+        ensures steps { AreAsMany (self.old.steps ++ steps_with holder.now steps.now) self.new.steps }
     {
-        let clearance = clearance_after(airport, class);
+        let clearance = clearance_after(airport, holder.class);
         self.index.keep_segments();
-        self.index.insert(steps, class);
+        self.index.insert(steps, holder);
         self.store.occupy(airport.conflicts(), steps, clearance);
     }
 
     /// Holds no longer what the steps of a flight or a party hold, while the others hold what they do. It needs no memory, and
     /// there is room for the steps afterwards. A window that neither meets nor touches what they hold stays as it is.
-    pub(crate) fn release(&mut self, airport: &Airport, steps: &[Step], class: Option<Class>)
+    pub(crate) fn release(&mut self, airport: &Airport, steps: &[Step], holder: &Holder)
         requires lists { length self.old.store.lists ≡ length airport.now.segments }
         requires horizon { self.old.store.horizon ≡ airport.now.horizon }
         requires steps { AreOnSegments (length airport.now.segments) steps.now }
         requires time { TakeTime steps.now }
         requires in_time { AreInTime airport.now.horizon steps.now }
         requires stands { StandsFor airport.now.conflicts airport.now.horizon (map (hold_by airport.now) self.old.steps) self.old.store }
-        requires among { AreAmong (steps_with class steps.now) self.old.steps }
+        requires among { AreAmong (steps_with holder.now steps.now) self.old.steps }
         ensures stands { StandsFor airport.now.conflicts airport.now.horizon (map (hold_by airport.now) self.new.steps) self.new.store }
         ensures room { HasRoomFor airport.now.conflicts steps.now self.new.store }
-        ensures kept { KeepsWindows IsClearOf airport.now.conflicts (holds_of airport.now.horizon (clearance_after airport.now class) steps.now) self.old.store self.new.store }
+        ensures kept { KeepsWindows IsClearOf airport.now.conflicts (holds_of airport.now.horizon (clearance_after airport.now holder.now.class) steps.now) self.old.store self.new.store }
         ensures nodes { KeepsNodes self.old.store self.new.store }
-        ensures steps { AreAsMany self.old.steps (self.new.steps ++ steps_with class steps.now) }
+        ensures steps { AreAsMany self.old.steps (self.new.steps ++ steps_with holder.now steps.now) }
     {
-        let clearance = clearance_after(airport, class);
-        self.index.remove(steps, class);
+        let clearance = clearance_after(airport, holder.class);
+        self.index.remove(steps, holder);
         let others = IndexHolds {
             index: &self.index,
             airport,

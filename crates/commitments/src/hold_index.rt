@@ -6,14 +6,15 @@ ghost use Rattle.taxi_base.specs.declared.numbers.Segment.{Segment as SegmentNum
 ghost use Rattle.taxi_base.specs.Airport.{segment_of};
 ghost use Rattle.window_store.specs.Stands.{AreOnSegments};
 ghost use Rattle.commitments.specs.Held.{steps_with, all_steps, list_of, spans_by, AreAsMany, HaveRoomForSteps, AreBySegment, KeepsHoldRoom, GainsHoldRoom, HasRoomInConflict, AreAmong};
+ghost use Rattle.commitments.specs.Taken.{has_second, takes, IsFirstNamed};
 
-use crate::segment_holds::{HeldStep, SegmentHolds};
+use crate::segment_holds::{HeldStep, Holder, SegmentHolds, first_name};
 use airport_file::Airport;
 use conflict_sets::Conflicts;
 use segment_graph::segment_of;
 use std::alloc::Global;
 use std::marker::Model;
-use taxi_base::{Class, Memory, Segment, Step, Time};
+use taxi_base::{Memory, Name, Segment, Step, Time};
 use window_store::{OtherHolds, WindowStore};
 
 /// The steps that hold segments, by segment.
@@ -97,14 +98,17 @@ impl HoldIndex {
     }
 
     /// Puts steps among the others. It needs no memory.
-    pub(crate) fn insert(&mut self, steps: &[Step], class: Option<Class>)
+    pub(crate) fn insert(&mut self, steps: &[Step], holder: &Holder)
         requires segments { AreOnSegments (length self.old) steps.now }
         requires room { HaveRoomForSteps steps.now self.old }
-        ensures steps { AreAsMany (all_steps self.old ++ steps_with class steps.now) (all_steps self.new) }
+        ensures steps { AreAsMany (all_steps self.old ++ steps_with holder.now steps.now) (all_steps self.new) }
         ensures capacity { KeepsHoldRoom self.old self.new }
     {
         for step in steps {
-            self.insert_one(HeldStep { step: *step, class });
+            self.insert_one(HeldStep {
+                step: *step,
+                holder: *holder,
+            });
         }
     }
 
@@ -119,14 +123,17 @@ impl HoldIndex {
     }
 
     /// Takes steps out that are among the others. It needs no memory.
-    pub(crate) fn remove(&mut self, steps: &[Step], class: Option<Class>)
+    pub(crate) fn remove(&mut self, steps: &[Step], holder: &Holder)
         requires segments { AreOnSegments (length self.old) steps.now }
-        requires among { AreAmong (steps_with class steps.now) (all_steps self.old) }
-        ensures steps { AreAsMany (all_steps self.old) (all_steps self.new ++ steps_with class steps.now) }
+        requires among { AreAmong (steps_with holder.now steps.now) (all_steps self.old) }
+        ensures steps { AreAsMany (all_steps self.old) (all_steps self.new ++ steps_with holder.now steps.now) }
         ensures capacity { KeepsHoldRoom self.old self.new }
     {
         for step in steps {
-            self.remove_one(HeldStep { step: *step, class });
+            self.remove_one(HeldStep {
+                step: *step,
+                holder: *holder,
+            });
         }
     }
 
@@ -154,6 +161,16 @@ impl HoldIndex {
         match self.lists.get(segment.0 as usize) {
             Some(list) => list.first_held(airport, from, until),
             None => until,
+        }
+    }
+
+    // The first name of those whose steps on a segment have a second; none where none has it.
+    fn first_holder(&self, airport: &Airport, segment: Segment, second: Time) -> Option<Name>
+        ensures { IsFirstNamed (has_second airport.now second) (list_of self.now segment).steps result }
+    {
+        match self.lists.get(segment.0 as usize) {
+            Some(list) => list.first_holder(airport, second),
+            None => None,
         }
     }
 
@@ -197,5 +214,21 @@ impl<'a> OtherHolds for IndexHolds<'a> {
             until = until.max(self.index.held_until(self.airport, *other, from));
         }
         until
+    }
+}
+
+impl<'a> IndexHolds<'a> {
+    /// The first name of those who hold a segment in conflict with this one at a second; none where none does.
+    pub(crate) fn first_holder(&self, segment: Segment, second: Time) -> Option<Name>
+        requires { segment.0 < length self.now.airport.now.segments }
+        ensures { IsFirstNamed (takes self.now.airport.now segment second) (all_steps self.now.index.now) result }
+    {
+        self.index.keep_segments();
+        let mut first = None;
+        for other in self.airport.conflicts().of(segment) {
+            let own = self.index.first_holder(self.airport, *other, second);
+            first = first_name(first, own);
+        }
+        first
     }
 }

@@ -7,8 +7,9 @@ ghost use Rattle.commitments.specs.Holders.{state_of};
 
 use crate::flight_list::FlightList;
 use crate::party_list::PartyList;
+use crate::segment_holds::Holder;
 use std::alloc::Global;
-use taxi_base::{Class, Step};
+use taxi_base::Step;
 
 /// The flights and the work parties in force. As routes they are numbered together, the parties first.
 #[derive(Drop)]
@@ -28,18 +29,19 @@ impl Holders {
         }
     }
 
-    /// The steps of the holder of a number, and the class where it is a flight.
-    pub(crate) fn route(&self, number: usize) -> (&[Step], Option<Class>)
+    /// The steps of the holder of a number, and who it is.
+    pub(crate) fn route(&self, number: usize) -> (&[Step], Holder)
         requires { number < length self.now.parties.parties + length self.now.flights.flights }
         ensures steps { slice_get (steps_of_each (state_of self.now)) number ≡ Some (steps_with result.1 result.0.now) }
-        ensures route { (airport : AirportRow) → slice_get (routes_of airport (state_of self.now)) number ≡ Some (record { steps = result.0.now; clearance = clearance_after airport result.1 }) }
+        ensures route { (airport : AirportRow) → slice_get (routes_of airport (state_of self.now)) number ≡ Some (record { steps = result.0.now; clearance = clearance_after airport result.1.class }) }
     {
         let parties = self.parties.count();
         if number < parties {
-            (self.parties.steps(number), None)
+            let party = self.parties.at(number);
+            (self.parties.steps(number), Holder::of_party(&party))
         } else {
             let flight = self.flights.at(number - parties);
-            (flight.steps.as_slice(), Some(flight.class))
+            (flight.steps.as_slice(), Holder::of_flight(flight))
         }
     }
 }

@@ -12,6 +12,7 @@ ghost use Rattle.commitments.specs.Holders.{state_of};
 
 use crate::held_segments::HeldSegments;
 use crate::holders::Holders;
+use crate::segment_holds::Holder;
 use airport_file::Airport;
 use std::slice;
 use taxi_base::{Arc, Flight, Party, Segment, Step};
@@ -29,7 +30,7 @@ pub(crate) fn hold_flight(held: &mut HeldSegments, airport: &Airport, flight: &F
     ensures nodes { KeepsNodes held.old.store held.new.store }
 {
     keep_rules(airport);
-    held.occupy(airport, flight.steps.as_slice(), Some(flight.class));
+    held.occupy(airport, flight.steps.as_slice(), &Holder::of_flight(flight));
 }
 
 // Holds what a party holds, where its segment may be shut; and gives the step by which it does so.
@@ -52,7 +53,7 @@ pub(crate) fn hold_party(held: &mut HeldSegments, airport: &Airport, party: &Par
         leave: party.until,
     };
     keep_rules(airport);
-    held.occupy(airport, slice::from_ref(&step), None);
+    held.occupy(airport, slice::from_ref(&step), &Holder::of_party(party));
     step
 }
 
@@ -85,8 +86,8 @@ pub(crate) fn free_holder(
     ensures nodes { KeepsNodes held.old.store held.new.store }
 {
     keep_rules(airport);
-    let (steps, class) = holders.route(number);
-    held.release(airport, steps, class);
+    let (steps, holder) = holders.route(number);
+    held.release(airport, steps, &holder);
 }
 
 // An airport keeps its rules: so its horizon is near, and each step takes time.

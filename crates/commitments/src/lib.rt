@@ -13,7 +13,6 @@ mod party_list;
 mod route;
 mod segment_holds;
 mod shutting;
-mod taken;
 #[cfg(test)]
 mod tests;
 

@@ -6,7 +6,6 @@ ghost use Rattle.commitments.specs.Book.{Fits};
 ghost use Rattle.taxi_base.specs.Faults.{conditions_in, may_follow, taken_by, taken_cause, cause_of, route_fault};
 
 use crate::Ledger;
-use crate::holds::keep_rules;
 use airport_file::Airport;
 use segment_graph::segment_of;
 use taxi_base::{Arc, Class, Segment, Span, Step, StepCause, StepFault, Time};
@@ -90,8 +89,7 @@ impl Ledger {
         if self.held.store().is_free(segment, span.from, span.until) {
             return None;
         }
-        keep_rules(airport);
-        let (at, by) = self.holders.first_taken(airport, segment, span)?;
+        let (at, by) = self.held.first_taken(airport, segment, span)?;
         Some(StepCause::Taken { at, by })
     }
 }

@@ -1,22 +1,53 @@
 //! The steps that hold one segment itself, in the order in which they begin.
 ghost use Rattle.std.specs.Prelude.{◌≡◌, ◌≢◌, ◌↔◌, ◌+◌, ◌<◌, ◌≤◌, [], ◌∷◌, length, Some, slice_get, All, Contains, IsTrue, IfSome, IfNone, OnOk};
+ghost use Rattle.taxi_base.specs.Faults.{first_name};
 ghost use Rattle.std.specs.List.{AllWithin};
 ghost use Rattle.std.specs.List.Sorted.{IsPermutation, IsNonDecreasingBy};
 ghost use Rattle.window_store.specs.Held.{IsFirstHeld};
 ghost use Rattle.window_store.specs.Conflicting.{ReachesUpTo};
-ghost use Rattle.commitments.specs.Held.{hold_by, clearance_after, spans_by, AreSince};
+ghost use Rattle.commitments.specs.Held.{hold_by, clearance_after, party_holder, flight_holder, spans_by, AreSince};
+ghost use Rattle.commitments.specs.Taken.{has_second, IsFirstNamed};
 
 use crate::holds::keep_rules;
 use airport_file::Airport;
 use std::alloc::Global;
 use std::marker::Model;
-use taxi_base::{Class, Memory, Span, Step, Time};
+use taxi_base::{Class, Flight, Memory, Name, Party, Span, Step, Time};
 
-/// A step by which a segment is held, with the class of its flight; a work party's has none.
+/// Who holds segments: a flight of a class, or a work party, which has none.
+#[derive(Clone, Copy, PartialEq, Eq)]
+pub(crate) struct Holder {
+    pub(crate) class: Option<Class>,
+    pub(crate) name: Name,
+}
+
+/// A step by which a segment is held, and by whom.
 #[derive(Clone, Copy, PartialEq, Eq)]
 pub(crate) struct HeldStep {
     pub(crate) step: Step,
-    pub(crate) class: Option<Class>,
+    pub(crate) holder: Holder,
+}
+
+impl Holder {
+    /// As whom a flight holds segments.
+    pub(crate) fn of_flight(flight: &Flight) -> Holder
+        ensures { result ≡ flight_holder flight.now }
+    {
+        Holder {
+            class: Some(flight.class),
+            name: flight.name,
+        }
+    }
+
+    /// As whom a work party does.
+    pub(crate) fn of_party(party: &Party) -> Holder
+        ensures { result ≡ party_holder party.now }
+    {
+        Holder {
+            class: None,
+            name: party.name,
+        }
+    }
 }
 
 impl HeldStep {
@@ -24,8 +55,10 @@ impl HeldStep {
     fn span(&self, airport: &Airport) -> Span
         ensures { result ≡ (hold_by airport.now self.now).span }
     {
-        self.step
-            .held(airport.horizon(), clearance_after(airport, self.class))
+        self.step.held(
+            airport.horizon(),
+            clearance_after(airport, self.holder.class),
+        )
     }
 }
 
@@ -153,6 +186,24 @@ impl SegmentHolds {
         from
     }
 
+    /// The first name of those whose steps have a second; none where none has it.
+    pub(crate) fn first_holder(&self, airport: &Airport, second: Time) -> Option<Name>
+        ensures { IsFirstNamed (has_second airport.now second) self.now.steps result }
+    {
+        keep_rules(airport);
+        let mut first = None;
+        for held in self.since(second) {
+            let span = held.span(airport);
+            if second < span.from {
+                return first;
+            }
+            if second < span.until {
+                first = first_name(first, Some(held.holder.name));
+            }
+        }
+        first
+    }
+
     // The steps from the first on that may reach beyond a second.
     fn since(&self, second: Time) -> &[HeldStep]
         ensures { AreSince self.now.steps second result.now }
@@ -160,6 +211,16 @@ impl SegmentHolds {
         let past = (u64::from(second) + 1).saturating_sub(self.longest);
         &self.steps[begun_before(&self.steps, past)..]
     }
+}
+
+/// Of two names the one that stands before the other.
+pub(crate) fn first_name(one: Option<Name>, other: Option<Name>) -> Option<Name>
+    ensures { result ≡ first_name one other }
+{
+    let (Some(first), Some(second)) = (one, other) else {
+        return one.or(other);
+    };
+    Some(if second < first { second } else { first })
 }
 
 // How many of some steps begin before a second.

@@ -11,11 +11,10 @@ impl Engine {
     pub(crate) fn cancel(&mut self, flight: &Name)
         ensures { IsDoneAsDue (Cancel flight.now) self.old self.new }
     {
-        if self.ledger.flight(flight).is_none() {
+        if self.ledger.cancel(&self.airport, flight).is_none() {
             self.refuse(&Refusal::NotInForce);
             return;
         }
         self.reply.set_short(cancelled_text(&self.airport, flight));
-        self.ledger.cancel(&self.airport, flight);
     }
 }

@@ -1,11 +1,11 @@
 use Rattle.std.proofs.Common.{rules}
-use Rattle.std.proofs.lemmas.List.Sorted.{answers_always}
-use Rattle.commitments.specs.Places.{key_name}
-use Rattle.commitments.proofs.Names.{searched}
+use Rattle.std.proofs.lemmas.Fn.{always_returns_same}
+use Rattle.commitments.specs.Book.{name_order}
+use Rattle.commitments.proofs.Edits.{among-flights}
 use Rattle.commitments.proofs.flight_list.place_of.Goals as goal
 
 pub returns : goal.returns
 returns c =
-    let facts = c.binary_search_by_key.ensures in
-    let by_key = facts.position key_name (answers_always _ _ _ (λ f a r g called. search rules)) in
-    searched key_name c.args.names.now c.args.name.now c.requires _ facts.bound by_key
+    let facts = c.binary_search_by.ensures in
+    let by_order = facts.position (name_order c.args.flights.now c.args.name.now) (always_returns_same _ _ _ (λ a r f k. search (rules))) in
+    among-flights c.args.flights.now c.args.keys.now c.requires c.args.name.now _ facts.bound by_order

@@ -14,10 +14,10 @@ occupy-requires-clause-in_time c =
     rw c.as_slice.ensures (kept-walk c.args.airport.now c.keep_rules.ensures c.args.flight.now.class c.requires.feasible.0 c.args.flight.now.steps c.requires.feasible.2).in_time
 
 pub returns-clause-stands : goal.returns-clause-stands
-returns-clause-stands c = rw c.as_slice.ensures at c.occupy.ensures.stands
+returns-clause-stands c = rw (c.as_slice.ensures, c.of_flight.ensures) at c.occupy.ensures.stands
 
 pub returns-clause-kept : goal.returns-clause-kept
-returns-clause-kept c = rw c.as_slice.ensures at c.occupy.ensures.kept
+returns-clause-kept c = rw (c.as_slice.ensures, c.of_flight.ensures) at c.occupy.ensures.kept
 
 pub returns-clause-steps : goal.returns-clause-steps
-returns-clause-steps c = rw c.as_slice.ensures at c.occupy.ensures.steps
+returns-clause-steps c = rw (c.as_slice.ensures, c.of_flight.ensures) at c.occupy.ensures.steps

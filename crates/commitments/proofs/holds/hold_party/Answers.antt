@@ -14,7 +14,7 @@ returns-clause-stands c =
     let own : holds_of airport.horizon 0 c.from_ref.result.now ≡ party_hold party ∷ [] =
     ap (holds_of airport.horizon 0) (c.from_ref.ensures.value ∙ ap (λ (arc : Arc). record { arc = arc; enter = party.from; leave = party.until } ∷ []) c.forward.ensures)
     ∙ ap (λ (h : Hold). h ∷ []) (party_step-holds airport.horizon party c.requires.feasible.1.in_time) in
-    let held = c.occupy.ensures.stands in
+    let held = rw c.of_party.ensures at c.occupy.ensures.stands in
     λ holds before. subst (λ (more : List Hold). StandsFor airport.conflicts airport.horizon (holds ++ more) c.occupy.new.self.store) own (held holds before)
 
 pub returns-clause-kept : goal.returns-clause-kept
@@ -24,5 +24,5 @@ returns-clause-kept c =
     let own : holds_of airport.horizon 0 c.from_ref.result.now ≡ party_hold party ∷ [] =
     ap (holds_of airport.horizon 0) (c.from_ref.ensures.value ∙ ap (λ (arc : Arc). record { arc = arc; enter = party.from; leave = party.until } ∷ []) c.forward.ensures)
     ∙ ap (λ (h : Hold). h ∷ []) (party_step-holds airport.horizon party c.requires.feasible.1.in_time) in
-    let kept = c.occupy.ensures.kept in
+    let kept = rw c.of_party.ensures at c.occupy.ensures.kept in
     subst (λ (more : List Hold). KeepsWindows IsApartFrom airport.conflicts more c.args.held.now.store c.occupy.new.self.store) own kept

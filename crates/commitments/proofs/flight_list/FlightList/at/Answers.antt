@@ -1,29 +1,29 @@
-use Rattle.std.proofs.Common.{ℕ, List, ◌∙◌, sym, ap, subst, length, arith}
+use Rattle.std.proofs.Common.{ℕ, ◌∙◌, sym, ap, subst, length, arith}
 use Rattle.std.specs.Prelude.{IsSome, slice_get}
 use Rattle.slab.specs.Slab.{get}
 use Rattle.commitments.specs.Book.{Listing}
-use Rattle.commitments.proofs.Edits.{length-names, has-flight, flight-at}
+use Rattle.commitments.proofs.Edits.{length-keys, has-flight, flight-at}
 use Rattle.commitments.proofs.flight_list.FlightList.at.Goals as goal
 
 pub index-requires : goal.index-requires
 index-requires c =
-    let long = length-names c.self.inside.flights c.self.inside.names.items c.self.invariant in
+    let long = length-keys c.self.inside.flights c.self.inside.keys.items c.self.invariant in
     let view = ap (λ (b : Listing). length b.flights) c.self.view_is in
-    let len = c.self.inside.names.ok in
+    let len = c.self.inside.keys.ok in
     omega (arith, long, view, len, c.requires)
 
 pub index-requires-2 : goal.index-requires-2
 index-requires-2 c =
-    let long = length-names c.self.inside.flights c.self.inside.names.items c.self.invariant in
+    let long = length-keys c.self.inside.flights c.self.inside.keys.items c.self.invariant in
     let view = ap (λ (b : Listing). length b.flights) c.self.view_is in
-    subst (λ (n : List ℕ × ℕ). IsSome (get c.self.inside.flights n.1)) (sym c.index.ensures)
-    (has-flight c.self.inside.flights c.self.inside.names.items c.self.invariant c.args.place c.index.result.now (omega (arith, long, view, c.requires)))
+    subst (λ (key : ℕ). IsSome (get c.self.inside.flights key)) (sym c.index.ensures)
+    (has-flight c.self.inside.flights c.self.inside.keys.items c.self.invariant c.args.place c.index.result.now (omega (arith, long, view, c.requires)))
 
 pub returns : goal.returns
 returns c =
-    let long = length-names c.self.inside.flights c.self.inside.names.items c.self.invariant in
+    let long = length-keys c.self.inside.flights c.self.inside.keys.items c.self.invariant in
     let view = ap (λ (b : Listing). length b.flights) c.self.view_is in
     ap (λ (b : Listing). slice_get b.flights c.args.place) (sym c.self.view_is)
-    ∙ sym (flight-at c.self.inside.flights c.self.inside.names.items c.self.invariant c.args.place c.index.result.now (omega (arith, long, view, c.requires)))
-    ∙ ap (λ (n : List ℕ × ℕ). get c.self.inside.flights n.1) (sym c.index.ensures)
+    ∙ sym (flight-at c.self.inside.flights c.self.inside.keys.items c.self.invariant c.args.place c.index.result.now (omega (arith, long, view, c.requires)))
+    ∙ ap (λ (key : ℕ). get c.self.inside.flights key) (sym c.index.ensures)
     ∙ c.index-2.ensures

@@ -1,11 +1,11 @@
 use Rattle.std.proofs.Common.{ap, length, arith}
 use Rattle.commitments.specs.Book.{Listing}
-use Rattle.commitments.proofs.Edits.{length-names}
+use Rattle.commitments.proofs.Edits.{length-keys}
 use Rattle.commitments.proofs.flight_list.FlightList.count.Goals as goal
 
 pub returns-clause-count : goal.returns-clause-count
 returns-clause-count c =
-    let long = length-names c.self.inside.flights c.self.inside.names.items c.self.invariant in
+    let long = length-keys c.self.inside.flights c.self.inside.keys.items c.self.invariant in
     let view = ap (λ (b : Listing). length b.flights) c.self.view_is in
-    let len = c.self.inside.names.ok in
+    let len = c.self.inside.keys.ok in
     omega (arith, long, view, len, c.len.ensures)

@@ -10,4 +10,4 @@ release-requires-clause-stands c =
     let horizon = ap (λ (h : HeldBook). h.store.horizon) c.self.view_is in
     let stands = subst (λ (h : HeldBook). StandsFor airport.conflicts airport.horizon (map (hold_by airport) h.steps) h.store) (sym c.self.view_is) c.requires.stands in
     rw (c.conflicts.ensures, horizon, c.requires.horizon, c.clearance_after-clearance.ensures.clearance)
-    (StandsFor-parted airport (all_steps c.self.inside.index) (all_steps c.remove.new.self) c.args.class c.args.steps.now c.self.inside.store c.remove.ensures.steps stands)
+    (StandsFor-parted airport (all_steps c.self.inside.index) (all_steps c.remove.new.self) c.args.holder.now c.args.steps.now c.self.inside.store c.remove.ensures.steps stands)

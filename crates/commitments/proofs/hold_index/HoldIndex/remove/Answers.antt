@@ -8,4 +8,4 @@ none = record { arc = record { 0 = 0 }; enter = 0; leave = 0 }
 
 pub remove_one-requires-clause-there : goal.remove_one-requires-clause-there
 remove_one-requires-clause-there c =
-    next-there (all_steps c.args.self.now) (all_steps c.loop-step.self) c.args.class c.args.steps.now c.loop-step.step-index none c.loop-step-test.true c.requires.among c.loop-step.invariant.0
+    next-there (all_steps c.args.self.now) (all_steps c.loop-step.self) c.args.holder.now c.args.steps.now c.loop-step.step-index none c.loop-step-test.true c.requires.among c.loop-step.invariant.0

@@ -4,4 +4,4 @@ use Rattle.commitments.proofs.hold_index.HoldIndex.remove.Given as goal
 
 abbrev pub invariant-loop-step : goal.invariant-loop-step
 invariant-loop-step l =
-    AreAsMany (all_steps l.initial.self) (all_steps l.self ++ steps_with l.class (take l.step-index l.steps)) × KeepsHoldRoom l.initial.self l.self
+    AreAsMany (all_steps l.initial.self) (all_steps l.self ++ steps_with l.holder (take l.step-index l.steps)) × KeepsHoldRoom l.initial.self l.self

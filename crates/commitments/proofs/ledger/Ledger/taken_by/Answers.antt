@@ -1,12 +1,6 @@
 use Rattle.std.proofs.Common.{refl, ◌∙◌, sym, ap, subst, Some, None}
 use Rattle.taxi_base.specs.Windows.{Hold}
 use Rattle.taxi_base.specs.Faults.{taken_by}
-use Rattle.std.proofs.lemmas.List.Elements.{All-weaker}
-use Rattle.taxi_base.specs.declared.answers.Flight.{Flight}
-use Rattle.taxi_base.specs.Walks.{IsFeasibleWalk}
-use Rattle.taxi_base.specs.State.{conditions_of, holds_in, without}
-use Rattle.commitments.specs.Taken.{AreInTurn}
-use Rattle.commitments.proofs.Numbers.{walk-in_turn}
 use Rattle.commitments.specs.Book.{Book, Fits}
 use Rattle.commitments.specs.Holders.{state_of}
 use Rattle.commitments.proofs.Fitting.{stands-unlifted}
@@ -30,19 +24,17 @@ returns-then-is_free c =
 pub returns-in_err-at : goal.returns-in_err-at
 returns-in_err-at c =
     let hold : Hold = record { segment = c.args.segment; span = c.args.span } in
+    let fits = subst (Fits c.args.airport.now) (sym c.self.view_is) c.requires.fits in
+    let unlifted = ap (λ (b : Book). b.lifted) c.self.view_is ∙ c.requires.unlifted in
     c.from_residual.ensures
-    ∙ sym (taken_by-found c.args.airport.now (state_of c.self.inside.holders) hold c.requires.segment c.requires.in_time None c.in_err-at.ensures)
+    ∙ sym (taken_by-found c.args.airport.now (state_of c.self.inside.holders) hold c.requires.segment c.requires.in_time fits.feasible c.self.inside.held.steps (rw unlifted at c.self.invariant) None c.in_err-at.ensures)
     ∙ ap (λ (b : Book). taken_by c.args.airport.now b.state hold) c.self.view_is
 
 pub returns : goal.returns
 returns c =
     let hold : Hold = record { segment = c.args.segment; span = c.args.span } in
-    sym (taken_by-found c.args.airport.now (state_of c.self.inside.holders) hold c.requires.segment c.requires.in_time (Some (c.in_ok-at.at, c.in_ok-at.by)) c.in_ok-at.ensures)
-    ∙ ap (λ (b : Book). taken_by c.args.airport.now b.state hold) c.self.view_is
-
-pub first_taken-requires-clause-in_turn : goal.first_taken-requires-clause-in_turn
-first_taken-requires-clause-in_turn c =
     let fits = subst (Fits c.args.airport.now) (sym c.self.view_is) c.requires.fits in
-    let state = state_of c.self.inside.holders in
-    All-weaker (λ (f : Flight). IsFeasibleWalk (conditions_of c.args.airport.now state f) f.steps) (λ (f : Flight). AreInTurn f.steps)
-    (λ f walk. walk-in_turn c.args.airport.now c.keep_rules.ensures f.class (holds_in c.args.airport.now (without f.name state)) f.steps walk) state.flights fits.feasible.walks
+    let unlifted = ap (λ (b : Book). b.lifted) c.self.view_is ∙ c.requires.unlifted in
+    sym (taken_by-found c.args.airport.now (state_of c.self.inside.holders) hold c.requires.segment c.requires.in_time fits.feasible c.self.inside.held.steps (rw unlifted at c.self.invariant)
+    (Some (c.in_ok-at.at, c.in_ok-at.by)) c.in_ok-at.ensures)
+    ∙ ap (λ (b : Book). taken_by c.args.airport.now b.state hold) c.self.view_is

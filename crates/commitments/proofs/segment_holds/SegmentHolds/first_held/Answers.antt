@@ -1,14 +1,15 @@
-use Rattle.std.proofs.Common.{sym, ap, ◌≡◌, get_or, arith}
+use Rattle.std.proofs.Common.{◌∙◌, sym, ap, ◌≡◌, get_or, arith}
 use Rattle.std.proofs.lemmas.List.{take_all}
 use Rattle.taxi_base.specs.declared.rows.Span.{Span}
-use Rattle.commitments.proofs.OneSegment.{none_there, first-since, first-stopped}
+use Rattle.commitments.specs.declared.segment_holds.HeldStep.{HeldStep}
+use Rattle.commitments.proofs.OneSegment.{first-since, first-stopped}
 use Rattle.commitments.proofs.segment_holds.SegmentHolds.first_held.Goals as goal
 
 pub returns-then-first-span : goal.returns-then-first-span
 returns-then-first-span c =
     let rest = c.since-held-items.result.now in
-    let begins : c.span-span.result.from ≡ (get_or rest c.loop-held.held-index none_there).step.enter = ap (λ (s : Span). s.from) c.span-span.ensures in
-    first-stopped c.args.airport.now c.keep_rules.ensures c.args.self.now.steps rest c.args.from c.args.until c.since-held-items.ensures c.loop-held.first c.loop-held.held-index none_there c.loop-held-test.true
+    let begins : c.span-span.result.from ≡ (get_or rest c.loop-held.held-index c.held-item.result).step.enter = ap (λ (s : Span). s.from) c.span-span.ensures ∙ ap (λ (held : HeldStep). held.step.enter) c.held-item.is in
+    first-stopped c.args.airport.now c.keep_rules.ensures c.args.self.now.steps rest c.args.from c.args.until c.since-held-items.ensures c.loop-held.first c.loop-held.held-index c.held-item.result c.loop-held-test.true
     (omega (arith, begins, c.if-first-span.true)) c.loop-held.invariant
 
 pub returns : goal.returns
