@@ -15,9 +15,9 @@ use airport_file::Airport;
 use certificate::{Block, Rule};
 use check_rows::KnownWindows;
 use checked_state::HeldFlights;
-use due_refusals::{Due, FiledRoute, begin_of, end_of, find_due};
+use due_refusals::{Due, FiledRoute, find_due};
 use std::alloc::Global;
-use taxi_base::{Memory, Name, Step};
+use taxi_base::{Memory, Name, Step, begin_of, end_of};
 
 /// The first rule that the block of a filed route breaks. Where it breaks none, and the route is not refused, its flight is
 /// in force afterwards.

@@ -12,8 +12,8 @@ use crate::reply::is_refusal;
 use airport_file::Airport;
 use certificate::{Block, Rule};
 use check_reports::{are_flight_rows, are_held_rows};
-use checked_state::HeldFlights;
-use taxi_base::{Flight, Name, Refusal, Segment};
+use checked_state::{FlightList, HeldFlights};
+use taxi_base::{Name, Refusal, Segment};
 
 /// The first rule that the block of what is held of a segment breaks.
 pub fn check_occupancy(
@@ -57,7 +57,7 @@ fn is_occupancy(airport: &Airport, held: &HeldFlights, segment: Segment, block: 
 }
 
 // Whether a block tells that these are the flights in force.
-fn is_timetable(flights: &[Flight], block: &Block) -> bool
+fn is_timetable(flights: &FlightList, block: &Block) -> bool
     ensures { IsTrue result ↔ IsTimetableOf flights.now block.now }
 {
     match block {

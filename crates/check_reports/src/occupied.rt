@@ -8,8 +8,7 @@ ghost use Rattle.check_reports.specs.HeldRows.{row_of, end_precedes, name_preced
 
 use crate::parties::{are_parties_told, is_row_of_party};
 use airport_file::Airport;
-use checked_state::HeldFlights;
-use segment_graph::segment_of;
+use checked_state::{FlightList, HeldFlights};
 use taxi_base::{Flight, HeldRow, Segment, Step};
 
 /// Whether rows are in order, none twice, and tell all that is held of a segment and of those in conflict with it.
@@ -124,7 +123,7 @@ fn row_of(airport: &Airport, flight: &Flight, step: &Step) -> HeldRow
         from: span.from,
         until: span.until,
         flight: flight.name,
-        segment: segment_of(step.arc),
+        segment: step.arc.segment(),
     }
 }
 
@@ -141,7 +140,7 @@ fn is_all_told(airport: &Airport, held: &HeldFlights, segment: Segment, rows: &[
 
 fn are_flights_told(
     airport: &Airport,
-    flights: &[Flight],
+    flights: &FlightList,
     segment: Segment,
     rows: &[HeldRow],
 ) -> bool
@@ -149,7 +148,8 @@ fn are_flights_told(
     requires ordered { AreRowsInOrder rows.now }
     ensures { IsTrue result ↔ All (λ flight. All (IsStepTold airport.now segment rows.now flight) flight.steps) flights.now }
 {
-    for flight in flights {
+    for at in 0..flights.len() {
+        let flight = flights.at(at);
         if !is_flight_told(airport, flight, segment, rows) {
             return false;
         }
@@ -182,7 +182,7 @@ fn is_step_told(
     requires ordered { AreRowsInOrder rows.now }
     ensures { IsTrue result ↔ IsStepTold airport.now segment rows.now flight.now step.now }
 {
-    if !airport.conflicts().conflict(segment, segment_of(step.arc)) {
+    if !airport.conflicts().conflict(segment, step.arc.segment()) {
         return true;
     }
     has_row(rows, &row_of(airport, flight, step))

@@ -3,17 +3,18 @@ ghost use Rattle.std.specs.Prelude.{◌≡◌, ◌↔◌, IsTrue, length, map};
 ghost use Rattle.taxi_base.specs.Walks.{begin_of, end_of};
 ghost use Rattle.taxi_base.specs.Reports.{kind_of_request, flight_row};
 
+use checked_state::FlightList;
 use taxi_base::{Flight, FlightKind, FlightRow, Request, Step, Time};
 
 /// Whether rows tell of flights, one row of each and in their order.
-pub fn are_flight_rows(rows: &[FlightRow], flights: &[Flight]) -> bool
+pub fn are_flight_rows(rows: &[FlightRow], flights: &FlightList) -> bool
     ensures { IsTrue result ↔ (rows.now ≡ map flight_row flights.now) }
 {
     if rows.len() != flights.len() {
         return false;
     }
-    for (at, flight) in flights.iter().enumerate() {
-        if !is_row_of(&rows[at], flight) {
+    for (at, row) in rows.iter().enumerate() {
+        if !is_row_of(row, flights.at(at)) {
             return false;
         }
     }

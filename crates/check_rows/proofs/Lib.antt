@@ -1,4 +1,5 @@
 pub mod LoopLaws
+pub mod AmongLaws
 pub mod GapLaws
 pub mod CutLaws
 pub mod RowLaws

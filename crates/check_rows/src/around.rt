@@ -1,10 +1,9 @@
 //! Rows by their arcs.
-ghost use Rattle.std.specs.Prelude.{◌≡◌, All, Contains, IfSome};
+ghost use Rattle.std.specs.Prelude.{All, Contains, IfSome};
 ghost use Rattle.check_rows.specs.Reached.{IsRowAround};
 
 use crate::reach::Reach;
-use crate::table::Table;
-use taxi_base::{Arc, LabelRow};
+use taxi_base::{Arc, LabelRow, Time};
 
 /// Notes where the rows of each arc begin, of rows in order. What was noted of other arcs stays, so it costs no more than
 /// there are rows, and is only a hint.
@@ -17,26 +16,34 @@ pub fn note_firsts(firsts: &mut Vec<usize>, rows: &[LabelRow]) {
     }
 }
 
-/// A row of an arc whose window holds the whole of a reach, if one is found from where the rows of the arc were noted to begin.
-pub fn row_around(table: &Table<'_>, reach: Reach, arc: Arc) -> Option<LabelRow>
-    ensures { IfSome result (IsRowAround reach arc table.now.rows.now) }
+/// What is left of some rows behind those of an arc that end before a second.
+#[inline(always)]
+pub fn rows_behind(rows: &[LabelRow], arc: Arc, second: Time) -> &[LabelRow]
+    ensures { All (Contains rows.now) result.now }
 {
-    let first = *table.firsts.get(arc.0 as usize)?;
-    for row in rows_from(table.rows, first) {
-        if row.arc != arc {
-            return None;
-        }
-        if reach.from < row.from {
-            return None;
-        }
-        if reach.by <= row.until {
-            return Some(*row);
+    for (place, row) in rows.iter().enumerate() {
+        if row.arc != arc || second <= row.until {
+            return &rows[place..];
         }
     }
-    None
+    &[]
 }
 
-fn rows_from(rows: &[LabelRow], first: usize) -> &[LabelRow]
+/// The first of some rows, if it is of an arc and its window holds the whole of a reach.
+#[inline(always)]
+pub fn row_around(rows: &[LabelRow], reach: Reach, arc: Arc) -> Option<LabelRow>
+    ensures { IfSome result (IsRowAround reach arc rows.now) }
+{
+    let row = *rows.first()?;
+    if row.arc == arc && row.from <= reach.from && reach.by <= row.until {
+        Some(row)
+    } else {
+        None
+    }
+}
+
+/// The rows from a place on.
+pub fn rows_from(rows: &[LabelRow], first: usize) -> &[LabelRow]
     ensures { All (Contains rows.now) result.now }
 {
     if first <= rows.len() {

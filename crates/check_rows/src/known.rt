@@ -12,7 +12,6 @@ use crate::cuts::cut_windows;
 use crate::windows::fill_windows;
 use airport_file::Airport;
 use held_spans::HoldsOf;
-use segment_graph::segment_of;
 use std::alloc::Global;
 use std::mem::replace;
 use taxi_base::{LabelRow, Memory, Segment, Span, Step, Time};
@@ -77,6 +76,7 @@ impl KnownWindows {
     }
 
     /// Makes a segment's windows, unless they are there.
+    #[inline(always)]
     pub fn make<H: HoldsOf>(
         &mut self,
         airport: &Airport,
@@ -88,15 +88,33 @@ impl KnownWindows {
         ensures known { AreKnown (length airport.now.segments) (free_among airport.now (H.held holds.now)) self.new }
         ensures made { OnOk result (IsTrue (is_known self.new segment)) }
     {
-        let list = &mut self.lists[segment.0 as usize];
-        if !list.is_made {
-            fill_windows(&mut list.windows, &mut self.busy, airport, holds, segment)?;
-            list.is_made = true;
+        if self.lists[segment.0 as usize].is_made {
+            return Ok(());
         }
+        self.make_anew(airport, holds, segment)
+    }
+
+    /// Makes a segment's windows, which are not there.
+    fn make_anew<H: HoldsOf>(
+        &mut self,
+        airport: &Airport,
+        holds: &H,
+        segment: Segment,
+    ) -> Result<(), Memory>
+        requires on { segment.0 < length airport.now.segments }
+        requires known { AreKnown (length airport.now.segments) (free_among airport.now (H.held holds.now)) self.old }
+        ensures known { AreKnown (length airport.now.segments) (free_among airport.now (H.held holds.now)) self.new }
+        ensures made { OnOk result (IsTrue (is_known self.new segment)) }
+    {
+        let list = &mut self.lists[segment.0 as usize];
+        list.is_made = false;
+        fill_windows(&mut list.windows, &mut self.busy, airport, holds, segment)?;
+        list.is_made = true;
         Ok(())
     }
 
     /// A segment's windows.
+    #[inline(always)]
     pub fn of(&self, segment: Segment) -> &[Span]
         requires { IsTrue (is_known self.now segment) }
         ensures { (segments : ℕ) (free : Segment → ℕ → Bool) → AreKnown segments free self.now → AreWindows (free segment) result.now }
@@ -112,7 +130,7 @@ impl KnownWindows {
     {
         for step in steps {
             let held = step.held(airport.horizon(), clearance);
-            self.cut_segment(airport, segment_of(step.arc), held);
+            self.cut_segment(airport, step.arc.segment(), held);
         }
     }
 
@@ -133,7 +151,7 @@ impl KnownWindows {
         ensures { (holds others : List Hold) → DifferOn steps.now holds others → AreKnown (length airport.now.segments) (free_among airport.now holds) self.old → AreKnown (length airport.now.segments) (free_among airport.now others) self.new }
     {
         for step in steps {
-            let segments = airport.conflicts().of(segment_of(step.arc));
+            let segments = airport.conflicts().of(step.arc.segment());
             forget_lists(&mut self.lists, segments);
         }
     }

@@ -12,7 +12,6 @@ use crate::KnownWindows;
 use crate::rows::window_of;
 use airport_file::Airport;
 use held_spans::HoldsOf;
-use segment_graph::segment_of;
 use taxi_base::{Arc, Class, LabelRow, Memory, Span};
 
 /// Whether each row's arc exists, the class has seconds on it, and the row's span is a window of its segment.
@@ -50,7 +49,7 @@ fn is_at_place<H: HoldsOf>(
     if !can_use(airport, class, row.arc) {
         return Ok(false);
     }
-    let segment = segment_of(row.arc);
+    let segment = row.arc.segment();
     known.make(airport, holds, segment)?;
     Ok(has_window(known.of(segment), window_of(row)))
 }
@@ -59,11 +58,29 @@ fn is_at_place<H: HoldsOf>(
 fn can_use(airport: &Airport, class: Class, arc: Arc) -> bool
     ensures { result ≡ can_use airport.now class arc }
 {
-    airport.graph().exists(arc) && airport.classes().seconds(class, segment_of(arc)).is_some()
+    airport.graph().exists(arc) && airport.classes().seconds(class, arc.segment()).is_some()
 }
 
-/// Whether a span is one of some windows.
+/// Whether a span is one of some windows. Mostly it is the last, since commands come in order of time.
+#[inline(always)]
 fn has_window(windows: &[Span], window: Span) -> bool
+    requires { AreApart 0 windows.now }
+    ensures { IsTrue result ↔ Contains windows.now window }
+{
+    is_last(windows, window) || is_among(windows, window)
+}
+
+#[inline(always)]
+fn is_last(windows: &[Span], window: Span) -> bool
+    ensures { IsTrue result → Contains windows.now window }
+{
+    match windows.last() {
+        Some(last) => is_same(*last, window),
+        None => false,
+    }
+}
+
+fn is_among(windows: &[Span], window: Span) -> bool
     requires { AreApart 0 windows.now }
     ensures { IsTrue result ↔ Contains windows.now window }
 {

@@ -26,6 +26,7 @@ pub struct Reach {
 }
 
 /// The part of a reach in which a label can be short of a bound, if there is one.
+#[inline(always)]
 pub fn short_part(reach: Reach, bound: Option<Time>) -> Reach
     ensures { result ≡ short_part bound reach }
 {
@@ -35,6 +36,7 @@ pub fn short_part(reach: Reach, bound: Option<Time>) -> Reach
     }
 }
 
+#[inline(always)]
 fn until_bound(reach: Reach, bound: Time) -> Reach
     ensures { result ≡ until_bound reach.way bound reach }
 {
@@ -53,6 +55,7 @@ fn until_bound(reach: Reach, bound: Time) -> Reach
 }
 
 /// The value of a label in a window, if the window can be reached in time and the class can stay in it for these seconds.
+#[inline(always)]
 pub fn value_in(
     airport: &Airport,
     class: Class,
@@ -70,6 +73,7 @@ pub fn value_in(
 }
 
 /// When a window is left at the soonest that is entered in time.
+#[inline(always)]
 fn left_in(reach: Reach, seconds: Time, window: Span, last: Time) -> Option<Time>
     ensures { (v : ℕ) → (result ≡ Some v) ↔ ((max reach.from window.from ≤ reach.by) × (v ≡ max reach.from window.from + seconds) × (v ≤ last)) }
 {
@@ -82,6 +86,7 @@ fn left_in(reach: Reach, seconds: Time, window: Span, last: Time) -> Option<Time
 }
 
 /// When a window is entered at the latest that is left in time.
+#[inline(always)]
 fn entered_in(reach: Reach, seconds: Time, window: Span, last: Time) -> Option<Time>
     ensures { (v : ℕ) → (result ≡ Some v) ↔ ((reach.from ≤ min reach.by last) × (v + seconds ≡ min reach.by last) × (window.from ≤ v)) }
 {
@@ -94,6 +99,7 @@ fn entered_in(reach: Reach, seconds: Time, window: Span, last: Time) -> Option<T
 }
 
 /// Whether so many seconds lie between two times.
+#[inline(always)]
 fn has_time(from: Time, seconds: Time, until: Time) -> bool
     ensures { result ≡ nat_le (from + seconds) until }
 {
@@ -101,6 +107,7 @@ fn has_time(from: Time, seconds: Time, until: Time) -> bool
 }
 
 /// The last second at which a step inside a window may leave.
+#[inline(always)]
 pub fn last_in(airport: &Airport, class: Class, window: Span) -> Time
     ensures { (free : Segment → ℕ → Bool) → result ≡ last_of (conditions_at airport.now class free) window }
 {

@@ -37,7 +37,7 @@ fn is_up_to(way: Way, row: LabelRow, label: LabelRow) -> bool
 }
 
 /// Whether a row has the label's arc and window.
-fn is_at_place(row: LabelRow, label: LabelRow) -> bool
+pub fn is_at_place(row: LabelRow, label: LabelRow) -> bool
     ensures { result ≡ is_at_place row label }
 {
     row.arc == label.arc && row.from == label.from && row.until == label.until

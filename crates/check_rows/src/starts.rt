@@ -20,7 +20,6 @@ use crate::reach::{Reach, Way, later};
 use crate::table::Table;
 use airport_file::Airport;
 use held_spans::HoldsOf;
-use segment_graph::segment_of;
 use taxi_base::{Class, Memory, Node, Span, Step, Time};
 
 /// Whether each label by which a walk leaves a node has a row, where it leaves from a second on and by another.
@@ -103,7 +102,7 @@ pub fn resuming_have_rows<H: HoldsOf>(
     if !airport.graph().exists(begun.arc) {
         return Ok(true);
     }
-    let segment = segment_of(begun.arc);
+    let segment = begun.arc.segment();
     known.make(airport, holds, segment)?;
     let windows = known.of(segment);
     Ok(begun_has_row(airport, class, windows, table, begun, exit_from))
@@ -122,7 +121,7 @@ fn begun_has_row(
     requires ordered { AreOrdered table.now.rows.now }
     ensures { (free : Segment → ℕ → Bool) → AreWindows (free (segment_of begun.arc)) windows.now → IsTrue result ↔ HasEach Forward (IsStartResuming (conditions_at airport.now class free) begun exit_from) table.now.bound table.now.rows.now }
 {
-    match airport.classes().seconds(class, segment_of(begun.arc)) {
+    match airport.classes().seconds(class, begun.arc.segment()) {
         Some(seconds) => {
             let value = later(exit_from, begun.enter + seconds);
             windows_around_have_rows(airport, class, windows, table, begun, value)

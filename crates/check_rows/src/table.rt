@@ -1,13 +1,14 @@
 //! A table to be checked: its rows, and the bound of which they fall short.
-ghost use Rattle.std.specs.Prelude.{◌≡◌, ◌↔◌, ◌≤◌, ◌&&◌, nat_le, true, false, length, Contains, IsTrue};
+ghost use Rattle.std.specs.Prelude.{◌≡◌, ◌↔◌, ◌≤◌, ◌&&◌, nat_le, true, false, length, All, Contains, IsTrue};
 ghost use Rattle.std.specs.List.Sorted.{IsPartitionPoint};
 ghost use Rattle.taxi_base.specs.Labels.{precedes};
 ghost use Rattle.check_rows.specs.Rows.{AreOrdered, is_at_place, is_before};
 ghost use Rattle.check_rows.specs.Rules.{IsShort, HasAsGood};
 
+use crate::around::rows_from;
 use crate::reach::Way;
-use crate::rows::{is_as_good, precedes};
-use taxi_base::{LabelRow, Time};
+use crate::rows::{is_as_good, is_at_place, precedes};
+use taxi_base::{Arc, LabelRow, Time};
 
 /// Rows, and a bound if there is one. Where the rows of an arc begin may be noted by its number.
 #[derive(Clone, Copy)]
@@ -44,6 +45,31 @@ impl<'a> Table<'a> {
         ensures { IsTrue result ↔ (IsShort way self.now.bound label.value → HasAsGood way self.now.rows.now label) }
     {
         !self.is_short(way, label.value) || is_as_good(way, row, label)
+    }
+
+    /// The same, where the row at the label's place is looked for first at the head of some rows.
+    #[inline(always)]
+    pub fn has_row_near(&self, near: &[LabelRow], way: Way, label: LabelRow) -> bool
+        requires ordered { AreOrdered self.now.rows.now }
+        requires near { All (Contains self.now.rows.now) near.now }
+        ensures { IsTrue result ↔ (IsShort way self.now.bound label.value → HasAsGood way self.now.rows.now label) }
+    {
+        if let Some(row) = near.first() {
+            if is_at_place(*row, label) {
+                return self.is_served(way, *row, label);
+            }
+        }
+        self.has_row_for(way, label)
+    }
+
+    /// Rows from where those of an arc were noted to begin.
+    pub fn rows_of(&self, arc: Arc) -> &[LabelRow]
+        ensures { All (Contains self.now.rows.now) result.now }
+    {
+        match self.firsts.get(arc.0 as usize) {
+            Some(first) => rows_from(self.rows, *first),
+            None => &[],
+        }
     }
 
     fn has_as_good(&self, way: Way, label: LabelRow) -> bool

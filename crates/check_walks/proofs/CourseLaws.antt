@@ -17,7 +17,8 @@ use Rattle.taxi_base.specs.State.{entered_count, step_begun, steps_done, IsFroze
 use Rattle.walk_labels.specs.Requests.{Beginning, BeginsBy}
 use Rattle.walk_labels.specs.Requests.Beginning.{at_node, resuming}
 use Rattle.certificate.specs.Sought.{UnderWay, search_of, onward}
-use Rattle.check_walks.proofs.EndLaws.{at-first, at-last, within-is}
+use Rattle.taxi_base.proofs.WalkLaws.{at-last}
+use Rattle.check_walks.proofs.EndLaws.{at-first, within-is}
 use Rattle.check_walks.specs.Course.{IsWalkIn, beginning_for, done_for, GoesBy, LeadsOn, is_within, resumes}
 
 -- ---- how one step begins

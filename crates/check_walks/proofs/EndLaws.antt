@@ -5,7 +5,7 @@ use Rattle.taxi_base.specs.declared.numbers.Node.{Node}
 use Rattle.taxi_base.specs.declared.rows.Step.{Step}
 use Rattle.taxi_base.specs.Airport.{Layout, tail, head}
 use Rattle.taxi_base.specs.Walks.{AtFirst, AtLast, LeavesNode, ReachesNodeWithin, end_of}
-use Rattle.taxi_base.proofs.WalkLaws.{end_of-at}
+use Rattle.taxi_base.proofs.WalkLaws.{at-last, end_of-at}
 use Rattle.check_walks.specs.Course.{is_within}
 use Rattle.check_walks.specs.Steps.{Departs}
 
@@ -18,12 +18,6 @@ within-is second earliest latest = (
 pub at-first : (P : Step → Type 0) (steps : List Step) (d : Step) → 0 < length steps → AtFirst P steps ↔ P (get_or steps 0 d)
 at-first P [] d some = absurd (omega arith)
 at-first P (s ∷ steps) d some = (λ h. h, λ h. h)
-
-pub at-last : (P : Step → Type 0) (steps : List Step) (d : Step) → 0 < length steps → AtLast P steps ↔ P (get_or steps (length steps - 1) d)
-at-last P [] d some = absurd (omega arith)
-at-last P (s ∷ []) d some = (λ h. h, λ h. h)
-at-last P (s ∷ t ∷ steps) d some =
-    let e : suc (suc (length steps)) - 1 ≡ suc (suc (length steps) - 1) = omega arith in rw e (at-last P (t ∷ steps) d (omega arith))
 
 -- ---- a departure by its first step and its last
 

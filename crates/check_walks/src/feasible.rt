@@ -8,7 +8,7 @@ use crate::inside::is_inside_one;
 use airport_file::Airport;
 use check_rows::KnownWindows;
 use held_spans::HoldsOf;
-use segment_graph::{Graph, segment_of};
+use segment_graph::Graph;
 use taxi_base::{Class, Memory, Step, Time};
 
 /// Whether some steps are a feasible walk of a class among the holds. The windows are to be known for these holds, and stay
@@ -81,7 +81,7 @@ fn is_feasible_step<H: HoldsOf>(
     if !is_possible(airport, class, step) {
         return Ok(false);
     }
-    let segment = segment_of(step.arc);
+    let segment = step.arc.segment();
     known.make(airport, holds, segment)?;
     let held = step.held(airport.horizon(), airport.clearance(class));
     Ok(is_inside_one(known.of(segment), held))
@@ -100,7 +100,7 @@ fn is_possible(airport: &Airport, class: Class, step: Step) -> bool
 fn lasts(airport: &Airport, class: Class, step: Step) -> bool
     ensures { result ≡ lasts airport.now class step }
 {
-    match airport.classes().seconds(class, segment_of(step.arc)) {
+    match airport.classes().seconds(class, step.arc.segment()) {
         Some(seconds) => takes(step, seconds),
         None => false,
     }

@@ -1,5 +1,5 @@
 -- What is held with a flight or a work party more, and without it.
-use Rattle.std.proofs.Common.{◌≡◌, ◌∙◌, ℕ, ◌+◌, ◌<◌, List, [], ◌∷◌, ◌++◌, length, get_or, map, set, IsTrue, Option, Some, None, refl, sym, ap, subst, arith}
+use Rattle.std.proofs.Common.{◌≡◌, ◌∙◌, ℕ, ◌+◌, ◌<◌, List, [], ◌∷◌, ◌++◌, length, get_or, map, set, IsTrue, Option, Some, None, sym, ap, subst, arith}
 use Rattle.std.specs.Prelude.{Ok, All, option_copied}
 use Rattle.std.specs.Borrow.{Bor}
 use Rattle.taxi_base.specs.declared.numbers.Segment.{Segment}
@@ -10,7 +10,7 @@ use Rattle.taxi_base.specs.declared.answers.Party.{Party}
 use Rattle.taxi_base.specs.declared.answers.Request.{Request}
 use Rattle.taxi_base.specs.Airport.{Airport, layout_of, segment_of, arc_exists, clearance_of}
 use Rattle.taxi_base.specs.Windows.{Hold, holds_of}
-use Rattle.taxi_base.specs.State.{State, flight_named, flights_with, flights_without, party_named, parties_with, parties_without, with_flight, with_party, with_route, without, flight_holds, flights_hold, party_hold, holds_in}
+use Rattle.taxi_base.specs.State.{State, flight_named, party_named, parties_without, with_flight, with_party, with_route, without, flight_holds, flights_hold, party_hold, holds_in}
 use Rattle.taxi_base.proofs.AirportLaws.{arc_exists-segment}
 use Rattle.held_spans.specs.declared.spans.HeldSpans.{HeldSpans}
 use Rattle.held_spans.specs.Spans.{weight_on, AreSpansOf}

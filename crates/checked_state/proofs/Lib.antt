@@ -1,2 +1,3 @@
+pub mod MapLaws
 pub mod PlaceLaws
 pub mod FlightLaws

@@ -1,5 +1,5 @@
 -- The place of a name among things by rising names: what stands there, and what the list is without it and with one more.
-use Rattle.std.proofs.Common.{◌≡◌, ◌≢◌, ◌∙◌, ℕ, zero, suc, ◌+◌, ◌<◌, List, [], ◌∷◌, length, get_or, set, insert, inl, inr, ◌⊎◌, IsTrue, IsFalse, Option, Some, None, refl, sym, ap, subst, arith}
+use Rattle.std.proofs.Common.{◌≡◌, ◌∙◌, ℕ, zero, suc, ◌+◌, ◌<◌, List, [], ◌∷◌, length, get_or, set, insert, inl, inr, ◌⊎◌, IsTrue, IsFalse, Option, Some, None, refl, sym, ap, subst, arith}
 use Rattle.std.specs.Prelude.{Result, Ok, Err, IsOk, IsErr, IsSome, IfSome, All, AllPairs, bytes_eq}
 use Rattle.std.specs.Result.{result_ok}
 use Rattle.std.specs.List.{remove}

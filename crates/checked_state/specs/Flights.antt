@@ -9,7 +9,7 @@ use Rattle.checked_state.specs.declared.flights.HeldFlights.{HeldFlights}
 use Rattle.held_spans.specs.Spans.{AreSpansOf, HasRoomFor}
 
 abbrev pub state_of : HeldFlights → State
-state_of held = record { flights = held.flights.items; parties = held.parties.items }
+state_of held = record { flights = held.flights; parties = held.parties.items }
 
 -- there is a list for each segment of the airport, and the lists have the spans of what is held in a state
 pub record HasSpansOf (airport : Airport) (state : State) (held : HeldFlights) : Type 0 where
@@ -18,7 +18,7 @@ pub record HasSpansOf (airport : Airport) (state : State) (held : HeldFlights) :
 
 -- there is room for the spans of the flight of a name
 abbrev pub HasRoomAgain : List ℕ → HeldFlights → Type 0
-HasRoomAgain name held = (flight : Flight) → flight_named name held.flights.items ≡ Some flight → HasRoomFor flight.steps held.spans
+HasRoomAgain name held = (flight : Flight) → flight_named name held.flights ≡ Some flight → HasRoomFor flight.steps held.spans
 
 -- flights, and parties, by rising names
 abbrev pub AreInOrder : List Flight → Type 0

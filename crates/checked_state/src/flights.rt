@@ -3,8 +3,9 @@ ghost use Rattle.std.specs.Prelude.{◌≡◌, ◌<◌, [], None, All, AllPairs,
 ghost use Rattle.taxi_base.specs.Airport.{arc_exists, layout_of};
 ghost use Rattle.taxi_base.specs.State.{no_holder, flight_named, party_named, has_holder, with_flight, without, with_route, holder_count, holds_in};
 ghost use Rattle.held_spans.specs.Spans.{AreSpansOf};
-ghost use Rattle.checked_state.specs.Flights.{state_of, HasSpansOf, HasRoomAgain, AreInOrder, ArePartiesInOrder, IsPlace};
+ghost use Rattle.checked_state.specs.Flights.{state_of, HasSpansOf, HasRoomAgain, AreInOrder, ArePartiesInOrder};
 
+use crate::FlightList;
 use airport_file::Airport;
 use held_spans::HeldSpans;
 use std::alloc::Global;
@@ -14,7 +15,7 @@ use taxi_base::{Flight, List, Memory, Name, Party, Request, Step};
 /// spans of one flight may be taken out for a while.
 #[derive(Drop)]
 pub struct HeldFlights {
-    pub(crate) flights: Vec<Flight>,
+    pub(crate) flights: FlightList,
     pub(crate) parties: Vec<Party>,
     pub(crate) spans: HeldSpans,
 }
@@ -25,7 +26,7 @@ impl HeldFlights {
         ensures none { IfOk result (λ held. state_of held ≡ no_holder) }
         ensures spans { IfOk result (HasSpansOf airport.now no_holder) }
     {
-        let flights = Vec::new(alloc);
+        let flights = FlightList::new(alloc);
         let parties = Vec::new(alloc);
         let spans = HeldSpans::new(alloc, airport.graph().segments())?;
         Ok(HeldFlights {
@@ -52,7 +53,7 @@ impl HeldFlights {
     }
 
     /// The flights, by rising names.
-    pub fn flights(&self) -> &[Flight]
+    pub fn flights(&self) -> &FlightList
         ensures { result.now ≡ (state_of self.now).flights }
     {
         &self.flights
@@ -70,8 +71,8 @@ impl HeldFlights {
         requires { AreInOrder (state_of self.now).flights }
         ensures { option_copied result ≡ flight_named name.now (state_of self.now).flights }
     {
-        let place = place_of(&self.flights, name).ok()?;
-        Some(&self.flights[place])
+        let place = self.flights.place_of(name).ok()?;
+        Some(self.flights.at(place))
     }
 
     /// Puts a flight in force. Where memory runs out nothing changes.
@@ -84,12 +85,16 @@ impl HeldFlights {
         ensures err { OnErr result (state_of self.new ≡ state_of self.old) }
         ensures spans { HasSpansOf airport.now (state_of self.new) self.new }
     {
-        self.flights.reserve(1)?;
+        let place = self.flights.place_of(&flight.name).unwrap_err();
+        self.flights.insert(place, flight)?;
+        let flight = self.flights.at(place);
         let clearance = airport.clearance(flight.class);
         let steps = flight.steps.as_slice();
-        self.spans.hold(airport.horizon(), clearance, steps)?;
-        let place = place_of(&self.flights, &flight.name).unwrap_err();
-        self.flights.insert(place, flight).unwrap();
+        let held = self.spans.hold(airport.horizon(), clearance, steps);
+        if held.is_err() {
+            let _ = self.flights.remove(place);
+            return Err(Memory);
+        }
         Ok(())
     }
 
@@ -102,7 +107,7 @@ impl HeldFlights {
         ensures state { state_of self.new ≡ without name.now (state_of self.old) }
         ensures spans { HasSpansOf airport.now (state_of self.new) self.new }
     {
-        let place = place_of(&self.flights, name).unwrap();
+        let place = self.flights.place_of(name).unwrap();
         let flight = self.flights.remove(place);
         let clearance = airport.clearance(flight.class);
         let steps = flight.steps.as_slice();
@@ -119,8 +124,8 @@ impl HeldFlights {
         ensures spans { HasSpansOf airport.now (without name.now (state_of self.old)) self.new }
         ensures room { HasRoomAgain name.now self.new }
     {
-        let place = place_of(&self.flights, name).unwrap();
-        let flight = &self.flights[place];
+        let place = self.flights.place_of(name).unwrap();
+        let flight = self.flights.at(place);
         let clearance = airport.clearance(flight.class);
         let steps = flight.steps.as_slice();
         self.spans.release(airport.horizon(), clearance, steps);
@@ -137,8 +142,8 @@ impl HeldFlights {
         ensures state { state_of self.new ≡ state_of self.old }
         ensures spans { HasSpansOf airport.now (state_of self.old) self.new }
     {
-        let place = place_of(&self.flights, name).unwrap();
-        let flight = &self.flights[place];
+        let place = self.flights.place_of(name).unwrap();
+        let flight = self.flights.at(place);
         let clearance = airport.clearance(flight.class);
         let steps = flight.steps.as_slice();
         self.spans
@@ -166,8 +171,8 @@ impl HeldFlights {
         ensures err { OnErr result (state_of self.new ≡ state_of self.old) }
         ensures spans { HasSpansOf airport.now (state_of self.new) self.new }
     {
-        let place = place_of(&self.flights, name).unwrap();
-        let clearance = airport.clearance(self.flights[place].class);
+        let place = self.flights.place_of(name).unwrap();
+        let clearance = airport.clearance(self.flights.at(place).class);
         let held = self
             .spans
             .hold(airport.horizon(), clearance, steps.as_slice());
@@ -175,17 +180,7 @@ impl HeldFlights {
             self.lower(airport, name);
             return Err(Memory);
         }
-        let flight = &mut self.flights[place];
-        flight.request = request;
-        flight.steps = steps;
+        self.flights.set_route(place, request, steps);
         Ok(())
     }
-}
-
-// Where a name is among flights, or where it would go.
-fn place_of(flights: &[Flight], name: &Name) -> Result<usize, usize>
-    requires { AreInOrder flights.now }
-    ensures { IsPlace (λ f. f.name) flights.now name.now result }
-{
-    flights.binary_search_by_key(name, |flight| flight.name)
 }

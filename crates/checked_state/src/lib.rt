@@ -3,6 +3,8 @@
 #![tactic(auto)]
 
 mod flights;
+mod list;
 mod parties;
 
 pub use flights::HeldFlights;
+pub use list::FlightList;

@@ -1,9 +1,8 @@
 //! Why a flight in force is not routed anew.
 ghost use Rattle.std.specs.Prelude.{◌≡◌, ◌<◌, ◌∷◌, [], length};
-ghost use Rattle.taxi_base.specs.Walks.{begin_of, end_of};
 ghost use Rattle.certificate.specs.Refusals.{is_filed, is_departure, first_of, not_routed, not_arrival, already_done, already_moving};
 
-use taxi_base::{Flight, Refusal, Request, Step, Time};
+use taxi_base::{Flight, Refusal, Request, Time, begin_of, end_of};
 
 /// Why a reroute of a flight in force is refused.
 pub fn reroute_refused(flight: &Flight, time: Time) -> Option<Refusal>
@@ -53,20 +52,4 @@ fn is_departure(request: &Request) -> bool
     ensures { result ≡ is_departure request.now }
 {
     matches!(request, Request::Departure { .. })
-}
-
-/// When a walk begins.
-pub fn begin_of(steps: &[Step]) -> Time
-    requires { 0 < length steps.now }
-    ensures { result ≡ begin_of steps.now }
-{
-    steps[0].enter
-}
-
-/// When a walk ends.
-pub fn end_of(steps: &[Step]) -> Time
-    requires { 0 < length steps.now }
-    ensures { result ≡ end_of steps.now }
-{
-    steps[steps.len() - 1].leave
 }

@@ -9,7 +9,6 @@ use crate::taken::taken_cause;
 use airport_file::Airport;
 use check_rows::KnownWindows;
 use checked_state::HeldFlights;
-use segment_graph::segment_of;
 use taxi_base::{Arc, Class, Memory, Step, StepCause, StepFault, Time};
 
 /// The first step of a route that fails, and the first of its causes; none where no step fails.
@@ -54,7 +53,7 @@ fn cause_of(
     ensures cause { IfOk result (λ cause. cause ≡ cause_of airport.now class (state_of held.now) before step) }
     ensures known { AreKnownIn airport.now (state_of held.now) known.new }
 {
-    let Some(seconds) = airport.classes().seconds(class, segment_of(step.arc)) else {
+    let Some(seconds) = airport.classes().seconds(class, step.arc.segment()) else {
         return Ok(Some(StepCause::ClassBarred));
     };
     if !may_follow(airport, before, step.arc) {

@@ -10,7 +10,7 @@ mod holder;
 mod shut;
 mod taken;
 
-pub use again::{begin_of, divert_refused, end_of, reroute_refused};
+pub use again::{divert_refused, reroute_refused};
 pub use asked::{Named, is_stand, named_arrival, named_departure};
 pub use choice::{NamedAny, named_arrival_any, named_departure_any};
 pub use filed::{Due, FiledRoute, find_due};

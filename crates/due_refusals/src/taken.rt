@@ -14,9 +14,8 @@ ghost use Rattle.due_refusals.specs.Filing.{IsFirstOutside};
 use crate::holder::holder_at;
 use airport_file::Airport;
 use check_rows::KnownWindows;
-use checked_state::HeldFlights;
+use checked_state::{FlightList, HeldFlights};
 use conflict_sets::Conflicts;
-use segment_graph::segment_of;
 use taxi_base::{Class, Flight, Memory, Name, Segment, Span, Step, StepCause, Time};
 
 /// The first second of what a step of a class holds at which its segment is taken, and the first holder by name that takes it.
@@ -34,7 +33,7 @@ pub(crate) fn taken_cause(
     ensures known { AreKnownIn airport.now (state_of held.now) known.new }
 {
     let span = step.held(airport.horizon(), airport.clearance(class));
-    taken_by(airport, held, known, segment_of(step.arc), span)
+    taken_by(airport, held, known, step.arc.segment(), span)
 }
 
 /// The first second of a span at which a segment is taken, and the first holder by name that takes it.
@@ -118,14 +117,15 @@ fn windows_over(windows: &[Span], second: Time) -> usize
 /// The first of some flights by rising names that holds a segment in conflict with this one at a second.
 pub(crate) fn flight_at(
     airport: &Airport,
-    flights: &[Flight],
+    flights: &FlightList,
     segment: Segment,
     second: Time,
 ) -> Option<Name>
     requires { segment.0 < length airport.now.segments }
     ensures { result ≡ flight_at airport.now (record { flights = flights.now; parties = [] }) segment second }
 {
-    for flight in flights {
+    for at in 0..flights.len() {
+        let flight = flights.at(at);
         if holds_at(airport, flight, segment, second) {
             return Some(flight.name);
         }
@@ -143,7 +143,7 @@ fn holds_at(airport: &Airport, flight: &Flight, segment: Segment, second: Time) 
     let conflicts = airport.conflicts();
     for step in flight.steps.as_slice() {
         let held = step.held(horizon, clearance);
-        if blocks(conflicts, segment, second, segment_of(step.arc), held) {
+        if blocks(conflicts, segment, second, step.arc.segment(), held) {
             return true;
         }
     }

@@ -7,7 +7,6 @@ ghost use Rattle.taxi_base.specs.Windows.{Hold, holds_of};
 ghost use Rattle.held_spans.specs.Spans.{AreSpansOf, HasRoomFor, KeepsRoom, GainsRoom, room_at};
 
 use crate::HoldsOf;
-use segment_graph::segment_of;
 use std::alloc::Global;
 use taxi_base::{Memory, Segment, Span, Step, Time};
 
@@ -54,7 +53,7 @@ impl HeldSpans {
     {
         for (at, step) in steps.iter().enumerate() {
             let span = step.held(horizon, clearance);
-            if self.put(segment_of(step.arc), span).is_err() {
+            if self.put(step.arc.segment(), span).is_err() {
                 self.release(horizon, clearance, &steps[..at]);
                 return Err(Memory);
             }
@@ -70,7 +69,7 @@ impl HeldSpans {
         ensures count { length self.new.lists.items ≡ length self.old.lists.items }
     {
         for step in steps {
-            self.take(segment_of(step.arc), step.held(horizon, clearance));
+            self.take(step.arc.segment(), step.held(horizon, clearance));
         }
     }
 

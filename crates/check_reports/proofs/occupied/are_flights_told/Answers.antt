@@ -1,13 +1,21 @@
-use Rattle.std.proofs.Common.{All}
-use Rattle.check_rows.proofs.LoopLaws.{all-more, all-holds, says-yes}
+use Rattle.std.proofs.Common.{All, sym, subst, arith}
+use Rattle.taxi_base.specs.declared.answers.Flight.{Flight}
+use Rattle.check_rows.proofs.LoopLaws.{all-fails, all-more, all-holds, says-no, says-yes}
 use Rattle.check_reports.specs.HeldRows.{IsStepTold}
 use Rattle.check_reports.proofs.occupied.are_flights_told.Goals as goal
 
-pub loop-flight-preserved : goal.loop-flight-preserved
-loop-flight-preserved c =
-    all-more (λ flight. All (IsStepTold c.args.airport.now c.args.segment c.args.rows.now flight) flight.steps) c.args.flights.now c.loop-flight.flight-index c.flight-item.result c.loop-flight-test.true
-    c.loop-flight.invariant (rw c.flight-item.is at (says-yes _ c.if-not-is_flight_told.false c.is_flight_told.ensures))
+pub returns-then-not-is_flight_told : goal.returns-then-not-is_flight_told
+returns-then-not-is_flight_told c =
+    all-fails (λ flight. All (IsStepTold c.args.airport.now c.args.segment c.args.rows.now flight) flight.steps) c.args.flights.now c.loop-at.at c.at-flight.result.now (omega (arith, c.len-at-end.ensures.count))
+    (λ told. says-no _ c.if-not-is_flight_told.true c.is_flight_told.ensures
+    (subst (λ (flight : Flight). All (IsStepTold c.args.airport.now c.args.segment c.args.rows.now flight) flight.steps) (sym c.at-flight.ensures) told))
+
+pub loop-at-preserved : goal.loop-at-preserved
+loop-at-preserved c =
+    all-more (λ flight. All (IsStepTold c.args.airport.now c.args.segment c.args.rows.now flight) flight.steps) c.args.flights.now c.loop-at.at c.at-flight.result.now (omega (arith, c.len-at-end.ensures.count))
+    c.loop-at.invariant
+    (subst (λ (flight : Flight). All (IsStepTold c.args.airport.now c.args.segment c.args.rows.now flight) flight.steps) c.at-flight.ensures (says-yes _ c.if-not-is_flight_told.false c.is_flight_told.ensures))
 
 pub returns : goal.returns
 returns c =
-    all-holds (λ flight. All (IsStepTold c.args.airport.now c.args.segment c.args.rows.now flight) flight.steps) c.args.flights.now c.loop-flight.flight-index c.loop-flight-test.false c.loop-flight.invariant
+    all-holds (λ flight. All (IsStepTold c.args.airport.now c.args.segment c.args.rows.now flight) flight.steps) c.args.flights.now c.loop-at.at (omega (arith, c.len-at-end.ensures.count)) c.loop-at.invariant

@@ -2,5 +2,5 @@ use Rattle.std.proofs.Common.{All, take}
 use Rattle.check_reports.specs.HeldRows.{IsStepTold}
 use Rattle.check_reports.proofs.occupied.are_flights_told.Given as goal
 
-abbrev pub invariant-loop-flight : goal.invariant-loop-flight
-invariant-loop-flight l = All (λ flight. All (IsStepTold l.airport l.segment l.rows flight) flight.steps) (take l.flight-index l.flights)
+abbrev pub invariant-loop-at : goal.invariant-loop-at
+invariant-loop-at l = All (λ flight. All (IsStepTold l.airport l.segment l.rows flight) flight.steps) (take l.at l.flights)

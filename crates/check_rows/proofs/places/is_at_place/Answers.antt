@@ -12,7 +12,7 @@ use Rattle.check_rows.proofs.places.is_at_place.Goals as goal
 
 pub make-requires-clause-on : goal.make-requires-clause-on
 make-requires-clause-on g c =
-    subst (λ (s : Segment). s.0 < length c.args.airport.now.segments) (sym c.segment_of-segment.ensures)
+    subst (λ (s : Segment). s.0 < length c.args.airport.now.segments) (sym c.segment-segment.ensures)
     (arc_exists-segment c.args.airport.now c.args.row.arc (and_parts _ _ (sym c.can_use.ensures ∙ c.if-not-can_use.false)).0)
 
 pub has_window-requires : goal.has_window-requires
@@ -23,7 +23,7 @@ has_window-requires g c =
 pub returns-clause-there : goal.returns-clause-there
 returns-clause-there g c =
     let free : Segment → ℕ → Bool = free_among c.args.airport.now (g.H.HoldsOf.held c.args.holds.now) in
-    let are = subst (λ (s : Segment). AreWindows (free s) c.of.result.now) c.segment_of-segment.ensures (c.of.ensures (length c.args.airport.now.segments) free c.make.ensures.known) in
+    let are = subst (λ (s : Segment). AreWindows (free s) c.of.result.now) c.segment-segment.ensures (c.of.ensures (length c.args.airport.now.segments) free c.make.ensures.known) in
     let same = subst (λ (w : Span). IsTrue c.has_window.result ↔ Contains c.of.result.now w) c.window_of.ensures c.has_window.ensures in
     let parts = and_parts _ _ (sym c.can_use.ensures ∙ c.if-not-can_use.false) in (
       λ holds. record {

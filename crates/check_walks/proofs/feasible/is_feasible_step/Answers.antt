@@ -11,7 +11,7 @@ use Rattle.check_walks.proofs.feasible.is_feasible_step.Goals as goal
 
 pub make-requires-clause-on : goal.make-requires-clause-on
 make-requires-clause-on g c =
-    subst (λ (s : Segment). s.0 < length c.args.airport.now.segments) (sym c.segment_of-segment.ensures)
+    subst (λ (s : Segment). s.0 < length c.args.airport.now.segments) (sym c.segment-segment.ensures)
     (arc_exists-segment c.args.airport.now c.args.step.arc (and_parts _ _ (sym c.is_possible.ensures ∙ c.if-not-is_possible.false)).0)
 
 pub is_inside_one-requires : goal.is_inside_one-requires
@@ -24,7 +24,7 @@ returns-clause-made g c =
     let airport = c.args.airport.now in
     let holds = g.H.HoldsOf.held c.args.holds.now in
     let free : Segment → ℕ → Bool = free_among airport holds in
-    let are = subst (λ (s : Segment). AreWindows (free s) c.of.result.now) c.segment_of-segment.ensures (c.of.ensures (length airport.segments) free c.make.ensures.known) in
+    let are = subst (λ (s : Segment). AreWindows (free s) c.of.result.now) c.segment-segment.ensures (c.of.ensures (length airport.segments) free c.make.ensures.known) in
     let held = rw (c.horizon.ensures.horizon, c.clearance.ensures.clearance) at c.held-held.ensures in
     let inside = subst (λ (span : Span). IsTrue c.is_inside_one.result ↔ ((w : Span) × Contains c.of.result.now w × IsPart span w)) held c.is_inside_one.ensures in
     same-test inside

@@ -21,7 +21,7 @@ one segment span = record { segment = segment; span = span }
 pub cut_segment-requires-clause-on : goal.cut_segment-requires-clause-on
 cut_segment-requires-clause-on c =
     let low = arc_exists-segment c.args.airport.now (get_or c.args.steps.now c.loop-step.step-index none).arc (c.requires.arcs c.loop-step.step-index none c.loop-step-test.true) in
-    subst (λ (s : Segment). s.0 < length c.args.airport.now.segments) (sym c.segment_of.ensures) low
+    subst (λ (s : Segment). s.0 < length c.args.airport.now.segments) (sym c.segment.ensures) low
 
 pub cut_segment-requires-clause-known : goal.cut_segment-requires-clause-known
 cut_segment-requires-clause-known c = (_, c.loop-step.invariant c.requires.known.0 c.requires.known.1)
@@ -32,9 +32,9 @@ loop-step-preserved c holds are =
     let steps = c.args.steps.now in
     let i = c.loop-step.step-index in
     let horizon = c.args.airport.now.horizon in
-    let hold : Hold = record { segment = c.segment_of.result; span = c.held-held.result } in
+    let hold : Hold = record { segment = c.segment.result; span = c.held-held.result } in
     let is : hold ≡ hold_of horizon c.args.clearance (get_or steps i none) =
-    ap (λ (s : Segment). one s c.held-held.result) c.segment_of.ensures ∙ ap (λ (w : Span). one (segment_of (get_or steps i none).arc) w) c.held-held.ensures
+    ap (λ (s : Segment). one s c.held-held.result) c.segment.ensures ∙ ap (λ (w : Span). one (segment_of (get_or steps i none).arc) w) c.held-held.ensures
     ∙ ap (λ n. hold_of n c.args.clearance (get_or steps i none)) c.horizon.ensures.horizon in
     let all : (holds ++ holds_of horizon c.args.clearance (take i steps)) ++ hold ∷ [] ≡ holds ++ holds_of horizon c.args.clearance (take (i + 1) steps) =
     append_assoc holds (holds_of horizon c.args.clearance (take i steps)) (hold ∷ [])

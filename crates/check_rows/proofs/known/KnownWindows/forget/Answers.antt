@@ -14,12 +14,12 @@ none = record { arc = record { 0 = 0 }; enter = 0; leave = 0 }
 pub of-segments-requires : goal.of-segments-requires
 of-segments-requires c =
     let low = arc_exists-segment c.args.airport.now (get_or c.args.steps.now c.loop-step.step-index none).arc (c.requires c.loop-step.step-index none c.loop-step-test.true) in
-    subst (λ (x : ConflictSets). c.segment_of.result.0 < x.segments) (sym c.conflicts.ensures) (subst (λ (s : Segment). s.0 < length c.args.airport.now.segments) (sym c.segment_of.ensures) low)
+    subst (λ (x : ConflictSets). c.segment.result.0 < x.segments) (sym c.conflicts.ensures) (subst (λ (s : Segment). s.0 < length c.args.airport.now.segments) (sym c.segment.ensures) low)
 
 pub loop-step-preserved : goal.loop-step-preserved
 loop-step-preserved c =
-    let all = subst (λ (x : ConflictSets). AreConflicts x.sets c.segment_of.result c.of-segments.result.now) c.conflicts.ensures c.of-segments.ensures.all in
-    let its = subst (λ (s : Segment). AreConflicts c.args.airport.now.conflicts s c.of-segments.result.now) c.segment_of.ensures all in
+    let all = subst (λ (x : ConflictSets). AreConflicts x.sets c.segment.result c.of-segments.result.now) c.conflicts.ensures c.of-segments.ensures.all in
+    let its = subst (λ (s : Segment). AreConflicts c.args.airport.now.conflicts s c.of-segments.result.now) c.segment.ensures all in
     AreStill-more c.args.airport.now.conflicts c.args.steps.now c.loop-step.step-index none _ _ _ c.of-segments.result.now c.loop-step-test.true its c.loop-step.invariant c.forget_lists.ensures
 
 pub returns : goal.returns

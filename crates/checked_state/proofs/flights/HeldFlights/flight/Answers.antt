@@ -6,9 +6,9 @@ use Rattle.checked_state.proofs.flights.HeldFlights.flight.Goals as goal
 pub returns-in_err-place : goal.returns-in_err-place
 returns-in_err-place c =
     rw c.from_residual.ensures
-    (sym (none-of (λ (f : Flight). f.name) c.args.self.now.flights.items c.args.name.now c.requires c.place_of.result (rw c.deref.ensures.value at c.place_of.ensures) c.in_err-place.ensures.value))
+    (sym (none-of (λ (f : Flight). f.name) c.args.self.now.flights c.args.name.now c.requires c.place_of.result c.place_of.ensures c.in_err-place.ensures.value))
 
 pub returns : goal.returns
 returns c =
-    sym (found-at (λ (f : Flight). f.name) c.args.self.now.flights.items c.args.name.now c.requires c.place_of.result c.in_ok-place.place (rw c.deref.ensures.value at c.place_of.ensures)
-    (ok-of c.place_of.result c.in_ok-place.place c.in_ok-place.ensures.value) c.index.result.now c.index.ensures)
+    sym (found-at (λ (f : Flight). f.name) c.args.self.now.flights c.args.name.now c.requires c.place_of.result c.in_ok-place.place c.place_of.ensures
+    (ok-of c.place_of.result c.in_ok-place.place c.in_ok-place.ensures.value) c.at.result.now c.at.ensures)

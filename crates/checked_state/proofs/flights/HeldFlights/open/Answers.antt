@@ -35,7 +35,7 @@ returns-clause-state c =
     let party = c.remove-party.result in
     let place = place-at (λ (p : Party). p.name) parties name c.place_of.result (Ok c.unwrap-place.result) (rw c.deref.ensures.value at c.place_of.ensures) c.unwrap-place.ensures in
     let left = c.remove-party.ensures.items ∙ without-at (λ (p : Party). p.name) parties name c.requires.ordered c.unwrap-place.result place party in
-    λ i. record { flights = c.args.self.now.flights.items; parties = left i }
+    λ i. record { flights = c.args.self.now.flights; parties = left i }
 
 pub returns-clause-spans : goal.returns-clause-spans
 returns-clause-spans c airport has =

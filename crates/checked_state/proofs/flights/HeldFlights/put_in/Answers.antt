@@ -1,43 +1,82 @@
-use Rattle.std.proofs.Common.{List, ◌∙◌, ◌++◌, [], sym, subst}
+use Rattle.std.proofs.Common.{List, ◌≡◌, ◌∙◌, ◌++◌, length, get_or, sym, ap, subst, arith}
 use Rattle.std.specs.Prelude.{Err}
+use Rattle.std.specs.List.{remove}
 use Rattle.taxi_base.specs.declared.answers.Flight.{Flight}
 use Rattle.taxi_base.specs.Windows.{Hold}
-use Rattle.taxi_base.specs.State.{State, holds_in}
+use Rattle.taxi_base.specs.State.{State, flight_holds, holds_in}
 use Rattle.held_spans.specs.Spans.{AreSpansOf}
+use Rattle.held_spans.proofs.LoopLaws.{done-ok, done-err}
 use Rattle.checked_state.specs.Flights.{state_of}
+use Rattle.checked_state.proofs.MapLaws.{insert-here, length-insert, remove-insert}
 use Rattle.checked_state.proofs.PlaceLaws.{place-at, place-gone, with-at}
 use Rattle.checked_state.proofs.FlightLaws.{its-parts, steps-listed, spans-with}
 use Rattle.checked_state.proofs.flights.HeldFlights.put_in.Goals as goal
 
-pub hold-requires : goal.hold-requires
-hold-requires c = record { on = rw c.as_slice-steps.ensures (steps-listed c.args.airport.now _ c.args.flight.steps c.requires.spans.lists c.requires.arcs) }
-
 pub unwrap_err-place-requires : goal.unwrap_err-place-requires
-unwrap_err-place-requires c =
-    let place = rw (c.deref.ensures.value, c.reserve.ensures.items) at c.place_of.ensures in
-    place-gone (λ (f : Flight). f.name) c.args.self.now.flights.items c.args.flight.name c.requires.ordered c.args.flight c.place_of.result place c.requires.absent
+unwrap_err-place-requires c = place-gone (λ (f : Flight). f.name) c.args.self.now.flights c.args.flight.name c.requires.ordered c.args.flight c.place_of.result c.place_of.ensures c.requires.absent
+
+pub insert-requires : goal.insert-requires
+insert-requires c = (place-at (λ (f : Flight). f.name) c.args.self.now.flights c.args.flight.name c.place_of.result (Err c.unwrap_err-place.result) c.place_of.ensures c.unwrap_err-place.ensures).gap
+
+pub at-flight-requires : goal.at-flight-requires
+at-flight-requires c =
+    let gap = (place-at (λ (f : Flight). f.name) c.args.self.now.flights c.args.flight.name c.place_of.result (Err c.unwrap_err-place.result) c.place_of.ensures c.unwrap_err-place.ensures).gap in
+    omega (arith, gap, ap length c.in_ok-insert.ensures.ok, length-insert c.args.self.now.flights c.unwrap_err-place.result c.args.flight)
+
+pub hold-held-requires : goal.hold-held-requires
+hold-held-requires c =
+    let old = c.args.self.now.flights in
+    let place = c.unwrap_err-place.result in
+    let flight = c.at-flight.result.now in
+    let gap = place-at (λ (f : Flight). f.name) old c.args.flight.name c.place_of.result (Err place) c.place_of.ensures c.unwrap_err-place.ensures in
+    let here : flight ≡ c.args.flight = c.at-flight.ensures ∙ ap (λ (all : List Flight). get_or all place flight) c.in_ok-insert.ensures.ok ∙ insert-here old place c.args.flight flight gap.gap in
+    record { on = rw (c.as_slice-steps.ensures, here) (steps-listed c.args.airport.now _ c.args.flight.steps c.requires.spans.lists c.requires.arcs) }
+
+-- where the spans find no memory the flight is taken out again
+pub returns-then-is_err-clause-err : goal.returns-then-is_err-clause-err
+returns-then-is_err-clause-err c =
+    let old = c.args.self.now.flights in
+    let place = c.unwrap_err-place.result in
+    let gap = place-at (λ (f : Flight). f.name) old c.args.flight.name c.place_of.result (Err place) c.place_of.ensures c.unwrap_err-place.ensures in
+    let back = c.remove.ensures.items ∙ ap (λ (all : List Flight). remove all place) c.in_ok-insert.ensures.ok ∙ remove-insert old place c.args.flight gap.gap in
+    λ i. record { flights = back i; parties = c.args.self.now.parties.items }
+
+pub returns-then-is_err-clause-spans : goal.returns-then-is_err-clause-spans
+returns-then-is_err-clause-spans c =
+    let old = c.args.self.now.flights in
+    let place = c.unwrap_err-place.result in
+    let gap = place-at (λ (f : Flight). f.name) old c.args.flight.name c.place_of.result (Err place) c.place_of.ensures c.unwrap_err-place.ensures in
+    let back = c.remove.ensures.items ∙ ap (λ (all : List Flight). remove all place) c.in_ok-insert.ensures.ok ∙ remove-insert old place c.args.flight gap.gap in
+    let before : State = state_of c.args.self.now in
+    let kept = done-err c.hold-held.result _ c.hold-held.ensures.err (sym c.is_err.ensures.value ∙ c.if-is_err.true) (holds_in c.args.airport.now before) c.requires.spans.spans in
+    record {
+      lists = c.hold-held.ensures.count ∙ c.requires.spans.lists;
+      spans = subst (λ (flights : List Flight). AreSpansOf (holds_in c.args.airport.now (record before { flights = flights })) c.hold-held.new.self) (sym back) kept;
+    }
 
 pub returns-clause-ok : goal.returns-clause-ok
 returns-clause-ok c =
-    let place = rw (c.deref.ensures.value, c.reserve.ensures.items) at c.place_of.ensures in
-    let inserted = rw (c.unwrap.ensures, c.reserve.ensures.items) at c.insert.ensures.items in
-    let with = inserted ∙ with-at (λ (f : Flight). f.name) c.args.flight c.args.self.now.flights.items c.unwrap_err-place.result
-    (place-at (λ (f : Flight). f.name) c.args.self.now.flights.items c.args.flight.name c.place_of.result (Err c.unwrap_err-place.result) place c.unwrap_err-place.ensures) in
+    let old = c.args.self.now.flights in
+    let place = place-at (λ (f : Flight). f.name) old c.args.flight.name c.place_of.result (Err c.unwrap_err-place.result) c.place_of.ensures c.unwrap_err-place.ensures in
+    let with = c.in_ok-insert.ensures.ok ∙ with-at (λ (f : Flight). f.name) c.args.flight old c.unwrap_err-place.result place in
     λ i. record { flights = with i; parties = c.args.self.now.parties.items }
 
 pub returns-clause-spans : goal.returns-clause-spans
 returns-clause-spans c =
     let airport = c.args.airport.now in
-    let old = c.args.self.now.flights.items in
-    let place = rw (c.deref.ensures.value, c.reserve.ensures.items) at c.place_of.ensures in
-    let inserted = rw (c.unwrap.ensures, c.reserve.ensures.items) at c.insert.ensures.items in
-    let with = inserted ∙ with-at (λ (f : Flight). f.name) c.args.flight old c.unwrap_err-place.result
-    (place-at (λ (f : Flight). f.name) old c.args.flight.name c.place_of.result (Err c.unwrap_err-place.result) place c.unwrap_err-place.ensures) in
-    let its = its-parts airport c.args.flight c.horizon.result c.clearance-clearance.result c.as_slice-steps.result.now c.horizon.ensures.horizon c.clearance-clearance.ensures.clearance c.as_slice-steps.ensures in
+    let old = c.args.self.now.flights in
+    let at = c.unwrap_err-place.result in
+    let flight = c.at-flight.result.now in
+    let place = place-at (λ (f : Flight). f.name) old c.args.flight.name c.place_of.result (Err at) c.place_of.ensures c.unwrap_err-place.ensures in
+    let here : flight ≡ c.args.flight = c.at-flight.ensures ∙ ap (λ (all : List Flight). get_or all at flight) c.in_ok-insert.ensures.ok ∙ insert-here old at c.args.flight flight place.gap in
+    let with = c.in_ok-insert.ensures.ok ∙ with-at (λ (f : Flight). f.name) c.args.flight old at place in
+    let its = its-parts airport flight c.horizon.result c.clearance-clearance.result c.as_slice-steps.result.now c.horizon.ensures.horizon c.clearance-clearance.ensures.clearance c.as_slice-steps.ensures in
     let before : State = state_of c.args.self.now in
-    let held = c.in_ok-hold.ensures.ok (holds_in airport before) c.requires.spans.spans in
+    let held = done-ok c.hold-held.result _ c.hold-held.ensures.ok (sym c.is_err.ensures.value ∙ c.if-is_err.false) (holds_in airport before) c.requires.spans.spans in
     record {
-      lists = c.hold.ensures.count ∙ c.requires.spans.lists;
-      spans = subst (λ (flights : List Flight). AreSpansOf (holds_in airport (record before { flights = flights })) c.hold.new.self) (sym with)
-          (spans-with airport c.hold.new.self c.args.flight before (subst (λ (its : List Hold). AreSpansOf (holds_in airport before ++ its) c.hold.new.self) its held));
+      lists = c.hold-held.ensures.count ∙ c.requires.spans.lists;
+      spans = subst (λ (flights : List Flight). AreSpansOf (holds_in airport (record before { flights = flights })) c.hold-held.new.self) (sym with)
+          (spans-with airport c.hold-held.new.self c.args.flight before
+          (subst (λ (f : Flight). AreSpansOf (holds_in airport before ++ flight_holds airport f) c.hold-held.new.self) here
+          (subst (λ (its : List Hold). AreSpansOf (holds_in airport before ++ its) c.hold-held.new.self) its held)));
     }

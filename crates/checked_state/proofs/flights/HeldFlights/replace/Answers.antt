@@ -1,9 +1,7 @@
-use Rattle.std.proofs.Common.{List, ◌≡◌, ◌∙◌, ◌++◌, [], set, sym, ap, subst}
+use Rattle.std.proofs.Common.{List, ◌≡◌, ◌∙◌, ◌++◌, sym, ap, subst}
 use Rattle.std.specs.Prelude.{Ok}
 use Rattle.taxi_base.specs.declared.answers.Flight.{Flight}
 use Rattle.taxi_base.specs.Windows.{Hold}
-use Rattle.std.proofs.lemmas.List.{get_or_default}
-use Rattle.taxi_base.specs.Airport.{clearance_of}
 use Rattle.taxi_base.specs.State.{State, with_route, flight_named, without, holds_in}
 use Rattle.held_spans.specs.Spans.{AreSpansOf}
 use Rattle.held_spans.proofs.LoopLaws.{done-ok}
@@ -13,34 +11,34 @@ use Rattle.checked_state.proofs.FlightLaws.{its-parts, routed, route-state, rout
 use Rattle.checked_state.proofs.flights.HeldFlights.replace.Goals as goal
 
 pub unwrap-place-requires : goal.unwrap-place-requires
-unwrap-place-requires c = place-there (λ (f : Flight). f.name) c.args.self.now.flights.items c.args.name.now c.requires.ordered c.place_of.result (rw c.deref.ensures.value at c.place_of.ensures) c.requires.in_force
+unwrap-place-requires c = place-there (λ (f : Flight). f.name) c.args.self.now.flights c.args.name.now c.requires.ordered c.place_of.result c.place_of.ensures c.requires.in_force
 
 pub hold-held-requires : goal.hold-held-requires
 hold-held-requires c = record { on = rw c.as_slice.ensures (steps-listed c.args.airport.now _ c.args.steps c.requires.spans.lists c.requires.arcs) }
 
 pub returns-clause-ok : goal.returns-clause-ok
 returns-clause-ok c =
-    let flights = c.args.self.now.flights.items in
+    let flights = c.args.self.now.flights in
     let name = c.args.name.now in
-    let place = place-at (λ (f : Flight). f.name) flights name c.place_of.result (Ok c.unwrap-place.result) (rw c.deref.ensures.value at c.place_of.ensures) c.unwrap-place.ensures in
-    let flight = c.index_mut-flight.result.now in
+    let place = place-at (λ (f : Flight). f.name) flights name c.place_of.result (Ok c.unwrap-place.result) c.place_of.ensures c.unwrap-place.ensures in
+    let flight = c.at.result.now in
     let before : State = state_of c.args.self.now in
-    if-some (flight_named name flights) (λ (other : Flight). record before { flights = set flights c.unwrap-place.result (record { name = flight.name; class = flight.class; request = c.args.request; steps = c.args.steps }) } ≡ with_route other c.args.request c.args.steps before)
-    (λ other found. route-state before name c.requires.ordered c.requires.alone c.unwrap-place.result place flight c.index_mut-flight.ensures.value c.args.request c.args.steps other found)
+    if-some (flight_named name flights) (λ (other : Flight). record before { flights = c.set_route.new.self } ≡ with_route other c.args.request c.args.steps before)
+    (λ other found. ap (λ (all : List Flight). record before { flights = all }) (c.set_route.ensures flight c.at.ensures) ∙ route-state before name c.requires.ordered c.requires.alone c.unwrap-place.result place flight c.at.ensures c.args.request c.args.steps other found)
 
 pub returns-clause-spans : goal.returns-clause-spans
 returns-clause-spans c =
-    let flights = c.args.self.now.flights.items in
+    let flights = c.args.self.now.flights in
     let name = c.args.name.now in
-    let place = place-at (λ (f : Flight). f.name) flights name c.place_of.result (Ok c.unwrap-place.result) (rw c.deref.ensures.value at c.place_of.ensures) c.unwrap-place.ensures in
-    let flight = c.index_mut-flight.result.now in
+    let place = place-at (λ (f : Flight). f.name) flights name c.place_of.result (Ok c.unwrap-place.result) c.place_of.ensures c.unwrap-place.ensures in
+    let flight = c.at.result.now in
     let airport = c.args.airport.now in
-    let one : c.index.result.now ≡ flight = c.index.ensures ∙ get_or_default flights c.unwrap-place.result c.index.result.now flight place.here ∙ sym c.index_mut-flight.ensures.value in
     let its = its-parts airport (routed flight c.args.request c.args.steps) c.horizon.result c.clearance-clearance.result c.as_slice.result.now c.horizon.ensures.horizon
-    (c.clearance-clearance.ensures.clearance ∙ ap (λ (f : Flight). clearance_of airport f.class) one) c.as_slice.ensures in
+    c.clearance-clearance.ensures.clearance c.as_slice.ensures in
     let held = done-ok c.hold-held.result _ c.hold-held.ensures.ok (sym c.is_err.ensures.value ∙ c.if-is_err.false) (holds_in airport (without name (state_of c.args.self.now))) c.requires.spans.spans in
     record {
       lists = c.hold-held.ensures.count ∙ c.requires.spans.lists;
-      spans = route-spans (state_of c.args.self.now) name c.requires.ordered c.requires.alone c.unwrap-place.result place flight c.index_mut-flight.ensures.value c.args.request c.args.steps airport c.hold-held.new.self
-          (subst (λ (its : List Hold). AreSpansOf (holds_in airport (without name (state_of c.args.self.now)) ++ its) c.hold-held.new.self) its held);
+      spans = subst (λ (all : List Flight). AreSpansOf (holds_in airport (record (state_of c.args.self.now) { flights = all })) c.hold-held.new.self) (sym (c.set_route.ensures flight c.at.ensures))
+          (route-spans (state_of c.args.self.now) name c.requires.ordered c.requires.alone c.unwrap-place.result place flight c.at.ensures c.args.request c.args.steps airport c.hold-held.new.self
+          (subst (λ (its : List Hold). AreSpansOf (holds_in airport (without name (state_of c.args.self.now)) ++ its) c.hold-held.new.self) its held));
     }

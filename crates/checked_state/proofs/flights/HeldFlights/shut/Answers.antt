@@ -20,7 +20,7 @@ returns-clause-ok c =
     let inserted = rw (c.unwrap.ensures, c.reserve.ensures.items) at c.insert.ensures.items in
     let with = inserted ∙ with-at (λ (p : Party). p.name) c.args.party c.args.self.now.parties.items c.unwrap_err-place.result
     (place-at (λ (p : Party). p.name) c.args.self.now.parties.items c.args.party.name c.place_of.result (Err c.unwrap_err-place.result) place c.unwrap_err-place.ensures) in
-    λ i. record { flights = c.args.self.now.flights.items; parties = with i }
+    λ i. record { flights = c.args.self.now.flights; parties = with i }
 
 pub returns-clause-spans : goal.returns-clause-spans
 returns-clause-spans c airport has =

@@ -1,4 +1,4 @@
-use Rattle.std.proofs.Common.{List, ◌≡◌, ◌∙◌, [], sym, subst}
+use Rattle.std.proofs.Common.{◌≡◌, ◌∙◌, sym, subst}
 use Rattle.std.specs.Prelude.{Ok}
 use Rattle.taxi_base.specs.declared.answers.Flight.{Flight}
 use Rattle.taxi_base.specs.declared.answers.Party.{Party}
@@ -10,14 +10,14 @@ use Rattle.checked_state.proofs.FlightLaws.{take-apart}
 use Rattle.checked_state.proofs.flights.HeldFlights.take_out.Goals as goal
 
 pub unwrap-place-requires : goal.unwrap-place-requires
-unwrap-place-requires c = place-there (λ (f : Flight). f.name) c.args.self.now.flights.items c.args.name.now c.requires.ordered c.place_of.result (rw c.deref.ensures.value at c.place_of.ensures) c.requires.in_force
+unwrap-place-requires c = place-there (λ (f : Flight). f.name) c.args.self.now.flights c.args.name.now c.requires.ordered c.place_of.result c.place_of.ensures c.requires.in_force
 
 pub release-requires : goal.release-requires
 release-requires c =
-    let flights = c.args.self.now.flights.items in
+    let flights = c.args.self.now.flights in
     let name = c.args.name.now in
     let flight = c.remove-flight.result in
-    let place = place-at (λ (f : Flight). f.name) flights name c.place_of.result (Ok c.unwrap-place.result) (rw c.deref.ensures.value at c.place_of.ensures) c.unwrap-place.ensures in
+    let place = place-at (λ (f : Flight). f.name) flights name c.place_of.result (Ok c.unwrap-place.result) c.place_of.ensures c.unwrap-place.ensures in
     let found = named-at (λ (f : Flight). f.name) flights name c.requires.ordered c.unwrap-place.result place flight c.remove-flight.ensures.value in (
       holds_in c.args.airport.now (without name (state_of c.args.self.now)),
       take-apart c.args.airport.now c.args.self.now.spans name (state_of c.args.self.now) flight c.requires.ordered c.requires.alone found c.horizon.result c.clearance-clearance.result c.as_slice-steps.result.now
@@ -26,10 +26,10 @@ release-requires c =
 
 pub returns-clause-state : goal.returns-clause-state
 returns-clause-state c =
-    let flights = c.args.self.now.flights.items in
+    let flights = c.args.self.now.flights in
     let name = c.args.name.now in
     let flight = c.remove-flight.result in
-    let place = place-at (λ (f : Flight). f.name) flights name c.place_of.result (Ok c.unwrap-place.result) (rw c.deref.ensures.value at c.place_of.ensures) c.unwrap-place.ensures in
+    let place = place-at (λ (f : Flight). f.name) flights name c.place_of.result (Ok c.unwrap-place.result) c.place_of.ensures c.unwrap-place.ensures in
     let found = named-at (λ (f : Flight). f.name) flights name c.requires.ordered c.unwrap-place.result place flight c.remove-flight.ensures.value in
     let left = c.remove-flight.ensures.items ∙ without-at (λ (f : Flight). f.name) flights name c.requires.ordered c.unwrap-place.result place flight in
     let parties = left-none (λ (p : Party). p.name) name c.args.self.now.parties.items c.requires.alone in
@@ -37,14 +37,14 @@ returns-clause-state c =
 
 pub returns-clause-spans : goal.returns-clause-spans
 returns-clause-spans c =
-    let flights = c.args.self.now.flights.items in
+    let flights = c.args.self.now.flights in
     let name = c.args.name.now in
     let flight = c.remove-flight.result in
-    let place = place-at (λ (f : Flight). f.name) flights name c.place_of.result (Ok c.unwrap-place.result) (rw c.deref.ensures.value at c.place_of.ensures) c.unwrap-place.ensures in
+    let place = place-at (λ (f : Flight). f.name) flights name c.place_of.result (Ok c.unwrap-place.result) c.place_of.ensures c.unwrap-place.ensures in
     let found = named-at (λ (f : Flight). f.name) flights name c.requires.ordered c.unwrap-place.result place flight c.remove-flight.ensures.value in
     let left = c.remove-flight.ensures.items ∙ without-at (λ (f : Flight). f.name) flights name c.requires.ordered c.unwrap-place.result place flight in
     let parties = left-none (λ (p : Party). p.name) name c.args.self.now.parties.items c.requires.alone in
-    let after : without name (state_of c.args.self.now) ≡ record { flights = c.remove-flight.new.self.items; parties = c.args.self.now.parties.items } = λ i. record { flights = sym left i; parties = parties i } in
+    let after : without name (state_of c.args.self.now) ≡ record { flights = c.remove-flight.new.self; parties = c.args.self.now.parties.items } = λ i. record { flights = sym left i; parties = parties i } in
     record {
       lists = c.release.ensures.count ∙ c.requires.spans.lists;
       spans = subst (λ (s : State). AreSpansOf (holds_in c.args.airport.now s) c.release.new.self) after

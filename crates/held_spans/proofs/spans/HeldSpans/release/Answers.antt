@@ -6,20 +6,20 @@ use Rattle.held_spans.proofs.spans.HeldSpans.release.Goals as goal
 pub take-requires : goal.take-requires
 take-requires c = (
   c.requires.0 ++ holds_of c.args.horizon c.args.clearance (drop (c.loop-step.step-index + 1) c.args.steps.now),
-  first-left c.args.horizon c.args.clearance c.args.steps.now c.loop-step.step-index c.segment_of.result c.held.result c.loop-step-test.true c.segment_of.ensures c.held.ensures c.loop-step.self c.requires.0
+  first-left c.args.horizon c.args.clearance c.args.steps.now c.loop-step.step-index c.segment.result c.held.result c.loop-step-test.true c.segment.ensures c.held.ensures c.loop-step.self c.requires.0
       (c.loop-step.invariant.spans c.requires.0 c.requires.1),
 )
 
 pub loop-step-preserved : goal.loop-step-preserved
 loop-step-preserved c = record {
   spans = λ holds are. c.take.ensures.gone (holds ++ holds_of c.args.horizon c.args.clearance (drop (c.loop-step.step-index + 1) c.args.steps.now))
-      (first-left c.args.horizon c.args.clearance c.args.steps.now c.loop-step.step-index c.segment_of.result c.held.result c.loop-step-test.true c.segment_of.ensures c.held.ensures c.loop-step.self holds
+      (first-left c.args.horizon c.args.clearance c.args.steps.now c.loop-step.step-index c.segment.result c.held.result c.loop-step-test.true c.segment.ensures c.held.ensures c.loop-step.self holds
       (c.loop-step.invariant.spans holds are));
   room = λ s. omega (
     arith,
     c.loop-step.invariant.room s,
     c.take.ensures.room s,
-    steps_on-more c.args.horizon c.args.clearance c.args.steps.now c.loop-step.step-index c.segment_of.result c.held.result c.loop-step-test.true c.segment_of.ensures c.held.ensures s,
+    steps_on-more c.args.horizon c.args.clearance c.args.steps.now c.loop-step.step-index c.segment.result c.held.result c.loop-step-test.true c.segment.ensures c.held.ensures s,
   );
   count = omega (arith, c.take.ensures.count, c.loop-step.invariant.count);
 }
