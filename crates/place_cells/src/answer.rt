@@ -20,7 +20,7 @@ pub fn steps_of(
 ) -> Result<List<Step>, Memory>
     ensures { IfOk result (λ steps. steps ≡ steps_at (place_at (cells_of (ground_of ground.now))) (map step_of walk.now)) }
 {
-    let mut steps = List::new(alloc);
+    let mut steps = List::with_capacity(alloc, walk.len())?;
     for step in walk {
         steps.push(Step {
             arc: ground.place(step.cell).arc,
@@ -39,7 +39,7 @@ pub fn rows_of(
 ) -> Result<List<LabelRow>, Memory>
     ensures { IfOk result (λ rows. rows ≡ map (row_in (ground_of ground.now)) values.now) }
 {
-    let mut rows = List::new(alloc);
+    let mut rows = List::with_capacity(alloc, values.len())?;
     for value in values {
         let place = ground.place(value.cell);
         rows.push(LabelRow {
