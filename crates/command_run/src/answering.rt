@@ -9,6 +9,7 @@ ghost use Rattle.command_run.specs.Answered.{AreAnswered, IsBlockCut, IsWholeRun
 use crate::refused::RunRefused;
 use airport_file::Airport;
 use std::alloc::Global;
+use std::mem::forget;
 use taxi_engine::Engine;
 use taxi_io::{Shelf, Sink, Trouble, read_piece, write_all};
 use taxi_text::{LineReader, skipped};
@@ -44,7 +45,10 @@ pub fn run_commands<S: Shelf, K: Sink>(
     ensures files { S.files shelf.new ≡ S.files shelf.old }
 {
     let mut engine = Engine::new(alloc, airport)?;
-    answer_commands(alloc, &mut engine, shelf, limit, out)
+    let answered = answer_commands(alloc, &mut engine, shelf, limit, out);
+    // A program makes one run and ends. Going through all windows to give each back would take longer than many a command.
+    forget(engine);
+    answered
 }
 
 // Answers the commands of the begun file.

@@ -17,11 +17,11 @@ returns-in_err-engine-clause-stopped g c =
 pub returns-clause-whole : goal.returns-clause-whole
 returns-clause-whole g c =
     let same = ap (λ (e : EngineState). e.airport) c.in_ok-engine.ensures in
-    subst (λ (a : Airport). IfOk c.answer_commands.result (IsWholeRun a c.args.limit (g.S.Shelf.rest c.args.shelf.now, g.S.Shelf.rest c.answer_commands.new.shelf) (g.K.Sink.written c.args.out.now, g.K.Sink.written c.answer_commands.new.out)))
-    same c.answer_commands.ensures.whole
+    subst (λ (a : Airport). IfOk c.answer_commands-answered.result (IsWholeRun a c.args.limit (g.S.Shelf.rest c.args.shelf.now, g.S.Shelf.rest c.answer_commands-answered.new.shelf) (g.K.Sink.written c.args.out.now, g.K.Sink.written c.answer_commands-answered.new.out)))
+    same c.answer_commands-answered.ensures.whole
 
 pub returns-clause-stopped : goal.returns-clause-stopped
 returns-clause-stopped g c =
     let same = ap (λ (e : EngineState). e.airport) c.in_ok-engine.ensures in
-    subst (λ (a : Airport). IfErr c.answer_commands.result (IsStopped a c.args.limit (g.S.Shelf.rest c.args.shelf.now, g.S.Shelf.rest c.answer_commands.new.shelf) (g.K.Sink.written c.args.out.now, g.K.Sink.written c.answer_commands.new.out)))
-    same c.answer_commands.ensures.stopped
+    subst (λ (a : Airport). IfErr c.answer_commands-answered.result (IsStopped a c.args.limit (g.S.Shelf.rest c.args.shelf.now, g.S.Shelf.rest c.answer_commands-answered.new.shelf) (g.K.Sink.written c.args.out.now, g.K.Sink.written c.answer_commands-answered.new.out)))
+    same c.answer_commands-answered.ensures.stopped
