@@ -1,5 +1,5 @@
 -- One step of the search: a least cell is taken and expanded; or the search is at its end.
-use Rattle.std.proofs.Common.{◌≡◌, ℕ, zero, suc, ◌+◌, ◌<◌, ◌≤◌, Bool, true, false, Option, Some, None, refl, sym, ap, ◌∙◌, subst, ◌⊎◌, inl, inr, arith}
+use Rattle.std.proofs.Common.{◌≡◌, ℕ, zero, suc, ◌+◌, ◌^◌, ◌<◌, ◌≤◌, Bool, true, false, Option, Some, None, refl, sym, ap, ◌∙◌, subst, ◌⊎◌, inl, inr, arith}
 use Rattle.std.proofs.lemmas.Bool.{cases_eq, cases_Bool, false≢true}
 use Rattle.std.specs.Prelude.{⊤}
 use Rattle.std.proofs.lemmas.List.{length-set}
@@ -67,9 +67,17 @@ pub traced_inside : (p : Problem) → IsProblem p → (Row : ℕ → ℕ → Typ
 traced_inside p sound Row d label (inl start) = sound.starts_inside d start.start start.here
 traced_inside p sound Row d label (inr before) = (sound.turns_inside label.via d before.1.expands.by_turn).1
 
+-- and its value is small
+traced_small : (p : Problem) → IsProblem p → (Row : ℕ → ℕ → Type 0) (d : ℕ) (label : Label) → IsTraced p Row d label → label.value < 2 ^ 31
+traced_small p sound Row d label (inl start) = omega (arith, start.in_time, sound.small_last d)
+traced_small p sound Row d label (inr before) = omega (arith, before.1.expands.in_time, sound.small_last d)
+
 module _ (p : Problem) (sound : IsProblem p) (s : Standing) (under : IsUnderway p s) (c k : ℕ) (least : IsLeast s.keys c k) where
   pub cell_inside : c < p.count
   cell_inside = let known = least_known p sound s under c k least in traced_inside p sound _ c known.0 (under.traced c known.0 known.1)
+
+  pub key_small : k < 2 ^ 31
+  key_small = let known = least_known p sound s under c k least in omega (arith, traced_small p sound _ c known.0 (under.traced c known.0 known.1), known.2)
 
   module _ (new : Standing) (expanded : IsExpanded p.network c k (λ d. ⊤) (taken p sound s under c k least) new) where
     settling : IsSettling (is_settled s) (is_settled new) c

@@ -1,5 +1,5 @@
 -- What does it do to the labels that a cell is expanded?
-use Rattle.std.specs.Prelude.{◌≡◌, ◌<◌, ◌≤◌, ℕ, ◌⊎◌, length}
+use Rattle.std.specs.Prelude.{◌≡◌, ◌<◌, ◌≤◌, ◌^◌, ℕ, ◌⊎◌, length}
 use Rattle.label_core.specs.Walks.{Network}
 use Rattle.label_core.specs.Labels.{IsExpansion}
 use Rattle.label_search.specs.declared.labels.Label.{Label}
@@ -28,7 +28,8 @@ pub record HasRoom (count : ℕ) (s : Standing) : Type 0 where
   pub known : count ≤ length s.known
   pub keys : count ≤ length s.keys
 
--- the cell is one of the problem, and its last second is told
+-- the cell is one of the problem, its last second is told, and the second at which it can be left is small
 pub record IsReady (p : Problem) (from : Ready) : Type 0 where
   pub inside : from.cell < p.count
   pub last : from.last ≡ p.network.last from.cell
+  pub small : from.at < 2 ^ 31

@@ -1,5 +1,6 @@
 pub mod Problem
 pub mod Labels
+pub mod Known
 pub mod Expanding
 pub mod Standing
 pub mod Answer

@@ -1,5 +1,5 @@
 //! Expanding a cell: what a walk that can leave it adds to the labels of the cells that may follow.
-ghost use Rattle.std.specs.Prelude.{◌≡◌, ℕ, ◌+◌, ◌<◌, ◌≤◌, ◌^◌, ◌↔◌, max, length, IsTrue, IfSome, IfNone, IsSomeAnd, ⊤};
+ghost use Rattle.std.specs.Prelude.{◌≡◌, ℕ, ◌+◌, ◌<◌, ◌≤◌, ◌^◌, max, length, IsTrue, IfSome, IfNone, ⊤};
 ghost use Rattle.label_search.specs.Problem.{IsProblem, IsIn};
 ghost use Rattle.label_search.specs.Labels.{standing};
 ghost use Rattle.label_search.specs.Expanding.{IsExpanded, HasRoom, IsReady};
@@ -33,16 +33,6 @@ fn leave_after(from: Ready, next: Cell) -> Option<u32>
     if leave > next.last { None } else { Some(leave) }
 }
 
-/// Whether there is a label with a value no later than this.
-fn is_known_by(known: Option<Label>, time: u32) -> bool
-    ensures { IsTrue result ↔ IsSomeAnd known (λ l. l.value ≤ time) }
-{
-    match known {
-        None => false,
-        Some(label) => label.value <= time,
-    }
-}
-
 /// Offers the next cell its expansion. One that can't better its label is skipped early.
 fn expand_to<C: ForwardCells>(cells: &C, from: Ready, row: C::Row, next: usize, labels: &mut Labels)
     requires sound { IsProblem (C.problem cells.now) }
@@ -52,7 +42,7 @@ fn expand_to<C: ForwardCells>(cells: &C, from: Ready, row: C::Row, next: usize, 
     requires told { C.tells cells.now row next }
     ensures { IsExpanded (C.problem cells.now).network from.cell from.at (λ d. d ≡ next) (standing labels.old) (standing labels.new) }
 {
-    if is_known_by(labels.known[next], from.at) {
+    if labels.known[next].is_by(from.at) {
         return;
     }
     if let Some(value) = leave_after(from, cells.cell_in(row, next)) {

@@ -1,7 +1,8 @@
 //! The labels of a search, and the queue of those cells that are not settled.
-ghost use Rattle.std.specs.Prelude.{◌≡◌, ◌≤◌, ◌+◌, ◌/◌, false, length};
+ghost use Rattle.std.specs.Prelude.{◌≡◌, ◌<◌, ◌≤◌, ◌+◌, ◌/◌, ◌^◌, false, length};
 ghost use Rattle.label_search.specs.Groups.{AreMarked, HaveNothing};
 
+use crate::known::Known;
 use label_queue::LabelQueue;
 
 /// A time at which a walk can leave a cell, and the cell that it came by, which means nothing for a walk that begins there.
@@ -15,7 +16,7 @@ pub struct Label {
 /// search looks at all cells, those that may have a label are marked.
 #[derive(Drop)]
 pub(crate) struct Labels {
-    pub(crate) known: Vec<Option<Label>>,
+    pub(crate) known: Vec<Known>,
     pub(crate) queue: LabelQueue,
     // The marks, a bit for each cell.
     pub(crate) groups: Vec<u64>,
@@ -27,4 +28,5 @@ pub(crate) struct Labels {
     ghost marked: { AreMarked known.items groups.items },
     ghost untouched: { touched ≡ false → HaveNothing known.items },
     ghost keyed: { length known.items ≤ length queue },
+    ghost few: { length known.items < 2 ^ 32 },
 }

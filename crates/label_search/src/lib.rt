@@ -7,6 +7,7 @@ mod cut;
 mod expand;
 mod forward;
 mod groups;
+mod known;
 mod labels;
 mod list;
 mod offering;

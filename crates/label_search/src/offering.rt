@@ -1,25 +1,32 @@
 //! Labels as they come: a cell is offered one, and keeps the best.
-ghost use Rattle.std.specs.Prelude.{◌≡◌, ◌<◌, ◌↔◌, ℕ, length, replicate, Some, None, IfOk, OnOk, IfSome, IsSomeAnd, IsTrue, slice_set};
+ghost use Rattle.std.specs.Prelude.{◌≡◌, ◌<◌, ◌^◌, ℕ, length, replicate, Some, None, IfOk, OnOk, slice_set};
 ghost use Rattle.label_queue.specs.Keys.{key_of};
 ghost use Rattle.label_search.specs.Labels.{IsImproved, standing, label_of};
 ghost use Rattle.label_search.specs.Expanding.{HasRoom};
 ghost use Rattle.label_search.specs.Values.{rows_from, values_kept};
 
 use crate::groups::{GROUP, mark};
+use crate::known::Known;
 use crate::labels::{Label, Labels};
 use crate::values::{CellValue, take_marked};
 use label_queue::LabelQueue;
 use std::alloc::Global;
 use taxi_base::Memory;
 
+/// There are so many cells at most, so that a label takes eight bytes.
+const CELLS: usize = 4294967295;
+
 impl Labels {
-    /// No label yet, with room for so many cells.
+    /// No label yet, with room for so many cells. There is none for 2^32 cells or more.
     pub(crate) fn new(alloc: Global, count: usize) -> Result<Labels, Memory>
         ensures known { IfOk result (λ l. l.known.items ≡ replicate count None) }
         ensures queue { IfOk result (λ l. l.queue ≡ replicate count None) }
     {
+        if count > CELLS {
+            return Err(Memory);
+        }
         Ok(Labels {
-            known: Vec::from_elem(alloc, None, count)?,
+            known: Vec::from_elem(alloc, Known::none(), count)?,
             queue: LabelQueue::new(alloc, count)?,
             groups: Vec::from_elem(alloc, 0, count / GROUP + 1)?,
             touched: false,
@@ -49,7 +56,7 @@ impl Labels {
         ensures queue { self.new.queue ≡ replicate (length self.old.queue) None }
         ensures unlabelled { (c : ℕ) → label_of self.new.known.items c ≡ None }
     {
-        self.known.fill(None);
+        self.known.fill(Known::none());
         self.groups.fill(0);
         self.touched = false;
         self.queue.clear();
@@ -59,26 +66,30 @@ impl Labels {
     pub(crate) fn offer(&mut self, cell: usize, label: Label)
         requires known { cell < length self.old.known.items }
         requires queue { cell < length self.old.queue }
+        requires small_value { label.value < 2 ^ 31 }
+        requires small_via { label.via < length self.old.known.items }
         ensures { IsImproved (standing self.old) (standing self.new) cell label }
     {
         let old = self.known[cell];
-        if is_lower(label, old) {
+        if old.gets_less_by(label) {
             self.write(cell, label);
             self.queue.insert_or_lower(cell, label.value).unwrap();
-        } else if wins_tie(label, old) {
+        } else if old.loses_tie_to(label) {
             self.write(cell, label);
         }
     }
 
     /// Gives the cell the label.
     fn write(&mut self, cell: usize, label: Label)
-        requires { cell < length self.old.known.items }
+        requires known { cell < length self.old.known.items }
+        requires small_value { label.value < 2 ^ 31 }
+        requires small_via { label.via < length self.old.known.items }
         ensures known { self.new.known.items ≡ slice_set self.old.known.items cell (Some label) }
         ensures queue { self.new.queue ≡ self.old.queue }
     {
         self.touched = true;
         mark(&mut self.groups, cell);
-        self.known[cell] = Some(label);
+        self.known[cell] = Known::of(label);
     }
 
     /// The values below the bound, or all where there is none, by cell. All labels are taken away with them, so that the next
@@ -97,25 +108,5 @@ impl Labels {
         self.touched = false;
         self.usual = values.len();
         Ok(values)
-    }
-}
-
-/// Whether a cell's value gets less by the label.
-fn is_lower(label: Label, old: Option<Label>) -> bool
-    ensures { IsTrue result ↔ IfSome old (λ l. label.value < l.value) }
-{
-    match old {
-        None => true,
-        Some(old) => label.value < old.value,
-    }
-}
-
-/// Whether the label has the old one's value, and came by a lesser cell.
-fn wins_tie(label: Label, old: Option<Label>) -> bool
-    ensures { IsTrue result ↔ IsSomeAnd old (λ l. (label.value ≡ l.value) × (label.via < l.via)) }
-{
-    match old {
-        None => false,
-        Some(old) => label.value == old.value && label.via < old.via,
     }
 }

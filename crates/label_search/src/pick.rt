@@ -44,7 +44,7 @@ fn label_at(labels: &Labels, cell: usize) -> Label
     requires labelled { IsSome (label_of labels.now.known.items cell) }
     ensures { label_of labels.now.known.items cell ≡ Some result }
 {
-    labels.known[cell].unwrap()
+    labels.known[cell].get().unwrap()
 }
 
 /// The steps that are picked back from the goal, the last one first.

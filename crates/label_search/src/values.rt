@@ -1,5 +1,5 @@
 //! The values that are handed out of labels.
-ghost use Rattle.std.specs.Prelude.{◌≡◌, ℕ, ◌+◌, ◌/◌, ◌<◌, ◌≤◌, List, [], min, length, Option, None, OnOk};
+ghost use Rattle.std.specs.Prelude.{◌≡◌, ℕ, ◌+◌, ◌/◌, ◌<◌, ◌≤◌, List, [], min, length, slice_set, Option, None, OnOk};
 ghost use Rattle.std.specs.Int.{bit_at};
 ghost use Rattle.label_search.specs.declared.labels.Label.{Label as KnownLabel};
 ghost use Rattle.label_search.specs.Labels.{label_of};
@@ -7,6 +7,7 @@ ghost use Rattle.label_search.specs.Groups.{AreMarked, HaveNothing};
 ghost use Rattle.label_search.specs.Values.{rows_from, value_kept, values_kept, AreAsBeforeFrom, AreRowsTo};
 
 use crate::groups::GROUP;
+use crate::known::Known;
 use crate::labels::Label;
 use std::alloc::Global;
 use taxi_base::Memory;
@@ -35,10 +36,21 @@ fn value_below(bound: Option<u32>, known: Option<Label>) -> Option<u32>
     }
 }
 
+/// Takes the label of a cell away.
+fn take_label(known: &mut [Known], cell: usize) -> Option<Label>
+    requires { cell < length known.old }
+    ensures label { result ≡ label_of known.old cell }
+    ensures taken { known.new ≡ slice_set known.old cell None }
+{
+    let label = known[cell].get();
+    known[cell] = Known::none();
+    label
+}
+
 /// Adds the values below the bound, or all where there is none, by cell, and takes all labels away. Each is of a marked cell.
 pub(crate) fn take_marked(
     values: &mut Vec<CellValue>,
-    known: &mut [Option<Label>],
+    known: &mut [Known],
     groups: &mut [u64],
     bound: Option<u32>,
 ) -> Result<(), Memory>
@@ -65,7 +77,7 @@ pub(crate) fn take_marked(
 /// was taken away.
 fn take_group(
     values: &mut Vec<CellValue>,
-    known: &mut [Option<Label>],
+    known: &mut [Known],
     bound: Option<u32>,
     first: usize,
     marks: u64,
@@ -85,9 +97,7 @@ fn take_group(
         let lowest = left.trailing_zeros();
         left &= !(1u64 << lowest);
         let cell = first + lowest as usize;
-        let value = value_below(bound, known[cell]);
-        known[cell] = None;
-        if let Some(value) = value {
+        if let Some(value) = value_below(bound, take_label(known, cell)) {
             values.push(CellValue { cell, value })?;
         }
     }

@@ -5,7 +5,7 @@ use Rattle.label_queue.specs.Least.{IsLeast}
 use Rattle.label_search.specs.Labels.{standing}
 use Rattle.label_search.specs.Expanding.{IsExpanded}
 use Rattle.label_search.proofs.Settling.{taken}
-use Rattle.label_search.proofs.Steps.{cell_inside, at_goal, underway_new, fewer_new}
+use Rattle.label_search.proofs.Steps.{cell_inside, key_small, at_goal, underway_new, fewer_new}
 use Rattle.label_search.proofs.settle.settle.Goals as goal
 
 pub loop-cell-smaller : goal.loop-cell-smaller
@@ -41,6 +41,7 @@ expand-requires-clause-ready g c =
     record {
       inside = cell_inside p c.requires.sound (standing c.loop-cell.labels) c.loop-cell.invariant c.in-Some.cell c.in-Some.at least;
       last = c.last-last.ensures;
+      small = key_small p c.requires.sound (standing c.loop-cell.labels) c.loop-cell.invariant c.in-Some.cell c.in-Some.at least;
     }
 
 pub returns-then-is_target : goal.returns-then-is_target

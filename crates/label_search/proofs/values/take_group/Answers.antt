@@ -2,43 +2,21 @@ use Rattle.std.proofs.Common.{◌+◌, ◌<◌, ◌++◌, None, Some, length, ta
 use Rattle.std.specs.Int.{trailing_zeros}
 use Rattle.std.proofs.lemmas.List.{append-nil}
 use Rattle.std.proofs.lemmas.Nat.Bits.{bit_at-trailing_zeros}
-use Rattle.label_search.specs.Values.{rows_from, values_kept}
+use Rattle.label_search.specs.Values.{rows_from, value_kept, values_kept}
 use Rattle.label_search.proofs.GroupLaws.{cleared_bit}
 use Rattle.label_search.proofs.ValueLaws.{row_of}
 use Rattle.label_search.proofs.Taking.{one_taken, one_row, rows_to_end}
 use Rattle.label_search.proofs.values.take_group.Goals as goal
 
 -- the lowest cell that is left is one of the cells
-pub slice_copy_out-value_below : goal.slice_copy_out-value_below
-slice_copy_out-value_below c =
-    let so_far = c.cells.invariant.taken in
-    let lowest = bit_at-trailing_zeros w64 c.cells.left (omega (arith, c.cells-test.true)) (search rules) in
-    omega (arith, so_far.same_length, c.requires.inside (trailing_zeros w64 c.cells.left) lowest.0 (so_far.still (trailing_zeros w64 c.cells.left) lowest.0 lowest.1).0)
-
-pub bounds-known-cell : goal.bounds-known-cell
-bounds-known-cell c =
+pub take_label-requires : goal.take_label-requires
+take_label-requires c =
     let so_far = c.cells.invariant.taken in
     let lowest = bit_at-trailing_zeros w64 c.cells.left (omega (arith, c.cells-test.true)) (search rules) in
     omega (arith, so_far.same_length, c.requires.inside (trailing_zeros w64 c.cells.left) lowest.0 (so_far.still (trailing_zeros w64 c.cells.left) lowest.0 lowest.1).0)
 
 pub overflow_add-cell : goal.overflow_add-cell
 overflow_add-cell c =
-    let so_far = c.cells.invariant.taken in
-    let lowest = bit_at-trailing_zeros w64 c.cells.left (omega (arith, c.cells-test.true)) (search rules) in
-    let on : c.args.first + trailing_zeros w64 c.cells.left < length c.cells.known =
-    omega (arith, so_far.same_length, c.requires.inside (trailing_zeros w64 c.cells.left) lowest.0 (so_far.still (trailing_zeros w64 c.cells.left) lowest.0 lowest.1).0) in
-    search (rules, on)
-
-pub offset_bounds-known-cell : goal.offset_bounds-known-cell
-offset_bounds-known-cell c =
-    let so_far = c.cells.invariant.taken in
-    let lowest = bit_at-trailing_zeros w64 c.cells.left (omega (arith, c.cells-test.true)) (search rules) in
-    let on : c.args.first + trailing_zeros w64 c.cells.left < length c.cells.known =
-    omega (arith, so_far.same_length, c.requires.inside (trailing_zeros w64 c.cells.left) lowest.0 (so_far.still (trailing_zeros w64 c.cells.left) lowest.0 lowest.1).0) in
-    search (rules, on)
-
-pub offset_bounds-known-cell-in-cells : goal.offset_bounds-known-cell-in-cells
-offset_bounds-known-cell-in-cells c =
     let so_far = c.cells.invariant.taken in
     let lowest = bit_at-trailing_zeros w64 c.cells.left (omega (arith, c.cells-test.true)) (search rules) in
     let on : c.args.first + trailing_zeros w64 c.cells.left < length c.cells.known =
@@ -63,15 +41,15 @@ cells-preserved-in-Continue-1 c =
     let cleared = cleared_bit c.cells.left place lowest.0 lowest.1 in
     let marked = so_far.still place lowest.0 lowest.1 in
     let on : c.args.first + place < length c.cells.known = omega (arith, so_far.same_length, c.requires.inside place lowest.0 marked.0) in
-    record {
+    rw c.take_label.ensures.taken (record {
       done = c.args.first + place + 1;
       taken = one_taken c.args.marks c.args.first c.args.known.now c.cells.known c.cells.left c.cells.invariant.done so_far place _ lowest.0 lowest.1 lowest.2 on cleared.1 cleared.2;
       rows = λ all same long begun.
           c.in_ok-push.ensures.items
           ∙ ap (λ rs. rs ++ row_of (c.args.first + place) (Some c.in-Some.value)) (c.cells.invariant.rows all same long begun)
           ∙ one_row c.args.marks c.args.first c.args.known.now c.cells.known c.cells.left c.cells.invariant.done so_far c.requires.unmarked c.args.bound all same long place lowest.0 lowest.1 lowest.2 on
-          (Some c.in-Some.value) (sym c.in-Some.is ∙ c.value_below-value.ensures);
-    }
+          (Some c.in-Some.value) (sym c.in-Some.is ∙ c.value_below.ensures ∙ ap (value_kept c.args.bound) c.take_label.ensures.label);
+    })
 
 pub cells-preserved : goal.cells-preserved
 cells-preserved c =
@@ -81,15 +59,15 @@ cells-preserved c =
     let cleared = cleared_bit c.cells.left place lowest.0 lowest.1 in
     let marked = so_far.still place lowest.0 lowest.1 in
     let on : c.args.first + place < length c.cells.known = omega (arith, so_far.same_length, c.requires.inside place lowest.0 marked.0) in
-    record {
+    rw c.take_label.ensures.taken (record {
       done = c.args.first + place + 1;
       taken = one_taken c.args.marks c.args.first c.args.known.now c.cells.known c.cells.left c.cells.invariant.done so_far place _ lowest.0 lowest.1 lowest.2 on cleared.1 cleared.2;
       rows = λ all same long begun.
           c.cells.invariant.rows all same long begun
           ∙ sym (append-nil (rows_from 0 (take (min c.cells.invariant.done (length all)) (values_kept c.args.bound all))))
           ∙ one_row c.args.marks c.args.first c.args.known.now c.cells.known c.cells.left c.cells.invariant.done so_far c.requires.unmarked c.args.bound all same long place lowest.0 lowest.1 lowest.2 on
-          None (sym c.in_default.is ∙ c.value_below-value.ensures);
-    }
+          None (sym c.in_default.is ∙ c.value_below.ensures ∙ ap (value_kept c.args.bound) c.take_label.ensures.label);
+    })
 
 pub returns-clause-values : goal.returns-clause-values
 returns-clause-values c all same long begun =
