@@ -10,5 +10,4 @@ pub mod ValueLaws
 pub mod Taking
 pub mod Ends
 pub mod Mirroring
-pub mod Lists
 pub mod CutLaws

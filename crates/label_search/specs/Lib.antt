@@ -5,7 +5,6 @@ pub mod Expanding
 pub mod Standing
 pub mod Answer
 pub mod Backward
-pub mod Listed
 pub mod Values
 pub mod Groups
 pub mod Begun

@@ -9,7 +9,6 @@ mod forward;
 mod groups;
 mod known;
 mod labels;
-mod list;
 mod offering;
 mod pick;
 mod settle;
@@ -18,9 +17,5 @@ mod values;
 pub use backward::latest_entries;
 pub use cells::{BackwardCells, Cell, Closing, ForwardCells, Opening, Part, Run};
 pub use forward::{Found, LabelRoom, Route, earliest_exits};
-pub use list::{BackwardList, ForwardList, ListedCell, are_fit};
 pub use pick::CellStep;
 pub use values::CellValue;
-
-#[cfg(test)]
-mod tests;

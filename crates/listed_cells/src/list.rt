@@ -1,10 +1,10 @@
-//! Cells in a list: the plain way to give a small network.
+//! A list of cells as a network, forward and backward.
 ghost use Rattle.std.specs.Prelude.{◌≡◌, ◌<◌, ◌^◌, ◌↔◌, length, IsTrue, All, IfSome, ⊤};
 ghost use Rattle.label_search.specs.Problem.{IsProblem};
 ghost use Rattle.label_search.specs.Backward.{IsBackwardProblem};
-ghost use Rattle.label_search.specs.Listed.{listed_problem, listed_backward, cell_at, run_of, IsFit};
+ghost use Rattle.listed_cells.specs.Listed.{listed_problem, listed_backward, cell_at, run_of, IsFit};
 
-use crate::cells::{BackwardCells, Cell, Closing, ForwardCells, Opening, Part, Run};
+use label_search::{BackwardCells, Cell, Closing, ForwardCells, Opening, Part, Run};
 
 /// A cell, how a walk may begin or end there, whether the search may end there, and two runs of cells beside it: for a
 /// search forward those that may follow, for one backward those that may come before.

@@ -1,7 +1,7 @@
 use Rattle.std.proofs.Common.{ℕ, ◌<◌, length, get_or}
-use Rattle.label_search.specs.declared.list.ListedCell.{ListedCell}
-use Rattle.label_search.specs.Listed.{IsFit}
-use Rattle.label_search.proofs.list.are_fit.Given as goal
+use Rattle.listed_cells.specs.declared.list.ListedCell.{ListedCell}
+use Rattle.listed_cells.specs.Listed.{IsFit}
+use Rattle.listed_cells.proofs.list.are_fit.Given as goal
 
 -- the cells so far are fit
 abbrev pub invariant-loop-cell : goal.invariant-loop-cell

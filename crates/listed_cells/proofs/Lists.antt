@@ -7,10 +7,10 @@ use Rattle.label_core.specs.BackwardWalks.{Finish}
 use Rattle.label_core.proofs.MirroredWalks.{option_map_some}
 use Rattle.label_search.specs.declared.cells.Run.{Run}
 use Rattle.label_search.specs.declared.cells.Closing.{Closing}
-use Rattle.label_search.specs.declared.list.ListedCell.{ListedCell}
+use Rattle.listed_cells.specs.declared.list.ListedCell.{ListedCell}
 use Rattle.label_search.specs.Problem.{IsProblem, IsIn, start_of}
 use Rattle.label_search.specs.Backward.{IsBackwardProblem, finish_of}
-use Rattle.label_search.specs.Listed.{no_cell, cell_at, run_has, is_beside, run_of, listed_problem, listed_backward, IsFit}
+use Rattle.listed_cells.specs.Listed.{no_cell, cell_at, run_has, is_beside, run_of, listed_problem, listed_backward, IsFit}
 
 either : (a b : Bool) → (a || b) ≡ true → (a ≡ true) ⊎ (b ≡ true)
 either true b e = inl refl

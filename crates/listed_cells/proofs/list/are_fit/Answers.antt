@@ -1,6 +1,6 @@
 use Rattle.std.proofs.Common.{arith}
-use Rattle.label_search.proofs.Lists.{list_is_problem, list_is_backward_problem}
-use Rattle.label_search.proofs.list.are_fit.Goals as goal
+use Rattle.listed_cells.proofs.Lists.{list_is_problem, list_is_backward_problem}
+use Rattle.listed_cells.proofs.list.are_fit.Goals as goal
 
 pub returns-clause-forward : goal.returns-clause-forward
 returns-clause-forward c _ =

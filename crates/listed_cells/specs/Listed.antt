@@ -2,7 +2,7 @@
 use Rattle.std.specs.Prelude.{ℕ, zero, suc, ◌^◌, ◌<◌, ◌≤◌, nat_le, nat_lt, Bool, false, ◌&&◌, ◌||◌, List, length, None, slice_index_or, IfSome}
 use Rattle.std.specs.Option.{option_map}
 use Rattle.label_search.specs.declared.cells.Run.{Run}
-use Rattle.label_search.specs.declared.list.ListedCell.{ListedCell}
+use Rattle.listed_cells.specs.declared.list.ListedCell.{ListedCell}
 use Rattle.label_search.specs.Problem.{Problem, start_of}
 use Rattle.label_search.specs.Backward.{BackwardProblem, finish_of}
 

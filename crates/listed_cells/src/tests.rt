@@ -1,7 +1,8 @@
 //! A taxiway from a runway R over J to a stand S1, and over J and K to a stand S2, with the windows that two holds leave.
-use crate::{
-    BackwardList, Cell, CellStep, CellValue, Closing, ForwardList, Found, LabelRoom, ListedCell,
-    Opening, Run, are_fit, earliest_exits, latest_entries,
+use crate::{BackwardList, ForwardList, ListedCell, are_fit};
+use label_search::{
+    Cell, CellStep, CellValue, Closing, Found, LabelRoom, Opening, Run, earliest_exits,
+    latest_entries,
 };
 use std::test::Fail;
 
@@ -120,7 +121,12 @@ fn arrivals_between_two_holds(rt: HostRuntime) -> Result<(), Fail> {
         route.steps.as_slice(),
         [step(0, 60, 90), step(4, 90, 110)].as_slice()
     );
+    Ok(())
+}
 
+#[test]
+fn no_arrival_a_second_late(rt: HostRuntime) -> Result<(), Fail> {
+    let mut room = LabelRoom::new(rt.alloc())?;
     let late = arrival(61, 61);
     assert!(rt; are_fit(&late));
     let Found { values, route } = earliest_exits(
