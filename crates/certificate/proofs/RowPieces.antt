@@ -85,9 +85,3 @@ route_text-by airport flight second steps labels line s l is same_steps same_lab
     ∙ ap (λ (t : List Step). route_head flight second (length t) (length l) ++ (rows_text (step_words airport) t ++ rows_text (label_words airport) l)) same_steps
     ∙ ap (λ (t : List LabelRow). route_head flight second (length steps) (length t) ++ (rows_text (step_words airport) steps ++ rows_text (label_words airport) t)) same_labels
     ∙ route_text-is airport flight second steps labels
-
--- the text of a route with the same rows
-pub route-same : (airport : Airport) (flight : List ℕ) (second : ℕ) (steps : List Step) (labels : List LabelRow) (s : List Step) (l : List LabelRow)
-    → s ≡ steps → l ≡ labels → block_text airport (Route flight second s l) ≡ block_text airport (Route flight second steps labels)
-route-same airport flight second steps labels s l same_steps same_labels =
-    ap (λ (t : List Step). block_text airport (Route flight second t l)) same_steps ∙ ap (λ (t : List LabelRow). block_text airport (Route flight second steps t)) same_labels

@@ -1,8 +1,8 @@
 //! Blocks, written at the end of a text.
-ghost use Rattle.std.specs.Prelude.{◌≡◌, ◌∷◌, ◌++◌, [], length, decimal, codes, All, OnOk, OnErr};
+ghost use Rattle.std.specs.Prelude.{◌≡◌, ◌∷◌, ◌++◌, [], length, decimal, codes, All, OnOk, OnErr, IsTrue};
 ghost use Rattle.airport_file.specs.Words.{segment_word};
 ghost use Rattle.certificate.specs.declared.block.Block.TheVariants.{Route};
-ghost use Rattle.certificate.specs.Texts.{line_text, step_words, label_words, block_text};
+ghost use Rattle.certificate.specs.Texts.{line_text, step_words, label_words, block_text, is_long};
 ghost use Rattle.certificate.specs.Printable.{HasArc, HasSegment};
 ghost use Rattle.certificate.specs.Printed.{rows_text, IsWritable, IsCutShort};
 
@@ -20,41 +20,48 @@ pub fn print_block(airport: &Airport, block: &Block, out: &mut Vec<u8>) -> Resul
     ensures ok { OnOk result (out.new.items ≡ out.old.items ++ block_text airport.now block.now) }
     ensures err { OnErr result (IsCutShort (block_text airport.now block.now) out.old.items out.new.items) }
 {
+    match short_text(block) {
+        Some(text) => push_bytes(out, text.bytes()),
+        None => print_long(airport, block, out),
+    }
+}
+
+// The same of a block that has rows. Only here is there a buffer, so that a short block clears none.
+fn print_long(airport: &Airport, block: &Block, out: &mut Vec<u8>) -> Result<(), Memory>
+    requires long { IsTrue (is_long block.now) }
+    requires writable { IsWritable airport.now block.now }
+    ensures ok { OnOk result (out.new.items ≡ out.old.items ++ block_text airport.now block.now) }
+    ensures err { OnErr result (IsCutShort (block_text airport.now block.now) out.old.items out.new.items) }
+{
+    let mut line = LineBuffer::new();
     match block {
         Block::Route {
             flight,
             second,
             steps,
             labels,
-        } => print_route(
-            airport,
-            flight,
-            *second,
-            steps.as_slice(),
-            labels.as_slice(),
-            out,
-        ),
+        } => {
+            let (steps, labels) = (steps.as_slice(), labels.as_slice());
+            write_route_head(flight, *second, steps.len(), labels.len(), &mut line);
+            print_line_and_rows(airport, &mut line, steps, labels, out)
+        }
         Block::NoRoute { labels } => {
-            let mut line = LineBuffer::new();
             write_no_route_head(labels.as_slice().len(), &mut line);
             print_rows(airport, &mut line, labels.as_slice(), out)
         }
         Block::Windows { segment, windows } => {
-            let mut line = LineBuffer::new();
             write_windows_head(airport, *segment, windows.as_slice().len(), &mut line);
             print_rows(airport, &mut line, windows.as_slice(), out)
         }
         Block::Occupancy { segment, held } => {
-            let mut line = LineBuffer::new();
             write_occupancy_head(airport, *segment, held.as_slice().len(), &mut line);
             print_rows(airport, &mut line, held.as_slice(), out)
         }
         Block::Timetable { flights } => {
-            let mut line = LineBuffer::new();
             write_timetable_head(flights.as_slice().len(), &mut line);
             print_rows(airport, &mut line, flights.as_slice(), out)
         }
-        _ => push_bytes(out, short_text(block).unwrap().bytes()),
+        Block::Refused(_) | Block::Filed { .. } | Block::Cancelled { .. } => unreachable!(),
     }
 }
 
