@@ -1,7 +1,9 @@
 -- A line of words, as it grows word by word.
-use Rattle.std.proofs.Common.{◌≡◌, ℕ, zero, suc, ◌+◌, ◌<◌, ◌≤◌, ◌^◌, List, [], ◌∷◌, ◌++◌, length, length-append, drop, decimal, append_assoc, refl, ◌∙◌, ap, arith}
+use Rattle.std.proofs.Common.{◌≡◌, ℕ, zero, suc, ◌+◌, ◌*◌, ◌/◌, ◌%◌, ◌<◌, ◌≤◌, ◌^◌, List, [], ◌∷◌, ◌++◌, length, length-append, drop, get_or, decimal, append_assoc, refl, ◌∙◌, ap, arith}
 use Rattle.std.proofs.lemmas.List.{length-drop}
 use Rattle.std.proofs.lemmas.Fmt.{length-decimal-le}
+use Rattle.itoa.proofs.Decimal.{PAIRS_at}
+use Rattle.certificate.specs.declared.digits.TheConstants.{PAIRS}
 use Rattle.certificate.specs.Texts.{line_text, and_words}
 
 and_words-append : (front text : List ℕ) (words : List (List ℕ)) → and_words (front ++ text) words ≡ front ++ and_words text words
@@ -19,11 +21,9 @@ line_text-and_words first (word ∷ words) =
 
 -- ---- a line that is written from its end
 
-pub has-room : (n start : ℕ) (bytes : List ℕ) → n < 2 ^ 64 → start ≤ 1536 → length bytes ≡ 1536 → length (drop start bytes) + 20 ≤ 1536
-    → (length (decimal n) ≤ start) × (start ≤ length bytes)
-has-room n start bytes fits low long room =
-    let digits = length-decimal-le 20 n (omega arith) (omega (arith, fits)) fits in
-    (omega (arith, digits, room, long, low, length-drop start bytes), omega (arith, low, long))
+pub has-room : (start : ℕ) (bytes old : List ℕ) → start ≤ 1536 → length bytes ≡ 1536 → drop start bytes ≡ old → length old + 21 ≤ 1536
+    → (20 ≤ start) × (start ≤ length bytes)
+has-room start bytes old low long is room = (omega (arith, ap length is, room, long, low, length-drop start bytes), omega (arith, low, long))
 
 pub length-with_number : (n : ℕ) (old new : List ℕ) → n < 2 ^ 64 → new ≡ decimal n ++ old → length new ≤ length old + 20
 length-with_number n old new fits is =
@@ -34,3 +34,7 @@ drop-whole [] zero long = refl
 drop-whole [] (suc n) long = refl
 drop-whole (x ∷ xs) zero long = absurd (omega (arith, long))
 drop-whole (x ∷ xs) (suc n) long = drop-whole xs n (omega (arith, long))
+
+-- the two digits of a number below 100, which itoa keeps in the same order
+pub pair_at : (p : ℕ) → p < 100 → (get_or PAIRS (p * 2) 0 ≡ 48 + p / 10) × (get_or PAIRS (p * 2 + 1) 0 ≡ 48 + p % 10)
+pair_at p low = PAIRS_at p low

@@ -2,6 +2,7 @@
 #![tactic(auto)]
 
 mod block;
+mod digits;
 mod laws;
 mod line;
 mod line_buffer;

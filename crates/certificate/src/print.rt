@@ -107,13 +107,10 @@ fn write_route_head(flight: &Name, second: Time, steps: usize, labels: usize, li
 {
     line.begin();
     line.put_number(labels as u64);
-    line.put_byte(b' ');
     line.put_number(steps as u64);
-    line.put_byte(b' ');
     line.put_number(u64::from(second));
-    line.put_byte(b' ');
-    line.put(flight.bytes());
-    line.put(b"route ");
+    line.put_name(flight);
+    line.put(b"route");
 }
 
 fn write_no_route_head(labels: usize, line: &mut LineBuffer)
@@ -121,7 +118,7 @@ fn write_no_route_head(labels: usize, line: &mut LineBuffer)
 {
     line.begin();
     line.put_number(labels as u64);
-    line.put(b"no-route ");
+    line.put(b"no-route");
 }
 
 fn write_windows_head(airport: &Airport, segment: Segment, windows: usize, line: &mut LineBuffer)
@@ -130,9 +127,8 @@ fn write_windows_head(airport: &Airport, segment: Segment, windows: usize, line:
 {
     line.begin();
     line.put_number(windows as u64);
-    line.put_byte(b' ');
     line.put_segment(airport, segment);
-    line.put(b"windows ");
+    line.put(b"windows");
 }
 
 fn write_occupancy_head(airport: &Airport, segment: Segment, held: usize, line: &mut LineBuffer)
@@ -141,9 +137,8 @@ fn write_occupancy_head(airport: &Airport, segment: Segment, held: usize, line: 
 {
     line.begin();
     line.put_number(held as u64);
-    line.put_byte(b' ');
     line.put_segment(airport, segment);
-    line.put(b"occupancy ");
+    line.put(b"occupancy");
 }
 
 fn write_timetable_head(flights: usize, line: &mut LineBuffer)
@@ -151,5 +146,5 @@ fn write_timetable_head(flights: usize, line: &mut LineBuffer)
 {
     line.begin();
     line.put_number(flights as u64);
-    line.put(b"timetable ");
+    line.put(b"timetable");
 }

@@ -34,11 +34,9 @@ impl Row for Step {
     fn write(&self, airport: &Airport, line: &mut LineBuffer) {
         line.put_byte(b'\n');
         line.put_number(u64::from(self.leave));
-        line.put_byte(b' ');
         line.put_number(u64::from(self.enter));
-        line.put_byte(b' ');
         line.put_arc(airport, self.arc);
-        line.put(b"step ");
+        line.put(b"step");
     }
 }
 
@@ -50,13 +48,10 @@ impl Row for LabelRow {
     fn write(&self, airport: &Airport, line: &mut LineBuffer) {
         line.put_byte(b'\n');
         line.put_number(u64::from(self.value));
-        line.put_byte(b' ');
         line.put_number(u64::from(self.until));
-        line.put_byte(b' ');
         line.put_number(u64::from(self.from));
-        line.put_byte(b' ');
         line.put_arc(airport, self.arc);
-        line.put(b"label ");
+        line.put(b"label");
     }
 }
 
@@ -69,9 +64,8 @@ impl Row for Span {
         let _names = airport;
         line.put_byte(b'\n');
         line.put_number(u64::from(self.until));
-        line.put_byte(b' ');
         line.put_number(u64::from(self.from));
-        line.put(b"window ");
+        line.put(b"window");
     }
 }
 
@@ -83,13 +77,10 @@ impl Row for HeldRow {
     fn write(&self, airport: &Airport, line: &mut LineBuffer) {
         line.put_byte(b'\n');
         line.put_segment(airport, self.segment);
-        line.put_byte(b' ');
-        line.put(self.flight.bytes());
-        line.put_byte(b' ');
+        line.put_name(&self.flight);
         line.put_number(u64::from(self.until));
-        line.put_byte(b' ');
         line.put_number(u64::from(self.from));
-        line.put(b"held ");
+        line.put(b"held");
     }
 }
 
@@ -101,15 +92,12 @@ impl Row for FlightRow {
     fn write(&self, airport: &Airport, line: &mut LineBuffer) {
         line.put_byte(b'\n');
         line.put_number(u64::from(self.end));
-        line.put_byte(b' ');
         line.put_number(u64::from(self.start));
-        line.put_byte(b' ');
         line.put_class(airport, self.class);
-        line.put_byte(b' ');
         line.put(kind_word(self.kind));
         line.put_byte(b' ');
-        line.put(self.flight.bytes());
-        line.put(b"flight ");
+        line.put_name(&self.flight);
+        line.put(b"flight");
     }
 }
 
