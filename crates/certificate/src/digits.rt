@@ -17,10 +17,10 @@ pub(crate) fn write_number(number: u64, bytes: &mut [u8], end: usize) -> usize
     if number < 10_000 || number > 99_999 {
         return write_digits(number, bytes, end);
     }
-    let hundreds = number / 100;
-    write_pair(number % 100, bytes, end - 2);
-    write_pair(hundreds % 100, bytes, end - 4);
-    bytes[end - 5] = b'0' + (hundreds / 100) as u8;
+    let rest = number % 10_000;
+    write_pair(rest % 100, bytes, end - 2);
+    write_pair(rest / 100, bytes, end - 4);
+    bytes[end - 5] = b'0' + (number / 10_000) as u8;
     end - 5
 }
 

@@ -1,7 +1,7 @@
 use Rattle.std.proofs.Common.{◌≡◌, ◌+◌, ◌-◌, ◌/◌, arith}
 use Rattle.std.proofs.lemmas.Fmt.{decimal_digit, length-decimal-le}
 use Rattle.std.proofs.lemmas.List.{drop-set}
-use Rattle.itoa.proofs.Decimal.{decimal_pair, length_pair, length_one}
+use Rattle.itoa.proofs.Decimal.{decimal_four, length_four, length_one}
 use Rattle.certificate.proofs.digits.write_number.Goals as goal
 
 pub write_digits-requires : goal.write_digits-requires
@@ -10,17 +10,11 @@ write_digits-requires c =
     (omega (arith, length-decimal-le 20 c.args.number (omega arith) (omega (arith, fits)) fits), c.requires.1)
 
 pub returns-clause-start : goal.returns-clause-start
-returns-clause-start c =
-    let n = c.args.number in
-    let low = c.if-number-gt99999.false in
-    let fits = c.ranges.number.fits in
-    omega (arith, length_pair n (omega (arith, c.if-number-lt10000.false)) fits, length_pair (n / 100) (omega (arith, c.if-number-lt10000.false)) (omega (arith, low)), length_one (n / 100 / 100) (omega (arith, low)))
+returns-clause-start c = omega (arith, length_four c.args.number c.if-number-lt10000.false c.ranges.number.fits, length_one (c.args.number / 10000) (omega (arith, c.if-number-gt99999.false)))
 
 pub returns-clause-written : goal.returns-clause-written
 returns-clause-written c =
-    let n = c.args.number in
     let end = c.args.end in
-    let low = c.if-number-gt99999.false in
     let a : end - 5 + 1 ≡ end - 4 = omega arith in
     let b : end - 4 + 2 ≡ end - 2 = omega arith in
     let d : end - 2 + 2 ≡ end = omega arith in
@@ -31,7 +25,6 @@ returns-clause-written c =
       b,
       c.write_pair.ensures,
       d,
-      decimal_pair n (omega (arith, c.if-number-lt10000.false)) c.ranges.number.fits,
-      decimal_pair (n / 100) (omega (arith, c.if-number-lt10000.false)) (omega (arith, low)),
-      decimal_digit (n / 100 / 100) (omega (arith, low)),
+      decimal_four c.args.number c.if-number-lt10000.false c.ranges.number.fits,
+      decimal_digit (c.args.number / 10000) (omega (arith, c.if-number-gt99999.false)),
     )
