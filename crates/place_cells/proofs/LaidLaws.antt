@@ -10,7 +10,8 @@ use Rattle.window_store.specs.Store.{Store, no_list, spans_at}
 use Rattle.interval_list.specs.Intervals.{spans_of}
 use Rattle.place_cells.specs.declared.spots.Spot.{Spot}
 use Rattle.place_cells.specs.Laid.{windows_of, no_spot, spot_in, first_in, AreNumbered}
-use Rattle.place_cells.specs.Blocks.{block}
+use Rattle.place_cells.specs.Blocks.{block, stretches_for}
+use Rattle.place_cells.specs.Twins.{AreTwins}
 
 -- a segment's windows are its list's
 pub windows_of-at : (store : Store) (k : ℕ) → get_or (windows_of store) k [] ≡ spans_at store (record { 0 = k })
@@ -127,31 +128,47 @@ pub record AreNumberedTo (windows : List (List Span)) (n : ℕ) (spots : List Sp
   pub are : AreNumbered spots first
   pub count : length first ≡ suc n
   pub last : first_in first n ≡ length spots
-  pub room : (a : ℕ) → a < n → first_in first a + length (get_or windows (a / 2) []) ≤ first_in first (suc a)
+  pub sized : (a : ℕ) → a < n → first_in first (suc a) ≡ first_in first a + 8 * stretches_for (length (get_or windows (a / 2) []))
   pub apart : (a : ℕ) → a < n → AreApart 0 (get_or windows (a / 2) [])
 
 module _ (windows : List (List Span)) where
   pub none_numbered_to : AreNumberedTo windows 0 [] (0 ∷ [])
-  none_numbered_to = record { are = none_numbered; count = refl; last = refl; room = λ a on. absurd (omega (arith, on)); apart = λ a on. absurd (omega (arith, on)) }
+  none_numbered_to = record { are = none_numbered; count = refl; last = refl; sized = λ a on. absurd (omega (arith, on)); apart = λ a on. absurd (omega (arith, on)) }
 
-  pub numbered_to_more : (n room : ℕ) (spots : List Spot) (first : List ℕ) → AreNumberedTo windows n spots first → length (get_or windows (n / 2) []) ≤ room → AreApart 0 (get_or windows (n / 2) [])
+  pub numbered_to_more : (n room : ℕ) (spots : List Spot) (first : List ℕ) → AreNumberedTo windows n spots first → 8 * stretches_for (length (get_or windows (n / 2) [])) ≡ room → AreApart 0 (get_or windows (n / 2) [])
       → AreNumberedTo windows (n + 1) (spots ++ block (record { 0 = n }) room) (first ++ length (spots ++ block (record { 0 = n }) room) ∷ [])
-  numbered_to_more n room spots first to fits apart = record {
+  numbered_to_more n room spots first to size apart = record {
     are = numbered_more spots first n room to.are to.count to.last;
     count = omega (arith, length-append first (end spots first n room to.are to.count to.last ∷ []), to.count);
     last = first_end spots first n room to.are to.count to.last (n + 1) (omega arith);
-    room = λ a on. elim (cases_lt a n) [
-      | inl old ↦ omega (arith, to.room a old, first_old spots first n room to.are to.count to.last a (omega (arith, old)), first_old spots first n room to.are to.count to.last (suc a) (omega (arith, old)))
+    sized = λ a on. elim (cases_lt a n) [
+      | inl old ↦ omega (arith, to.sized a old, first_old spots first n room to.are to.count to.last a (omega (arith, old)), first_old spots first n room to.are to.count to.last (suc a) (omega (arith, old)))
       | inr new ↦
           let is : n ≡ a = omega (arith, new, on) in
-          subst (λ (b : ℕ). first_in (first ++ end spots first n room to.are to.count to.last ∷ []) b + length (get_or windows (b / 2) []) ≤ first_in (first ++ end spots first n room to.are to.count to.last ∷ []) (suc b)) is
-          (omega (arith, fits, first_old spots first n room to.are to.count to.last n (omega arith), first_end spots first n room to.are to.count to.last (suc n) refl, to.last, end_is spots first n room to.are to.count to.last))
+          subst (λ (b : ℕ). first_in (first ++ end spots first n room to.are to.count to.last ∷ []) (suc b) ≡ first_in (first ++ end spots first n room to.are to.count to.last ∷ []) b + 8 * stretches_for (length (get_or windows (b / 2) []))) is
+          (omega (arith, size, first_old spots first n room to.are to.count to.last n (omega arith), first_end spots first n room to.are to.count to.last (suc n) refl, to.last, end_is spots first n room to.are to.count to.last))
     ];
     apart = λ a on. elim (cases_lt a n) [
       | inl old ↦ to.apart a old
       | inr new ↦ let is : n ≡ a = omega (arith, new, on) in subst (λ (b : ℕ). AreApart 0 (get_or windows (b / 2) [])) is apart
     ];
   }
+
+  module _ (n : ℕ) (spots : List Spot) (first : List ℕ) (to : AreNumberedTo windows n spots first) where
+    -- so each arc has room, and both arcs of a segment have as much
+    pub roomy : (a : ℕ) → a < n → first_in first a + length (get_or windows (a / 2) []) ≤ first_in first (suc a)
+    roomy a on = omega (arith, to.sized a on)
+
+    pub twins : AreTwins first
+    twins s on =
+        let there : 2 * s / 2 ≡ s = omega arith in
+        let back : (2 * s + 1) / 2 ≡ s = omega arith in
+        let same : length (get_or windows (2 * s / 2) []) ≡ length (get_or windows ((2 * s + 1) / 2) []) = ap (λ (k : ℕ). length (get_or windows k [])) (there ∙ sym back) in
+        let one = to.sized (2 * s) (omega (arith, on, to.count)) in
+        let other = to.sized (2 * s + 1) (omega (arith, on, to.count)) in
+        let next : suc (2 * s) ≡ 2 * s + 1 = omega arith in
+        let after : suc (2 * s + 1) ≡ 2 * s + 2 = omega arith in
+        omega (arith, one, other, ap (first_in first) next, ap (first_in first) after, ap stretches_for same)
 
   -- what holds for each arc's windows holds for each segment's
   pub apart_all : (n : ℕ) → 2 * length windows ≡ n → ((a : ℕ) → a < n → AreApart 0 (get_or windows (a / 2) [])) → All (AreApart 0) windows

@@ -3,6 +3,7 @@
 #![tactic(auto)]
 
 mod answer;
+mod blocks;
 mod cut;
 mod ground;
 mod numbers;
@@ -11,6 +12,7 @@ mod room;
 mod spots;
 
 pub use answer::{rows_of, steps_of};
+pub use blocks::SpotBlocks;
 pub use ground::SearchGround;
 pub use numbers::CellNumbers;
 pub use room::SearchRoom;

@@ -1,31 +1,31 @@
 //! Numbering the cells: each arc has a block of numbers with room for windows to come, which is kept from search to search.
-ghost use Rattle.std.specs.Prelude.{◌≡◌, ◌*◌, ◌≤◌, ◌++◌, length, All, OnOk, IfOk, IsOk, IsTrue};
+ghost use Rattle.std.specs.Prelude.{◌≡◌, ◌*◌, ◌<◌, ◌≤◌, ◌^◌, length, All, OnOk, IfOk, IsOk, IsTrue};
 ghost use Rattle.taxi_base.specs.Windows.{AreApart};
 ghost use Rattle.place_cells.specs.Laid.{windows_of, AreNumbered, HaveNumbers};
-ghost use Rattle.place_cells.specs.Blocks.{block};
+ghost use Rattle.place_cells.specs.Blocks.{stretches_for};
+ghost use Rattle.place_cells.specs.Twins.{AreTwins};
 
-use crate::spots::Spot;
+use crate::blocks::{STRETCH, SpotBlocks};
 use std::alloc::Global;
 use taxi_base::{Arc, Memory, Segment};
 use window_store::WindowStore;
 
-/// How many numbers are left for windows to come in a block, beside those for as many as there are.
-const MORE: usize = 8;
-
-/// The spot of each number, and for each arc and for the end, the first number of its block. Numbers are kept from one search to
-/// the next, and laid anew where one of the blocks has become too short for the windows of its segment.
+/// The spot of each number, and for each arc and for the end, the first number of its block. Both arcs of a segment have blocks of
+/// the same length. Numbers are kept from one search to the next, and laid anew where one of the blocks has become too short for
+/// the windows of its segment.
 #[derive(Drop)]
 pub struct CellNumbers {
-    pub spots: Vec<Spot>,
-    pub first: Vec<usize>,
+    pub spots: SpotBlocks,
+    pub first: Vec<u32>,
     ghost numbered: { AreNumbered spots.items first.items },
+    ghost twins: { AreTwins first.items },
 }
 
 impl CellNumbers {
     /// No numbers.
     pub fn new(alloc: Global) -> CellNumbers {
         CellNumbers {
-            spots: Vec::new(alloc),
+            spots: SpotBlocks::new(alloc),
             first: Vec::new(alloc),
         }
     }
@@ -37,32 +37,27 @@ impl CellNumbers {
         ensures numbers { OnOk result (HaveNumbers (windows_of store.now) self.new.first.items) }
         ensures apart { IsOk result → All (AreApart 0) (windows_of store.now) }
     {
-        let arcs = 2 * segments;
-        if !self.have_room(arcs, store) {
-            *self = CellNumbers::laid(*self.first.allocator(), arcs, store)?;
+        if !self.have_room(segments, store) {
+            *self = CellNumbers::laid(*self.first.allocator(), 2 * segments, store)?;
         }
         Ok(())
     }
 
-    /// Whether so many arcs have numbers for the windows of a store.
-    fn have_room(&self, arcs: usize, store: &WindowStore) -> bool
-        requires arcs { 2 * length store.now.lists ≡ arcs }
-        requires few { arcs ≤ 20000 }
+    /// Whether the arcs on so many segments have numbers for the windows of a store.
+    fn have_room(&self, segments: usize, store: &WindowStore) -> bool
+        requires segments { length store.now.lists ≡ segments }
+        requires few { segments ≤ 10000 }
         ensures numbers { IsTrue result → HaveNumbers (windows_of store.now) self.now.first.items }
         ensures apart { IsTrue result → All (AreApart 0) (windows_of store.now) }
     {
-        if self.first.len() != arcs + 1 {
+        if self.first.len() != 2 * segments + 1 {
             return false;
         }
-        for segment in 0..arcs / 2 {
-            let windows = store.spans(Segment(segment as u32)).len();
-            let there = self.first[2 * segment];
-            let back = self.first[2 * segment + 1];
-            let end = self.first[2 * segment + 2];
-            if back - there < windows {
-                return false;
-            }
-            if end - back < windows {
+        for segment in 0..segments as u32 {
+            let windows = store.spans(Segment(segment)).len();
+            let there = self.first[2 * segment as usize];
+            let back = self.first[2 * segment as usize + 1];
+            if ((back - there) as usize) < windows {
                 return false;
             }
         }
@@ -76,45 +71,35 @@ impl CellNumbers {
         ensures numbers { IfOk result (λ n. HaveNumbers (windows_of store.now) n.first.items) }
         ensures apart { IsOk result → All (AreApart 0) (windows_of store.now) }
     {
-        let mut spots = Vec::with_capacity(alloc, numbers_for(arcs, store))?;
+        let mut spots = SpotBlocks::with_capacity(alloc, stretches_for_all(arcs, store))?;
         let mut first = Vec::with_capacity(alloc, arcs + 1)?;
         first.push(0)?;
         for arc in 0..arcs {
             let windows = store.spans(Segment((arc / 2) as u32)).len();
-            push_block(&mut spots, Arc(arc as u32), block_for(windows))?;
-            first.push(spots.len())?;
+            spots.push_block(Arc(arc as u32), stretches_for(windows))?;
+            first.push(spots.len() as u32)?;
         }
         Ok(CellNumbers { spots, first })
     }
 }
 
-/// How many numbers a block has for so many windows.
-fn block_for(windows: usize) -> usize
-    ensures { windows ≤ result }
+/// How many stretches a block has for so many windows: half as many numbers more, for windows to come.
+fn stretches_for(windows: usize) -> usize
+    requires { windows < 2 ^ 63 }
+    ensures { result ≡ stretches_for windows }
 {
-    windows.saturating_mul(2).saturating_add(MORE)
+    (windows + windows / 2) / STRETCH + 1
 }
 
-/// How many numbers so many arcs have in all. It is only told for room to be made at once.
-fn numbers_for(arcs: usize, store: &WindowStore) -> usize
+/// How many stretches so many arcs have in all. It is only told for room to be made at once.
+fn stretches_for_all(arcs: usize, store: &WindowStore) -> usize
     requires arcs { arcs ≤ 2 * length store.now.lists }
     requires few { arcs ≤ 20000 }
 {
-    let mut numbers: usize = 0;
+    let mut stretches: usize = 0;
     for arc in 0..arcs {
         let windows = store.spans(Segment((arc / 2) as u32)).len();
-        numbers = numbers.saturating_add(block_for(windows));
+        stretches = stretches.saturating_add(stretches_for(windows));
     }
-    numbers
-}
-
-/// One more block.
-fn push_block(spots: &mut Vec<Spot>, arc: Arc, room: usize) -> Result<(), Memory>
-    ensures { OnOk result (spots.new.items ≡ spots.old.items ++ block arc room) }
-{
-    spots.reserve(room)?;
-    for window in 0..room {
-        spots.push_reserved(Spot { arc, window });
-    }
-    Ok(())
+    stretches
 }

@@ -16,7 +16,6 @@ use crate::cut::part_between;
 use crate::ground::SearchGround;
 use crate::spots::{ArcRow, Beside, CellPlace, Spot};
 use label_search::{Cell, Part, Run};
-use segment_graph::segment_of;
 use taxi_base::{Arc, Node, Span, Time};
 
 impl<'a> SearchGround<'a> {
@@ -32,7 +31,7 @@ impl<'a> SearchGround<'a> {
     pub fn place(&self, cell: usize) -> CellPlace
         ensures { place_of result ≡ place_at (cells_of (ground_of self.now)) cell }
     {
-        if cell >= self.numbers.spots.len() {
+        if cell >= self.count() {
             return CellPlace {
                 arc: Arc(0),
                 window: Span { from: 0, until: 0 },
@@ -47,7 +46,7 @@ impl<'a> SearchGround<'a> {
         requires { cell < length (cells_of (ground_of self.now)) }
         ensures { place_of result ≡ place_at (cells_of (ground_of self.now)) cell }
     {
-        let spot = self.numbers.spots[cell];
+        let spot = self.numbers.spots.at(cell);
         CellPlace {
             arc: spot.arc,
             window: self.window(spot),
@@ -98,7 +97,7 @@ impl<'a> SearchGround<'a> {
         requires { spot.arc.0 / 2 < length self.now.store.now.lists }
         ensures { result ≡ window_of_spot (windows_of self.now.store.now) spot }
     {
-        let row = self.store.spans(segment_of(spot.arc));
+        let row = self.store.spans(spot.arc.segment());
         if spot.window < row.len() {
             row[spot.window]
         } else {
@@ -147,9 +146,7 @@ impl<'a> SearchGround<'a> {
     fn seconds(&self, arc: Arc) -> Time
         ensures { result ≡ unwrap_or (seconds_in self.now.classes.now.table self.now.class (segment_of arc)) 1 }
     {
-        self.classes
-            .seconds(self.class, segment_of(arc))
-            .unwrap_or(1)
+        self.classes.seconds(self.class, arc.segment()).unwrap_or(1)
     }
 
     /// Whether the graph has the arc, and the class may use it.
@@ -157,7 +154,7 @@ impl<'a> SearchGround<'a> {
     pub fn can_use(&self, arc: Arc) -> bool
         ensures { result ≡ can_use_in (ground_of self.now) arc }
     {
-        self.graph.exists(arc) && self.classes.seconds(self.class, segment_of(arc)).is_some()
+        self.graph.exists(arc) && self.classes.seconds(self.class, arc.segment()).is_some()
     }
 
     /// The arcs that may follow an arc.
@@ -227,8 +224,8 @@ impl<'a> SearchGround<'a> {
         requires { IsTrue (arc_exists (ground_of self.now).layout arc) }
         ensures { result ≡ run_of_arc (ground_of self.now) arc }
     {
-        let first = self.numbers.first[arc.0 as usize];
-        let windows = self.store.spans(segment_of(arc)).len();
+        let first = self.numbers.first[arc.0 as usize] as usize;
+        let windows = self.store.spans(arc.segment()).len();
         Run {
             first,
             until: first + windows,
@@ -242,11 +239,11 @@ impl<'a> SearchGround<'a> {
         ensures part { IsArcPart (ground_of self.now) arc low high result.run }
         ensures told { (k : ℕ) → IsIn result.run k → TellsCell (ground_of self.now) result.row k }
     {
-        match self.classes.seconds(self.class, segment_of(arc)) {
+        match self.classes.seconds(self.class, arc.segment()) {
             None => no_cells(),
             Some(seconds) => {
-                let first = self.numbers.first[arc.0 as usize];
-                let windows = self.store.spans(segment_of(arc));
+                let first = self.numbers.first[arc.0 as usize] as usize;
+                let windows = self.store.spans(arc.segment());
                 let part = part_between(windows, low, high);
                 Part {
                     run: Run {

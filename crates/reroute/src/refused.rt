@@ -1,9 +1,8 @@
 //! Why a flight is not routed anew.
 ghost use Rattle.std.specs.Prelude.{◌≡◌, ◌<◌, length};
-ghost use Rattle.taxi_base.specs.Walks.{begin_of, end_of};
 ghost use Rattle.reroute.specs.Refused.{flight_refusal};
 
-use taxi_base::{Flight, Memory, Request, Step, Time};
+use taxi_base::{Flight, Memory, Request, Time, begin_of, end_of};
 use thiserror::Error;
 
 /// Why a flight is not routed anew.
@@ -48,20 +47,4 @@ pub(crate) fn flight_refusal(flight: &Flight, time: Time, diverted: bool) -> Opt
         Request::Departure { .. } if start <= time => Some(RerouteRefused::AlreadyMoving { start }),
         _ => None,
     }
-}
-
-// When a route begins.
-fn begin_of(steps: &[Step]) -> Time
-    requires { 0 < length steps.now }
-    ensures { result ≡ begin_of steps.now }
-{
-    steps[0].enter
-}
-
-// When a route ends.
-fn end_of(steps: &[Step]) -> Time
-    requires { 0 < length steps.now }
-    ensures { result ≡ end_of steps.now }
-{
-    steps[steps.len() - 1].leave
 }

@@ -1,10 +1,11 @@
 //! The search for the way that a flight takes anew.
-ghost use Rattle.std.specs.Prelude.{◌≡◌, ◌-◌, ◌^◌, ◌<◌, ◌≤◌, length, All, IfOk, None, is_some};
+ghost use Rattle.std.specs.Prelude.{◌≡◌, ◌+◌, ◌≤◌, max, min, length, All, IfOk, IfSome, None, is_some};
 ghost use Rattle.taxi_base.specs.Airport.{clearance_of};
 ghost use Rattle.taxi_base.specs.Walks.{conditions_in_windows, Meets};
 ghost use Rattle.taxi_base.specs.declared.numbers.Node.{Node as NodeNumber};
 ghost use Rattle.taxi_base.specs.Again.{AnswersAgain};
 ghost use Rattle.place_cells.specs.Laid.{windows_of};
+ghost use Rattle.forward_search.specs.declared.starting.Start.TheVariants as start;
 ghost use Rattle.reroute.specs.Refused.{flight_refusal};
 ghost use Rattle.reroute.specs.Anew.{IsMeant};
 
@@ -14,7 +15,7 @@ use backward_search::depart_in;
 use forward_search::{Start, arrive_in};
 use place_cells::SearchRoom;
 use std::alloc::Global;
-use taxi_base::{Flight, Found, Memory, Node, Request, Time};
+use taxi_base::{Flight, Found, Memory, Node, Request, Step, Time};
 use window_store::WindowStore;
 
 /// Searches in a store's windows for the way that a flight takes from a time on, to the node that is meant. An arrival goes on
@@ -47,26 +48,12 @@ pub(crate) fn find_anew(
             hold,
         } => {
             let target = to.unwrap_or(own);
-            match under_way(flight.steps.as_slice(), time) {
-                None => {
-                    let start = Start::Node {
-                        from,
-                        earliest: asked.max(time),
-                        latest: asked.saturating_add(hold),
-                    };
-                    arrive_in(alloc, room, airport, store, start, class, target, clearance)
-                }
-                Some((begun, done)) => {
-                    let start = Start::Frozen {
-                        arc: begun.arc,
-                        enter: begun.enter,
-                        exit_from: time,
-                    };
-                    let rest = arrive_in(
-                        alloc, room, airport, store, start, class, target, clearance,
-                    )?;
-                    after_steps(alloc, done, rest)
-                }
+            let way = under_way(flight.steps.as_slice(), time);
+            let start = start_anew(way, time, from, asked, hold);
+            let rest = arrive_in(alloc, room, airport, store, start, class, target, clearance)?;
+            match way {
+                None => Ok(rest),
+                Some((_, done)) => after_steps(alloc, done, rest),
             }
         }
         Request::Departure {
@@ -81,5 +68,30 @@ pub(crate) fn find_anew(
                 alloc, room, airport, store, from, target, class, earliest, asked, clearance,
             )
         }
+    }
+}
+
+// How an arrival begins from a time on: with what is left of the step under way, or at the node where it asked to begin.
+fn start_anew(
+    way: Option<(&Step, &[Step])>,
+    time: Time,
+    from: Node,
+    asked: Time,
+    hold: Time,
+) -> Start
+    ensures node { way.entry ≡ None → result ≡ start.Node from (max asked time) (min (asked + hold) 4294967295) }
+    ensures step { IfSome way.entry (λ w. result ≡ start.Frozen w.0.now.arc w.0.now.enter time) }
+{
+    match way {
+        None => Start::Node {
+            from,
+            earliest: asked.max(time),
+            latest: asked.saturating_add(hold),
+        },
+        Some((begun, _)) => Start::Frozen {
+            arc: begun.arc,
+            enter: begun.enter,
+            exit_from: time,
+        },
     }
 }

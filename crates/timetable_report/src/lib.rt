@@ -2,12 +2,11 @@
 #![tactic(auto)]
 
 ghost use Rattle.std.specs.Prelude.{◌≡◌, ◌<◌, length, IfOk};
-ghost use Rattle.taxi_base.specs.Walks.{begin_of, end_of};
 ghost use Rattle.taxi_base.specs.Reports.{kind_of_request, flight_row, timetable_rows};
 
 use commitments::Ledger;
 use std::alloc::Global;
-use taxi_base::{Flight, FlightKind, FlightRow, List, Memory, Request, Step, Time};
+use taxi_base::{Flight, FlightKind, FlightRow, List, Memory, Request, begin_of, end_of};
 
 /// One row for each flight in force, by rising names. The seconds are the first enter and the last leave of its route.
 pub fn timetable(alloc: Global, ledger: &Ledger) -> Result<List<FlightRow>, Memory>
@@ -42,20 +41,4 @@ fn kind_of(request: &Request) -> FlightKind
         Request::Arrival { .. } => FlightKind::Arrival,
         Request::Departure { .. } => FlightKind::Departure,
     }
-}
-
-// When a route begins.
-fn begin_of(steps: &[Step]) -> Time
-    requires { 0 < length steps.now }
-    ensures { result ≡ begin_of steps.now }
-{
-    steps[0].enter
-}
-
-// When a route ends.
-fn end_of(steps: &[Step]) -> Time
-    requires { 0 < length steps.now }
-    ensures { result ≡ end_of steps.now }
-{
-    steps[steps.len() - 1].leave
 }
