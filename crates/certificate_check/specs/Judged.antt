@@ -51,6 +51,18 @@ brings_flight (ArrivalAny flight class from time hold stands) = true
 brings_flight (DepartureAny flight class from time queue nodes) = true
 brings_flight _ = false
 
+-- whether it seeks a walk to one node for it
+abbrev pub is_search : Command → Bool
+is_search (Arrival flight class from to time hold) = true
+is_search (Departure flight class from to time queue) = true
+is_search _ = false
+
+-- whether it seeks a walk to the best of several
+abbrev pub is_choice : Command → Bool
+is_choice (ArrivalAny flight class from time hold stands) = true
+is_choice (DepartureAny flight class from time queue nodes) = true
+is_choice _ = false
+
 -- where a refusal is due, the block is that refusal
 abbrev pub IsDueForm : Airport → State → Command → Block → Type 0
 IsDueForm airport state command block =

@@ -1,5 +1,5 @@
 //! The check of the block that answers a line.
-ghost use Rattle.std.specs.Prelude.{◌≡◌, ◌↔◌, false, IsTrue, Some};
+ghost use Rattle.std.specs.Prelude.{◌≡◌, ◌↔◌, true, false, IsTrue, Some};
 ghost use Rattle.taxi_base.specs.declared.answers.Refusal.TheVariants as refusal;
 ghost use Rattle.taxi_text.specs.Commands.{command_of};
 ghost use Rattle.certificate.specs.declared.block.Block.TheVariants.{Refused};
@@ -7,7 +7,7 @@ ghost use Rattle.certificate.specs.Asked.{IsInGrammar};
 ghost use Rattle.certificate.specs.Replies.{NeedsNoMemory};
 ghost use Rattle.checked_state.specs.Flights.{state_of};
 ghost use Rattle.certificate_check.specs.Desk.{IsReady};
-ghost use Rattle.certificate_check.specs.Judged.{brings_flight, IsJudged};
+ghost use Rattle.certificate_check.specs.Judged.{brings_flight, is_search, is_choice, IsJudged};
 ghost use Rattle.certificate_check.specs.Checker.{ChecksIn, IsBadLineChecked, answer_of};
 
 use crate::CheckRefused;
@@ -101,6 +101,41 @@ fn judge(
     ensures ready { IsReady airport.now held.new known.new }
 {
     match command {
+        Command::File {
+            flight,
+            class,
+            start,
+            steps,
+        } => {
+            let route = filed_route(flight, class, *start, steps.as_slice());
+            check_file(alloc, airport, held, known, &route, block)
+        }
+        Command::Arrival { .. } | Command::Departure { .. } => {
+            judge_search(alloc, airport, held, known, command, block)
+        }
+        Command::ArrivalAny { .. } | Command::DepartureAny { .. } => {
+            judge_choice(alloc, airport, held, known, command, block)
+        }
+        _ => judge_other(alloc, airport, held, known, command, block),
+    }
+}
+
+// The same of a command that seeks a walk to one node for a new flight.
+fn judge_search(
+    alloc: Global,
+    airport: &Airport,
+    held: &mut HeldFlights,
+    known: &mut KnownWindows,
+    command: &Command,
+    block: &Block,
+) -> Result<Option<Rule>, Memory>
+    requires search { is_search command.now ≡ true }
+    requires grammar { IsInGrammar command.now }
+    requires ready { IsReady airport.now held.old known.old }
+    ensures judged { IsJudged airport.now command.now block.now (state_of held.old) result (state_of held.new) }
+    ensures ready { IsReady airport.now held.new known.new }
+{
+    match command {
         Command::Arrival {
             flight,
             class,
@@ -123,15 +158,26 @@ fn judge(
             let new = new_flight(flight, class, from, to, *time, *queue);
             check_departure_block(alloc, airport, held, known, &new, block)
         }
-        Command::File {
-            flight,
-            class,
-            start,
-            steps,
-        } => {
-            let route = filed_route(flight, class, *start, steps.as_slice());
-            check_file(alloc, airport, held, known, &route, block)
-        }
+        _ => unreachable!(),
+    }
+}
+
+// The same of a command that seeks a walk to the best of several nodes for a new flight.
+fn judge_choice(
+    alloc: Global,
+    airport: &Airport,
+    held: &mut HeldFlights,
+    known: &mut KnownWindows,
+    command: &Command,
+    block: &Block,
+) -> Result<Option<Rule>, Memory>
+    requires choice { is_choice command.now ≡ true }
+    requires grammar { IsInGrammar command.now }
+    requires ready { IsReady airport.now held.old known.old }
+    ensures judged { IsJudged airport.now command.now block.now (state_of held.old) result (state_of held.new) }
+    ensures ready { IsReady airport.now held.new known.new }
+{
+    match command {
         Command::ArrivalAny {
             flight,
             class,
@@ -154,7 +200,7 @@ fn judge(
             let new = new_choice(flight, class, from, nodes.as_slice(), *time, *queue);
             check_departure_any(alloc, airport, held, known, &new, block)
         }
-        _ => judge_other(alloc, airport, held, known, command, block),
+        _ => unreachable!(),
     }
 }
 
@@ -193,12 +239,7 @@ fn judge_other(
             check_work(airport, held, known, &new, block)
         }
         Command::WorkDone { name } => check_work_done(airport, held, known, name, block),
-        // These bring one.
-        Command::Arrival { .. }
-        | Command::Departure { .. }
-        | Command::File { .. }
-        | Command::ArrivalAny { .. }
-        | Command::DepartureAny { .. } => Ok(None),
+        _ => unreachable!(),
     }
 }
 
