@@ -14,7 +14,7 @@ use Rattle.certificate.specs.Passes.{IsPassed}
 use Rattle.certificate.proofs.ReplyLaws.{IsAnswered-sound, due-command, due-bad_line}
 use Rattle.certificate.proofs.PassLaws.{reply-passes}
 use Rattle.taxi_engine.specs.Engine.{EngineState, MayWantMemory, WantsMemory, Answers}
-use Rattle.taxi_engine.specs.Accepted.{IsDone, IsDoneOrMemory}
+use Rattle.taxi_engine.specs.Done.{IsDone, IsDoneOrMemory}
 
 -- a command that may want for memory is none of those that need none
 wants-needs : (airport : Airport) (state : State) (c : Command) → MayWantMemory airport state c → NeedsNoMemory (Some c) → ⊥

@@ -20,10 +20,12 @@ use Rattle.certificate.specs.Refusals.{first_refusal}
 use Rattle.certificate.specs.CarriedOut.{chosen_reply}
 use Rattle.certificate.specs.Replies.{refused}
 use Rattle.certificate.proofs.FoundLaws.{labels_of_chosen, chosen-printable}
-use Rattle.taxi_engine.specs.declared.choosing.AskedAny.{AskedAny}
+use Rattle.command_refusals.specs.declared.choosing.AskedAny.{AskedAny}
 use Rattle.taxi_engine.specs.Engine.{EngineState, MayWantMemory}
-use Rattle.taxi_engine.specs.Accepted.{IsRefused, IsDone, IsDoneOrMemory}
-use Rattle.taxi_engine.specs.Choosing.{AreAnyNamed, IsChosenTold}
+use Rattle.command_refusals.specs.Accepted.{IsRefused}
+use Rattle.taxi_engine.specs.Done.{IsDone, IsDoneOrMemory}
+use Rattle.command_refusals.specs.Named.{AreAnyNamed}
+use Rattle.taxi_engine.specs.Choosing.{IsChosenTold}
 use Rattle.taxi_engine.proofs.DueLaws.{refusal-due}
 use Rattle.taxi_engine.proofs.RouteLaws.{printable-arcs}
 

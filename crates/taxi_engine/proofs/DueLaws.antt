@@ -1,19 +1,16 @@
 -- What a command is due, from what is known of the names in it.
-use Rattle.std.proofs.Common.{◌≡◌, ◌<◌, List, ℕ, true, false, Some, None, refl}
-use Rattle.std.proofs.lemmas.Bool.{lt-leb}
+use Rattle.std.proofs.Common.{◌≡◌, ℕ, List, true, false, Some, None, refl}
 use Rattle.taxi_base.specs.declared.numbers.Segment.{Segment}
 use Rattle.taxi_base.specs.declared.rows.HeldRow.{HeldRow}
 use Rattle.taxi_base.specs.declared.answers.Refusal.{Refusal}
 use Rattle.taxi_base.specs.declared.answers.Refusal.TheVariants as refusal
 use Rattle.taxi_base.specs.Airport.{Airport, segment_named}
-use Rattle.taxi_base.specs.State.{State, holder_count, has_holder, parties_without, with_party, without}
-use Rattle.taxi_base.specs.Faults.{hold_fault}
+use Rattle.taxi_base.specs.State.{State, parties_without, without}
 use Rattle.taxi_base.specs.Reports.{AreHeldRows}
 use Rattle.taxi_text.specs.declared.command.Command.{Command}
 use Rattle.taxi_text.specs.declared.command.Command.TheVariants as command
-use Rattle.certificate.specs.declared.block.Block.TheVariants.{Refused, Filed, Cancelled, Windows, Occupancy}
-use Rattle.certificate.specs.Refusals.{is_in_force, is_at_work, most_holders, first_refusal}
-use Rattle.certificate.specs.Asked.{party_of}
+use Rattle.certificate.specs.declared.block.Block.TheVariants.{Refused, Cancelled, Windows, Occupancy}
+use Rattle.certificate.specs.Refusals.{is_in_force, is_at_work, first_refusal}
 use Rattle.certificate.specs.CarriedOut.{windows_among}
 use Rattle.certificate.specs.Replies.{IsDueTo}
 
@@ -40,18 +37,6 @@ module _ (airport : Airport) (state : State) where
   pub occupancy-due : (name : List ℕ) (segment : Segment) (rows : List HeldRow) → segment_named airport name ≡ Some segment → AreHeldRows airport state segment rows
       → IsDueTo airport state (command.Occupancy name) (Occupancy segment rows) state
   occupancy-due name segment rows e held = rw e (record { segment = segment; rows = rows; known = e; held = held; reply = (refl, refl) })
-
-  pub work-due : (name segment_name : List ℕ) (from until : ℕ) (segment : Segment) → has_holder name state ≡ false → segment_named airport segment_name ≡ Some segment
-      → holder_count state < most_holders → hold_fault airport state (record { segment = segment; span = record { from = from; until = until } }) ≡ None
-      → IsDueTo airport state (command.Work name segment_name from until) (Filed name from until) (with_party (party_of name segment from until) state)
-  work-due name segment_name from until segment absent known room faultless =
-      rw (absent, known, lt-leb most_holders (holder_count state) room, faultless) (record { segment = segment; segment_known = known; reply = (refl, refl) })
-
-  -- once all is tried, nothing is refused
-  pub work-unrefused : (name segment_name : List ℕ) (from until : ℕ) (segment : Segment) → has_holder name state ≡ false → segment_named airport segment_name ≡ Some segment
-      → holder_count state < most_holders → hold_fault airport state (record { segment = segment; span = record { from = from; until = until } }) ≡ None
-      → first_refusal airport state (command.Work name segment_name from until) ≡ None
-  work-unrefused name segment_name from until segment absent known room faultless = rw (absent, known, lt-leb most_holders (holder_count state) room, faultless) refl
 
   pub work_done-due : (name : List ℕ) → is_at_work name state ≡ true
       → IsDueTo airport state (command.WorkDone name) (Cancelled name) (record state { parties = parties_without name state.parties })

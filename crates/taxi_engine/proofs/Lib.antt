@@ -1,5 +1,3 @@
-pub mod StepsMade
-pub mod FiledDue
 pub mod DueLaws
 pub mod TakenOut
 pub mod AnswerLaws

@@ -20,8 +20,8 @@ use Rattle.reroute.specs.declared.refused.RerouteRefused.{RerouteRefused}
 use Rattle.reroute.specs.declared.refused.RerouteRefused.TheVariants as reroute
 use Rattle.reroute.specs.Refused.{flight_refusal, again_refusal}
 use Rattle.taxi_engine.specs.Engine.{EngineState, MayWantMemory}
-use Rattle.taxi_engine.specs.Accepted.{IsDone, IsDoneOrMemory}
-use Rattle.taxi_engine.specs.Routed.{is_of_kind}
+use Rattle.taxi_engine.specs.Done.{IsDone, IsDoneOrMemory}
+use Rattle.command_refusals.specs.Named.{is_of_kind}
 use Rattle.taxi_engine.specs.Rerouted.{refusal_told, IsFoundAgainTold, IsToldAgain}
 use Rattle.taxi_engine.proofs.DueLaws.{refusal-due}
 

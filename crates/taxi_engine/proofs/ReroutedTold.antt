@@ -31,7 +31,7 @@ use Rattle.reroute.specs.declared.refused.RerouteRefused.TheVariants as reroute
 use Rattle.reroute.specs.Refused.{again_refusal}
 use Rattle.reroute.specs.Anew.{IsMeant, IsFoundAnew}
 use Rattle.taxi_engine.specs.Engine.{EngineState}
-use Rattle.taxi_engine.specs.Accepted.{IsDone}
+use Rattle.taxi_engine.specs.Done.{IsDone}
 use Rattle.taxi_engine.specs.Routed.{IsToldOrMemory}
 use Rattle.taxi_engine.specs.Rerouted.{request_to, IsOnAnother, IsToldAgain}
 use Rattle.taxi_engine.proofs.RouteLaws.{label-arcs_again}

@@ -10,10 +10,11 @@ use Rattle.taxi_text.specs.declared.command.Command.TheVariants as command
 use Rattle.certificate.specs.Asked.{AnswersRequest}
 use Rattle.certificate.specs.Refusals.{first_refusal}
 use Rattle.certificate.specs.CarriedOut.{found_reply, routed_flight}
-use Rattle.taxi_engine.specs.declared.asking.Asked.{Asked}
+use Rattle.command_refusals.specs.declared.asking.Asked.{Asked}
 use Rattle.taxi_engine.specs.Engine.{EngineState}
-use Rattle.taxi_engine.specs.Accepted.{IsDoneOrMemory}
-use Rattle.taxi_engine.specs.Routed.{AreNamed, IsFoundTold}
+use Rattle.taxi_engine.specs.Done.{IsDoneOrMemory}
+use Rattle.command_refusals.specs.Named.{AreNamed}
+use Rattle.taxi_engine.specs.Routed.{IsFoundTold}
 
 module _ (old new : EngineState) (flight class from to : List ℕ) (asked : Asked) (named : AreNamed old.airport class from to asked) (found : Result Found Memory) where
   pub arrival-done : (time hold : ℕ) → first_refusal old.airport old.state (command.Arrival flight class from to time hold) ≡ None

@@ -1,5 +1,5 @@
 -- The state once a flight or a work party that was in force is taken out.
-use Rattle.std.proofs.Common.{◌≡◌, ◌∙◌, ℕ, true, false, List, Option, Some, None, is_some, sym, subst}
+use Rattle.std.proofs.Common.{◌≡◌, ℕ, true, false, List, Option, Some, None, is_some, sym, subst}
 use Rattle.std.specs.Prelude.{IfNone, IfSome}
 use Rattle.taxi_base.specs.declared.answers.Flight.{Flight}
 use Rattle.taxi_base.specs.declared.answers.Party.{Party}

@@ -1,25 +1,17 @@
 -- What a part of the engine has done for a choice of nodes. No public clause cites these.
-use Rattle.std.specs.Prelude.{ℕ, ◌≡◌, ◌⊎◌, List, Some, Result, Ok}
+use Rattle.std.specs.Prelude.{ℕ, ◌≡◌, ◌⊎◌, List, Result, Ok}
 use Rattle.taxi_base.specs.declared.numbers.Class.{Class}
-use Rattle.taxi_base.specs.declared.numbers.Node.{Node}
 use Rattle.taxi_base.specs.declared.answers.Chosen.{Chosen}
 use Rattle.taxi_base.specs.declared.answers.Refusal.TheVariants as refusal
 use Rattle.taxi_base.specs.declared.collections.Memory.{Memory}
-use Rattle.taxi_base.specs.Airport.{Airport, class_named, node_named}
-use Rattle.certificate.specs.Asked.{Choice, arrival_any, departure_any, nodes_named}
+use Rattle.certificate.specs.Asked.{Choice, arrival_any, departure_any}
 use Rattle.certificate.specs.CarriedOut.{chosen_reply}
 use Rattle.certificate.specs.Replies.{refused}
-use Rattle.taxi_engine.specs.declared.choosing.AskedAny.{AskedAny}
+use Rattle.command_refusals.specs.declared.choosing.AskedAny.{AskedAny}
 use Rattle.taxi_engine.specs.declared.choosing.Wanted.{Wanted}
 use Rattle.taxi_engine.specs.declared.choosing.Wanted.TheVariants.{Arrival, Departure}
 use Rattle.taxi_engine.specs.Engine.{EngineState}
-use Rattle.taxi_engine.specs.Accepted.{IsDone}
-
--- the class and the nodes are those that the words name
-pub record AreAnyNamed (airport : Airport) (class from : List ℕ) (names : List (List ℕ)) (asked : AskedAny) : Type 0 where
-  pub class_known : class_named airport class ≡ Some asked.class
-  pub from_known : node_named airport from ≡ Some asked.from
-  pub nodes_known : nodes_named airport names ≡ Some asked.nodes
+use Rattle.taxi_engine.specs.Done.{IsDone}
 
 -- the choice that is asked for
 abbrev pub choice_of : AskedAny → Wanted → Choice

@@ -1,5 +1,5 @@
 pub mod Engine
-pub mod Accepted
+pub mod Done
 pub mod Routed
 pub mod Rerouted
 pub mod Choosing

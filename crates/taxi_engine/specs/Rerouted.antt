@@ -18,7 +18,7 @@ use Rattle.reroute.specs.declared.refused.RerouteRefused.TheVariants as reroute
 use Rattle.reroute.specs.Refused.{again_refusal}
 use Rattle.reroute.specs.Anew.{IsMeant}
 use Rattle.taxi_engine.specs.Engine.{EngineState}
-use Rattle.taxi_engine.specs.Accepted.{IsDone}
+use Rattle.taxi_engine.specs.Done.{IsDone}
 
 -- the refusal that is told
 abbrev pub refusal_told : RerouteRefused → Refusal

@@ -1,32 +1,18 @@
 -- What a part of the engine has done for a route that is searched for. No public clause cites these.
-use Rattle.std.specs.Prelude.{ℕ, ◌≡◌, ◌<◌, ◌⊎◌, Bool, false, List, slice_get, Some, Result, Ok}
-use Rattle.std.specs.Option.{option_map_or}
-use Rattle.taxi_base.specs.declared.numbers.Node.{Node}
-use Rattle.taxi_base.specs.declared.rows.Kind.{Kind}
+use Rattle.std.specs.Prelude.{ℕ, ◌≡◌, ◌<◌, ◌⊎◌, false, List, Result, Ok}
 use Rattle.taxi_base.specs.declared.rows.Step.{Step}
 use Rattle.taxi_base.specs.declared.numbers.Class.{Class}
 use Rattle.taxi_base.specs.declared.answers.Found.{Found}
 use Rattle.taxi_base.specs.declared.answers.Request.{Request}
 use Rattle.taxi_base.specs.declared.answers.Refusal.TheVariants as refusal
 use Rattle.taxi_base.specs.declared.collections.Memory.{Memory}
-use Rattle.taxi_base.specs.Airport.{Airport, class_named, node_named}
+use Rattle.taxi_base.specs.Airport.{Airport}
 use Rattle.taxi_base.specs.Walks.{Conditions, IsFeasibleWalk}
 use Rattle.taxi_base.specs.State.{State, holder_count, has_holder, with_flight}
 use Rattle.certificate.specs.CarriedOut.{Reply, found_reply, routed_flight}
 use Rattle.certificate.specs.Replies.{refused}
-use Rattle.taxi_engine.specs.declared.asking.Asked.{Asked}
 use Rattle.taxi_engine.specs.Engine.{EngineState}
-use Rattle.taxi_engine.specs.Accepted.{IsDone}
-
--- whether a node is of a kind
-abbrev pub is_of_kind : (Kind → Bool) → Airport → Node → Bool
-is_of_kind is_kind airport node = option_map_or (λ row. is_kind row.kind) (slice_get airport.nodes node.0) false
-
--- the class and the nodes are those that the words name
-pub record AreNamed (airport : Airport) (class from to : List ℕ) (asked : Asked) : Type 0 where
-  pub class_known : class_named airport class ≡ Some asked.class
-  pub from_known : node_named airport from ≡ Some asked.from
-  pub to_known : node_named airport to ≡ Some asked.to
+use Rattle.taxi_engine.specs.Done.{IsDone}
 
 -- no holder has the name, and there is room for one more
 pub record IsNew (state : State) (name : List ℕ) : Type 0 where

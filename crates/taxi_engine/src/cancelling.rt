@@ -1,6 +1,6 @@
 //! A flight taken out of force.
 ghost use Rattle.taxi_text.specs.declared.command.Command.TheVariants.{Cancel};
-ghost use Rattle.taxi_engine.specs.Accepted.{IsDoneAsDue};
+ghost use Rattle.taxi_engine.specs.Done.{IsDoneAsDue};
 
 use crate::Engine;
 use crate::texts::cancelled_text;

@@ -1,34 +1,22 @@
 //! A route that is searched for to the best of several nodes.
-ghost use Rattle.std.specs.Prelude.{◌≡◌, ◌<◌, ◌⊎◌, length, ◌∷◌, [], Some, None, false, All, IfOk, IfErr};
-ghost use Rattle.taxi_base.specs.declared.answers.Refusal.TheVariants as refusal;
-ghost use Rattle.taxi_base.specs.State.{has_holder};
+ghost use Rattle.std.specs.Prelude.{◌≡◌, ◌<◌, length, None, All, IfOk};
 ghost use Rattle.taxi_base.specs.Faults.{conditions_in};
 ghost use Rattle.taxi_text.specs.declared.command.Command.TheVariants as command;
 ghost use Rattle.certificate.specs.Printable.{IsShort, IsName};
 ghost use Rattle.certificate.specs.Asked.{arrival_any, departure_any, request_for, AnswersChoice};
-ghost use Rattle.certificate.specs.Refusals.{first_of, in_force, unknown_class, unknown_node, unknown_node_of, first_refusal};
 ghost use Rattle.commitments.specs.Book.{Fits};
-ghost use Rattle.taxi_engine.specs.Accepted.{IsRefused, IsDoneOrMemory};
+ghost use Rattle.taxi_engine.specs.Done.{IsDoneOrMemory};
 ghost use Rattle.taxi_engine.specs.Routed.{IsNew};
-ghost use Rattle.taxi_engine.specs.Choosing.{AreAnyNamed, choice_of, IsChosenTold};
+ghost use Rattle.taxi_engine.specs.Choosing.{choice_of, IsChosenTold};
 
 use crate::Engine;
-use crate::asking::{is_full, is_held};
 use airport_file::Airport;
-use certificate::{has_no_runway, has_no_stand, is_no_runway, is_no_stand, nodes_named};
+use command_refusals::{AskedAny, asked_arrival_any, asked_departure_any};
 use commitments::Ledger;
 use place_cells::SearchRoom;
 use stand_choice::{choose_arrival_in, choose_departure_in};
 use std::alloc::Global;
-use taxi_base::{Chosen, Class, Flight, List, Memory, Name, Node, Refusal, Request, Time};
-
-/// The class and the nodes that the words of a choice name.
-#[derive(Drop)]
-pub(crate) struct AskedAny {
-    class: Class,
-    from: Node,
-    nodes: List<Node>,
-}
+use taxi_base::{Chosen, Flight, Memory, Name, Node, Refusal, Request, Time};
 
 /// What is wanted of a choice: when an arrival may begin, or when a departure may end.
 #[derive(Clone, Copy)]
@@ -170,92 +158,6 @@ impl Engine {
             Ok(Chosen::NoRoute { labels }) => self.tell_no_route(labels),
             Err(Memory) => self.refuse(&Refusal::Memory),
         }
-    }
-}
-
-// What an arrival asks for, or why it is refused: it goes from a runway to one of some stands.
-fn asked_arrival_any(
-    alloc: Global,
-    airport: &Airport,
-    ledger: &Ledger,
-    flight: &Name,
-    class: &Name,
-    from: &Name,
-    stands: &[Name],
-) -> Result<AskedAny, Refusal>
-    requires { Fits airport.now ledger.now }
-    ensures named { IfOk result (AreAnyNamed airport.now class.now from.now stands.now) }
-    ensures ok { IfOk result (λ asked. first_refusal airport.now ledger.now.state (command.ArrivalAny flight.now class.now from.now 0 0 stands.now) ≡ None) }
-    ensures err { IfErr result (IsRefused airport.now ledger.now.state (command.ArrivalAny flight.now class.now from.now 0 0 stands.now)) }
-{
-    let asked = find_asked_any(alloc, airport, ledger, flight, class, from, stands)?;
-    if is_no_runway(airport, from) {
-        return Err(Refusal::WrongKind);
-    }
-    if has_no_stand(airport, stands) {
-        return Err(Refusal::WrongKind);
-    }
-    if is_full(airport, ledger) {
-        return Err(Refusal::Full);
-    }
-    Ok(asked)
-}
-
-// The same of a departure, which goes from a stand to one of some runway nodes.
-fn asked_departure_any(
-    alloc: Global,
-    airport: &Airport,
-    ledger: &Ledger,
-    flight: &Name,
-    class: &Name,
-    from: &Name,
-    nodes: &[Name],
-) -> Result<AskedAny, Refusal>
-    requires { Fits airport.now ledger.now }
-    ensures named { IfOk result (AreAnyNamed airport.now class.now from.now nodes.now) }
-    ensures ok { IfOk result (λ asked. first_refusal airport.now ledger.now.state (command.DepartureAny flight.now class.now from.now 0 0 nodes.now) ≡ None) }
-    ensures err { IfErr result (IsRefused airport.now ledger.now.state (command.DepartureAny flight.now class.now from.now 0 0 nodes.now)) }
-{
-    let asked = find_asked_any(alloc, airport, ledger, flight, class, from, nodes)?;
-    if is_no_stand(airport, from) {
-        return Err(Refusal::WrongKind);
-    }
-    if has_no_runway(airport, nodes) {
-        return Err(Refusal::WrongKind);
-    }
-    if is_full(airport, ledger) {
-        return Err(Refusal::Full);
-    }
-    Ok(asked)
-}
-
-// What the words name, where the flight's name is new.
-fn find_asked_any(
-    alloc: Global,
-    airport: &Airport,
-    ledger: &Ledger,
-    flight: &Name,
-    class: &Name,
-    from: &Name,
-    names: &[Name],
-) -> Result<AskedAny, Refusal>
-    ensures named { IfOk result (AreAnyNamed airport.now class.now from.now names.now) }
-    ensures new { IfOk result (λ asked. has_holder flight.now ledger.now.state ≡ false) }
-    ensures err { IfErr result (λ why. (why ≡ refusal.Memory) ⊎ (first_of (in_force ledger.now.state flight.now ∷ unknown_class airport.now class.now ∷ unknown_node airport.now from.now ∷ unknown_node_of airport.now names.now ∷ []) ≡ Some why)) }
-{
-    if is_held(ledger, flight) {
-        return Err(Refusal::InForce);
-    }
-    let Some(class) = airport.class_named(class) else {
-        return Err(Refusal::UnknownClass);
-    };
-    let Some(from) = airport.node_named(from) else {
-        return Err(Refusal::UnknownNode);
-    };
-    match nodes_named(alloc, airport, names) {
-        Ok(Some(nodes)) => Ok(AskedAny { class, from, nodes }),
-        Ok(None) => Err(Refusal::UnknownNode),
-        Err(Memory) => Err(Refusal::Memory),
     }
 }
 

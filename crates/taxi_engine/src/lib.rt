@@ -1,7 +1,6 @@
 //! The engine: one command in, one reply out, over the flights and work parties in force.
 #![tactic(auto)]
 
-mod asking;
 mod cancelling;
 mod choosing;
 mod engine;

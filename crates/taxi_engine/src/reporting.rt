@@ -7,7 +7,7 @@ ghost use Rattle.taxi_text.specs.declared.command.Command.TheVariants as asked;
 ghost use Rattle.certificate.specs.declared.block.Block.TheVariants as block;
 ghost use Rattle.certificate.specs.Texts.{block_text};
 ghost use Rattle.certificate.specs.Replies.{HaveNames};
-ghost use Rattle.taxi_engine.specs.Accepted.{IsDoneOrMemory};
+ghost use Rattle.taxi_engine.specs.Done.{IsDoneOrMemory};
 
 use crate::Engine;
 use crate::reply::ReplyText;

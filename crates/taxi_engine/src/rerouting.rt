@@ -5,13 +5,13 @@ ghost use Rattle.taxi_text.specs.declared.command.Command.TheVariants as command
 ghost use Rattle.certificate.specs.declared.block.Block.TheVariants as block;
 ghost use Rattle.certificate.specs.Printable.{HasArc};
 ghost use Rattle.certificate.specs.CarriedOut.{second_of};
-ghost use Rattle.taxi_engine.specs.Accepted.{IsDoneOrMemory};
+ghost use Rattle.taxi_engine.specs.Done.{IsDoneOrMemory};
 ghost use Rattle.taxi_engine.specs.Routed.{IsToldOrMemory};
 ghost use Rattle.taxi_engine.specs.Rerouted.{refusal_told, request_to, IsOnAnother, IsToldAgain};
 
 use crate::Engine;
-use crate::asking::is_stand;
 use crate::routing::prepare_route;
+use command_refusals::is_stand;
 use commitments::Ledger;
 use reroute::{RerouteRefused, again_in};
 use taxi_base::{Flight, Found, LabelRow, List, Name, Node, Refusal, Request, Step, Time};

@@ -10,16 +10,16 @@ ghost use Rattle.certificate.specs.Printable.{IsShort, IsName, HasArc};
 ghost use Rattle.certificate.specs.Asked.{AnswersRequest};
 ghost use Rattle.certificate.specs.CarriedOut.{second_of};
 ghost use Rattle.commitments.specs.Book.{Fits, IsPrepared};
-ghost use Rattle.taxi_engine.specs.Accepted.{IsDoneOrMemory};
+ghost use Rattle.taxi_engine.specs.Done.{IsDoneOrMemory};
 ghost use Rattle.taxi_engine.specs.Routed.{IsNew, IsWalkOn, IsToldOrMemory, IsFoundTold};
 
 use crate::Engine;
-use crate::asking::{Asked, asked_arrival, asked_departure};
 use crate::reply::ReplyText;
 use crate::texts::second_of;
 use airport_file::Airport;
 use backward_search::depart_in;
 use certificate::Block;
+use command_refusals::{Asked, asked_arrival, asked_departure};
 use commitments::Ledger;
 use forward_search::{Start, arrive_in};
 use place_cells::SearchRoom;

@@ -7,7 +7,7 @@ ghost use Rattle.certificate.specs.CarriedOut.{second_of};
 
 use airport_file::Airport;
 use certificate::{Block, print_short};
-use taxi_base::{Flight, Name, Party, Refusal, Request, Step, Time};
+use taxi_base::{Flight, Name, Party, Refusal, Request, Step, Time, begin_of, end_of};
 use taxi_text::ShortText;
 
 /// The reply where a route is filed.
@@ -71,20 +71,4 @@ fn text_of(airport: &Airport, block: &Block) -> ShortText
     ensures { result ≡ block_text airport.now block.now }
 {
     print_short(airport, block).unwrap()
-}
-
-// When a route begins.
-fn begin_of(steps: &[Step]) -> Time
-    requires { 0 < length steps.now }
-    ensures { result ≡ begin_of steps.now }
-{
-    steps[0].enter
-}
-
-// When a route ends.
-fn end_of(steps: &[Step]) -> Time
-    requires { 0 < length steps.now }
-    ensures { result ≡ end_of steps.now }
-{
-    steps[steps.len() - 1].leave
 }

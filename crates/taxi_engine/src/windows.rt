@@ -6,7 +6,7 @@ ghost use Rattle.taxi_text.specs.declared.command.Command.TheVariants as asked;
 ghost use Rattle.certificate.specs.CarriedOut.{windows_among};
 ghost use Rattle.window_store.specs.Store.{spans_at};
 ghost use Rattle.commitments.specs.Book.{Fits};
-ghost use Rattle.taxi_engine.specs.Accepted.{IsDoneOrMemory};
+ghost use Rattle.taxi_engine.specs.Done.{IsDoneOrMemory};
 
 use crate::Engine;
 use crate::reply::ReplyText;

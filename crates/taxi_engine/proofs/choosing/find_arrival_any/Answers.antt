@@ -1,8 +1,7 @@
-use Rattle.std.proofs.Common.{◌<◌, ◌≤◌, ℕ, List, length, sym, subst}
+use Rattle.std.proofs.Common.{◌<◌, ◌≤◌, List, length, sym, subst}
 use Rattle.std.specs.Prelude.{All, IfOk}
 use Rattle.taxi_base.specs.declared.numbers.Node.{Node}
 use Rattle.taxi_base.specs.Faults.{conditions_in}
-use Rattle.taxi_base.specs.Choices.{AnswersDepartureChoice}
 use Rattle.place_cells.specs.Laid.{windows_of}
 use Rattle.certificate.specs.Asked.{arrival_any, AnswersChoice}
 use Rattle.taxi_engine.proofs.SearchedLaws.{windows-by, conditions-found}

@@ -9,7 +9,7 @@ use Rattle.certificate.specs.Replies.{refused, HaveNames}
 use Rattle.certificate.proofs.HolderNames.{without-names}
 use Rattle.commitments.specs.Book.{Book, Fits}
 use Rattle.taxi_engine.specs.Engine.{EngineState}
-use Rattle.taxi_engine.specs.Accepted.{IsDone, IsDoneAsDue}
+use Rattle.taxi_engine.specs.Done.{IsDone, IsDoneAsDue}
 use Rattle.taxi_engine.proofs.DueLaws.{cancel-due, cancel-refused}
 use Rattle.taxi_engine.proofs.TakenOut.{cancelled-state, not-done}
 use Rattle.taxi_engine.proofs.engine.Engine.cancel.Goals as goal

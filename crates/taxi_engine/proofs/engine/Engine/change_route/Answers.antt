@@ -9,7 +9,7 @@ use Rattle.certificate.specs.Replies.{HaveNames}
 use Rattle.taxi_engine.specs.Engine.{EngineState}
 use Rattle.taxi_engine.specs.Routed.{IsToldOrMemory}
 use Rattle.taxi_engine.specs.Rerouted.{IsOnAnother}
-use Rattle.taxi_engine.proofs.FiledDue.{done_ok}
+use Rattle.command_refusals.proofs.CallLaws.{done_ok}
 use Rattle.taxi_engine.proofs.ReroutedTold.{lifted-old, another-feasible, another-after, another-sound, another-names}
 use Rattle.taxi_engine.proofs.engine.Engine.change_route.Goals as goal
 

@@ -6,7 +6,7 @@ use Rattle.taxi_text.specs.declared.command.Command.TheVariants as command
 use Rattle.certificate.specs.Refusals.{is_stand}
 use Rattle.certificate.specs.Replies.{refused}
 use Rattle.taxi_engine.specs.Engine.{EngineState}
-use Rattle.taxi_engine.specs.Routed.{is_of_kind}
+use Rattle.command_refusals.specs.Named.{is_of_kind}
 use Rattle.taxi_engine.proofs.DueLaws.{refusal-due}
 use Rattle.taxi_engine.proofs.ReroutedDue.{divert-done, divert-unknown, divert-no_stand}
 use Rattle.taxi_engine.proofs.engine.Engine.divert.Goals as goal

@@ -1,4 +1,4 @@
-use Rattle.std.proofs.Common.{◌≡◌, ◌∙◌, sym, subst, ap, is_some, arith, inl, inr}
+use Rattle.std.proofs.Common.{◌≡◌, ◌∙◌, sym, subst, ap, inl, inr}
 use Rattle.taxi_base.specs.Walks.{Meets, begin_of, end_of}
 use Rattle.taxi_base.specs.State.{State, with_flight, IsSound}
 use Rattle.taxi_base.specs.Faults.{conditions_in}
@@ -9,7 +9,7 @@ use Rattle.certificate.specs.Texts.{block_text}
 use Rattle.certificate.specs.Replies.{refused, HaveNames}
 use Rattle.certificate.proofs.HolderNames.{with_flight-names}
 use Rattle.taxi_engine.specs.Engine.{EngineState}
-use Rattle.taxi_engine.specs.Accepted.{IsDone, IsDoneOrMemory}
+use Rattle.taxi_engine.specs.Done.{IsDone, IsDoneOrMemory}
 use Rattle.taxi_engine.proofs.DueLaws.{refusal-due}
 use Rattle.taxi_engine.proofs.engine.Engine.file.Goals as goal
 

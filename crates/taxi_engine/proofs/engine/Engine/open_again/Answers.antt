@@ -9,7 +9,7 @@ use Rattle.certificate.specs.Replies.{refused, HaveNames}
 use Rattle.certificate.proofs.FlightLaws.{without-party}
 use Rattle.certificate.proofs.HolderNames.{without-names}
 use Rattle.taxi_engine.specs.Engine.{EngineState}
-use Rattle.taxi_engine.specs.Accepted.{IsDoneAsDue}
+use Rattle.taxi_engine.specs.Done.{IsDoneAsDue}
 use Rattle.taxi_engine.proofs.DueLaws.{work_done-due, work_done-refused}
 use Rattle.taxi_engine.proofs.TakenOut.{removed-state}
 use Rattle.taxi_engine.proofs.engine.Engine.open_again.Goals as goal

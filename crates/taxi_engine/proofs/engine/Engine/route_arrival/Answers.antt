@@ -1,10 +1,9 @@
 use Rattle.std.proofs.Common.{◌≡◌, Some, subst, inl}
-use Rattle.taxi_base.specs.declared.answers.Request.TheVariants as request
 use Rattle.taxi_text.specs.declared.command.Command.TheVariants as command
 use Rattle.certificate.specs.Refusals.{first_refusal}
 use Rattle.certificate.specs.Replies.{refused}
 use Rattle.taxi_engine.specs.Engine.{EngineState}
-use Rattle.taxi_engine.specs.Accepted.{IsDoneOrMemory}
+use Rattle.taxi_engine.specs.Done.{IsDoneOrMemory}
 use Rattle.taxi_engine.proofs.DueLaws.{refusal-due}
 use Rattle.taxi_engine.proofs.RoutedDue.{arrival-done}
 use Rattle.taxi_engine.proofs.engine.Engine.route_arrival.Goals as goal

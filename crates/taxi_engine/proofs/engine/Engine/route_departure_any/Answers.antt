@@ -1,13 +1,9 @@
-use Rattle.std.proofs.Common.{◌≡◌, ◌⊎◌, ◌<◌, Some, length, subst, inl, inr}
-use Rattle.std.specs.Prelude.{All}
-use Rattle.taxi_base.specs.declared.answers.Refusal.TheVariants as refusal
+use Rattle.std.proofs.Common.{subst}
 use Rattle.taxi_text.specs.declared.command.Command.TheVariants as command
-use Rattle.certificate.specs.Refusals.{first_refusal}
-use Rattle.certificate.specs.Replies.{refused}
 use Rattle.certificate.proofs.ChoiceNames.{nodes_named-are}
 use Rattle.taxi_engine.specs.Engine.{EngineState}
-use Rattle.taxi_engine.specs.Accepted.{IsRefused, IsDone, IsDoneOrMemory}
-use Rattle.taxi_engine.proofs.DueLaws.{refusal-due}
+use Rattle.command_refusals.specs.Accepted.{IsRefused}
+use Rattle.taxi_engine.specs.Done.{IsDoneOrMemory}
 use Rattle.taxi_engine.proofs.ChosenDue.{departure_any-done, refused-so}
 use Rattle.taxi_engine.proofs.engine.Engine.route_departure_any.Goals as goal
 

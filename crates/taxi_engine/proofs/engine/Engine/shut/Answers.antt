@@ -1,5 +1,4 @@
 use Rattle.std.proofs.Common.{◌≡◌, ◌∙◌, sym, ap, subst, inl, inr}
-use Rattle.taxi_base.specs.declared.answers.Refusal.TheVariants as refusal
 use Rattle.taxi_base.specs.State.{State, with_party, IsSound}
 use Rattle.taxi_base.proofs.StateLaws.{IsSound-with_party}
 use Rattle.taxi_text.specs.declared.command.Command.TheVariants.{Work}
@@ -8,7 +7,7 @@ use Rattle.certificate.specs.Texts.{block_text}
 use Rattle.certificate.specs.Replies.{refused, HaveNames}
 use Rattle.certificate.proofs.HolderNames.{with_party-names}
 use Rattle.taxi_engine.specs.Engine.{EngineState}
-use Rattle.taxi_engine.specs.Accepted.{IsDone, IsDoneOrMemory}
+use Rattle.taxi_engine.specs.Done.{IsDone, IsDoneOrMemory}
 use Rattle.taxi_engine.proofs.DueLaws.{refusal-due}
 use Rattle.taxi_engine.proofs.engine.Engine.shut.Goals as goal
 

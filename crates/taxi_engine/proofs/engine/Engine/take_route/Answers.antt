@@ -1,4 +1,4 @@
-use Rattle.std.proofs.Common.{◌∙◌, sym, ap, subst, is_some, arith}
+use Rattle.std.proofs.Common.{◌∙◌, sym, ap, subst}
 use Rattle.taxi_base.specs.Walks.{IsFeasibleWalk, Meets}
 use Rattle.taxi_base.specs.State.{State, with_flight, IsSound}
 use Rattle.taxi_base.specs.Faults.{conditions_in}

@@ -1,12 +1,10 @@
-use Rattle.std.proofs.Common.{◌≡◌, ◌∙◌, Ok, Some, ap, subst, inl}
+use Rattle.std.proofs.Common.{◌∙◌, Ok, ap, subst}
 use Rattle.std.specs.Prelude.{IfOk}
 use Rattle.taxi_base.specs.declared.answers.Chosen.TheVariants as chosen
-use Rattle.taxi_base.specs.declared.answers.Request.{Request}
 use Rattle.taxi_base.specs.Airport.{IsWellFormed}
-use Rattle.taxi_base.specs.Walks.{Meets}
 use Rattle.taxi_base.specs.State.{holds_in}
 use Rattle.taxi_base.specs.Faults.{conditions_in}
-use Rattle.certificate.specs.Asked.{AnswersChoice, request_for}
+use Rattle.certificate.specs.Asked.{AnswersChoice}
 use Rattle.certificate.proofs.ChoiceNames.{chosen-meets}
 use Rattle.taxi_engine.specs.Engine.{EngineState}
 use Rattle.taxi_engine.specs.Choosing.{choice_of}

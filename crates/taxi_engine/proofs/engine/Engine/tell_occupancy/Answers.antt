@@ -1,4 +1,4 @@
-use Rattle.std.proofs.Common.{◌≡◌, ◌∙◌, Some, None, sym, subst, inl}
+use Rattle.std.proofs.Common.{◌≡◌, ◌∙◌, None, sym, subst, inl}
 use Rattle.taxi_base.specs.declared.answers.Refusal.TheVariants as refusal
 use Rattle.taxi_base.specs.Airport.{segment_named}
 use Rattle.taxi_text.specs.declared.command.Command.TheVariants as asked
@@ -6,8 +6,8 @@ use Rattle.certificate.specs.CarriedOut.{occupancy_reply}
 use Rattle.certificate.specs.Replies.{refused}
 use Rattle.certificate.proofs.WindowsTold.{segment_named-exists}
 use Rattle.taxi_engine.specs.Engine.{EngineState}
-use Rattle.taxi_engine.specs.Accepted.{IsDoneOrMemory}
-use Rattle.taxi_engine.proofs.FiledDue.{done_ok}
+use Rattle.taxi_engine.specs.Done.{IsDoneOrMemory}
+use Rattle.command_refusals.proofs.CallLaws.{done_ok}
 use Rattle.taxi_engine.proofs.DueLaws.{occupancy-due, occupancy-refused}
 use Rattle.taxi_engine.proofs.engine.Engine.tell_occupancy.Goals as goal
 

@@ -2,8 +2,8 @@ use Rattle.std.proofs.Common.{◌∙◌, refl, sym, subst, inl}
 use Rattle.taxi_text.specs.declared.command.Command.TheVariants as asked
 use Rattle.certificate.specs.CarriedOut.{timetable_reply}
 use Rattle.taxi_engine.specs.Engine.{EngineState}
-use Rattle.taxi_engine.specs.Accepted.{IsDoneOrMemory}
-use Rattle.taxi_engine.proofs.FiledDue.{done_ok}
+use Rattle.taxi_engine.specs.Done.{IsDoneOrMemory}
+use Rattle.command_refusals.proofs.CallLaws.{done_ok}
 use Rattle.taxi_engine.proofs.engine.Engine.tell_timetable.Goals as goal
 
 pub returns-else-is_err : goal.returns-else-is_err

@@ -5,8 +5,8 @@ use Rattle.taxi_text.specs.declared.command.Command.TheVariants as asked
 use Rattle.certificate.specs.CarriedOut.{windows_reply}
 use Rattle.certificate.specs.Replies.{refused}
 use Rattle.taxi_engine.specs.Engine.{EngineState}
-use Rattle.taxi_engine.specs.Accepted.{IsDoneOrMemory}
-use Rattle.taxi_engine.proofs.FiledDue.{done_ok}
+use Rattle.taxi_engine.specs.Done.{IsDoneOrMemory}
+use Rattle.command_refusals.proofs.CallLaws.{done_ok}
 use Rattle.taxi_engine.proofs.DueLaws.{windows-due, windows-refused}
 use Rattle.certificate.proofs.WindowsTold.{segment_named-exists}
 use Rattle.taxi_engine.proofs.engine.Engine.tell_windows.Goals as goal

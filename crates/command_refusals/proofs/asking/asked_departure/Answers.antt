@@ -1,5 +1,5 @@
 use Rattle.taxi_base.proofs.AirportLaws.{node_named-exists}
-use Rattle.taxi_engine.proofs.asking.asked_departure.Goals as goal
+use Rattle.command_refusals.proofs.asking.asked_departure.Goals as goal
 
 pub is_stand-requires : goal.is_stand-requires
 is_stand-requires c = node_named-exists c.args.airport.now c.args.from.now c.in_ok-asked.asked.from c.in_ok-asked.ensures.named.from_known

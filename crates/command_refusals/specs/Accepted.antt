@@ -1,4 +1,4 @@
--- What a part of the engine has done for a line. No public clause cites these.
+-- What is taken of a command that puts a flight or a work party in force by hand, and what a refusal is.
 use Rattle.std.specs.Prelude.{◌≡◌, ◌≤◌, ◌<◌, ◌⊎◌, false, length, Some, None}
 use Rattle.taxi_base.specs.declared.answers.Request.TheVariants as request
 use Rattle.taxi_base.specs.declared.answers.Flight.{Flight}
@@ -11,12 +11,9 @@ use Rattle.taxi_base.specs.State.{State, holder_count, has_holder, with_flight, 
 use Rattle.taxi_base.specs.Faults.{conditions_in}
 use Rattle.taxi_text.specs.declared.command.Command.{Command}
 use Rattle.certificate.specs.declared.block.Block.TheVariants.{Filed}
-use Rattle.certificate.specs.Texts.{block_text}
 use Rattle.certificate.specs.Printable.{IsName}
-use Rattle.certificate.specs.CarriedOut.{Reply}
 use Rattle.certificate.specs.Refusals.{first_refusal}
-use Rattle.certificate.specs.Replies.{refused, IsDueTo}
-use Rattle.taxi_engine.specs.Engine.{EngineState, MayWantMemory}
+use Rattle.certificate.specs.Replies.{IsDueTo}
 
 -- a flight that a command is due to put in force by its route, which is a feasible walk among the holders before
 pub record IsAccepted (airport : Airport) (state : State) (command : Command) (flight : Flight) : Type 0 where
@@ -44,18 +41,3 @@ IsRefused airport state command why = (why ≡ refusal.Memory) ⊎ (first_refusa
 abbrev pub IsRefusedOrUnprepared : Airport → State → Command → Refusal → Type 0
 IsRefusedOrUnprepared airport state command why =
     ((why ≡ refusal.Memory) × (first_refusal airport state command ≡ None)) ⊎ (first_refusal airport state command ≡ Some why)
-
--- the reply is written, and the state is that afterwards
-abbrev pub IsDone : Reply → EngineState → EngineState → Type 0
-IsDone reply old new = new ≡ record { airport = old.airport; state = reply.after; reply = block_text old.airport reply.block }
-
--- a reply that is due to the command is written, and the state is that afterwards
-pub record IsDoneAsDue (command : Command) (old new : EngineState) : Type 0 where
-  pub reply : Reply
-  pub due : IsDueTo old.airport old.state command reply.block reply.after
-  pub done : IsDone reply old new
-
--- or memory ran out, which the reply says, and nothing else changed
-abbrev pub IsDoneOrMemory : Command → EngineState → EngineState → Type 0
-IsDoneOrMemory command old new =
-    IsDoneAsDue command old new ⊎ (MayWantMemory old.airport old.state command × IsDone (refused old.state refusal.Memory) old new)

@@ -2,9 +2,9 @@ use Rattle.std.proofs.Common.{◌≡◌, ◌∙◌, ◌<◌, false, refl, sym, i
 use Rattle.taxi_base.specs.State.{has_holder, holder_count}
 use Rattle.certificate.specs.Refusals.{most_holders}
 use Rattle.certificate.proofs.WindowsTold.{segment_named-exists}
-use Rattle.taxi_engine.proofs.FiledDue.{not-full}
-use Rattle.taxi_engine.proofs.DueLaws.{work-due, work-unrefused}
-use Rattle.taxi_engine.proofs.shutting.check_work.Goals as goal
+use Rattle.command_refusals.proofs.FiledDue.{not-full}
+use Rattle.command_refusals.proofs.WorkDue.{work-due, work-unrefused}
+use Rattle.command_refusals.proofs.shutting.check_work.Goals as goal
 
 pub check_hold-requires-clause-segment : goal.check_hold-requires-clause-segment
 check_hold-requires-clause-segment c = segment_named-exists c.args.airport.now c.args.segment.now c.in-Some.segment (sym c.segment_named.ensures ∙ c.in-Some.is)

@@ -4,8 +4,8 @@ use Rattle.taxi_base.specs.Walks.{AreJoined, IsFeasibleWalk}
 use Rattle.taxi_base.specs.Faults.{conditions_in, route_fault}
 use Rattle.certificate.specs.Refusals.{most_holders}
 use Rattle.certificate.proofs.FiledLaws.{filed_steps-length, filed_steps-arcs, filed_steps-joined}
-use Rattle.taxi_engine.proofs.FiledDue.{file-due, not-full}
-use Rattle.taxi_engine.proofs.filing.check_filed.Goals as goal
+use Rattle.command_refusals.proofs.FiledDue.{file-due, not-full}
+use Rattle.command_refusals.proofs.filing.check_filed.Goals as goal
 
 pub check_route-requires-clause-arcs : goal.check_route-requires-clause-arcs
 check_route-requires-clause-arcs c = rw c.as_slice.ensures (filed_steps-arcs c.args.airport.now c.args.start c.args.filed.now c.in_ok-steps.steps c.in_ok-steps.ensures.ok)

@@ -1,5 +1,5 @@
 use Rattle.taxi_base.proofs.AirportLaws.{node_named-exists}
-use Rattle.taxi_engine.proofs.asking.asked_arrival.Goals as goal
+use Rattle.command_refusals.proofs.asking.asked_arrival.Goals as goal
 
 pub is_runway-requires : goal.is_runway-requires
 is_runway-requires c = node_named-exists c.args.airport.now c.args.from.now c.in_ok-asked.asked.from c.in_ok-asked.ensures.named.from_known

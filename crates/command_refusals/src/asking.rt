@@ -1,28 +1,26 @@
 //! What an arrival or a departure asks for, or why it is refused before any search.
-ghost use Rattle.std.specs.Prelude.{◌≡◌, ◌<◌, length, ◌∷◌, [], Some, None, false, nat_le, IfOk, IfErr};
-ghost use Rattle.taxi_base.specs.State.{has_holder, holder_count};
+ghost use Rattle.std.specs.Prelude.{◌≡◌, ◌<◌, length, ◌∷◌, [], Some, None, false, IfOk, IfErr};
+ghost use Rattle.taxi_base.specs.State.{has_holder};
 ghost use Rattle.taxi_text.specs.declared.command.Command.TheVariants as command;
-ghost use Rattle.certificate.specs.Refusals.{is_runway, is_stand, most_holders, first_of, in_force, unknown_class, unknown_node, first_refusal};
+ghost use Rattle.certificate.specs.Refusals.{is_runway, is_stand, first_of, in_force, unknown_class, unknown_node, first_refusal};
 ghost use Rattle.commitments.specs.Book.{Fits};
-ghost use Rattle.taxi_engine.specs.Routed.{is_of_kind, AreNamed};
+ghost use Rattle.command_refusals.specs.Named.{is_of_kind, AreNamed};
 
+use crate::holders::{is_full, is_held};
 use airport_file::Airport;
 use commitments::Ledger;
 use taxi_base::{Class, Kind, Name, Node, Refusal};
 
-/// How many flights and work parties may be in force.
-const MOST_HOLDERS: usize = 4096;
-
 /// The class and the nodes that the words of an arrival or a departure name.
 #[derive(Clone, Copy)]
-pub(crate) struct Asked {
-    pub(crate) class: Class,
-    pub(crate) from: Node,
-    pub(crate) to: Node,
+pub struct Asked {
+    pub class: Class,
+    pub from: Node,
+    pub to: Node,
 }
 
 /// What an arrival asks for, or why it is refused: it goes from a runway to a stand.
-pub(crate) fn asked_arrival(
+pub fn asked_arrival(
     airport: &Airport,
     ledger: &Ledger,
     flight: &Name,
@@ -49,7 +47,7 @@ pub(crate) fn asked_arrival(
 }
 
 /// The same of a departure, which goes from a stand to a runway.
-pub(crate) fn asked_departure(
+pub fn asked_departure(
     airport: &Airport,
     ledger: &Ledger,
     flight: &Name,
@@ -110,24 +108,10 @@ fn is_runway(airport: &Airport, node: Node) -> bool
     matches!(airport.kind(node), Kind::Runway)
 }
 
-pub(crate) fn is_stand(airport: &Airport, node: Node) -> bool
+/// Whether a node is a stand.
+pub fn is_stand(airport: &Airport, node: Node) -> bool
     requires { node.0 < length airport.now.nodes }
     ensures { result ≡ is_of_kind is_stand airport.now node }
 {
     matches!(airport.kind(node), Kind::Stand)
-}
-
-/// Whether a flight or a work party has the name.
-pub(crate) fn is_held(ledger: &Ledger, name: &Name) -> bool
-    ensures { result ≡ has_holder name.now ledger.now.state }
-{
-    ledger.party(name).is_some() || ledger.flight(name).is_some()
-}
-
-/// Whether no further flight or work party may be in force.
-pub(crate) fn is_full(airport: &Airport, ledger: &Ledger) -> bool
-    requires { Fits airport.now ledger.now }
-    ensures { result ≡ nat_le most_holders (holder_count ledger.now.state) }
-{
-    ledger.parties() + ledger.count() >= MOST_HOLDERS
 }

@@ -1,7 +1,6 @@
 -- When a filed route is due to be accepted.
-use Rattle.std.proofs.Common.{◌≡◌, ℕ, ◌<◌, false, List, Option, Some, None, is_some, refl, arith}
-use Rattle.std.specs.Prelude.{Result, Ok, Err, OnOk, is_err, nat_le, option_copied}
-use Rattle.std.specs.Borrow.{Bor}
+use Rattle.std.proofs.Common.{◌≡◌, ℕ, ◌<◌, false, List, Some, None, refl, arith}
+use Rattle.std.specs.Prelude.{nat_le}
 use Rattle.std.proofs.lemmas.Bool.{lt-leb, leb-false}
 use Rattle.taxi_base.specs.declared.numbers.Class.{Class}
 use Rattle.taxi_base.specs.declared.rows.Step.{Step}
@@ -28,13 +27,3 @@ module _ (airport : Airport) (state : State) (name class_name : List ℕ) (start
 -- there is room where the holders are not too many
 pub not-full : (state : State) → nat_le most_holders (holder_count state) ≡ false → holder_count state < most_holders
 not-full state e = omega (arith, leb-false most_holders (holder_count state) e)
-
--- a flight that is looked up is there just where it is found
-pub copied-some : {A : Type 0} (o : Option (Bor A)) → is_some (option_copied o) ≡ is_some o
-copied-some None = refl
-copied-some (Some x) = refl
-
--- what a call that did not fail did
-pub done_ok : {A B : Type 0} (r : Result A B) (P : Type 0) → OnOk r P → is_err r ≡ false → P
-done_ok (Ok x) P h e = h
-done_ok (Err x) P h e = absurd (cc e)

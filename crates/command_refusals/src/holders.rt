@@ -1,0 +1,27 @@
+//! The names that are taken, and how many holders there may be.
+ghost use Rattle.std.specs.Prelude.{◌≡◌, nat_le};
+ghost use Rattle.taxi_base.specs.State.{has_holder, holder_count};
+ghost use Rattle.certificate.specs.Refusals.{most_holders};
+ghost use Rattle.commitments.specs.Book.{Fits};
+
+use airport_file::Airport;
+use commitments::Ledger;
+use taxi_base::Name;
+
+/// How many flights and work parties may be in force.
+const MOST_HOLDERS: usize = 4096;
+
+/// Whether a flight or a work party has the name.
+pub fn is_held(ledger: &Ledger, name: &Name) -> bool
+    ensures { result ≡ has_holder name.now ledger.now.state }
+{
+    ledger.party(name).is_some() || ledger.flight(name).is_some()
+}
+
+/// Whether no further flight or work party may be in force.
+pub fn is_full(airport: &Airport, ledger: &Ledger) -> bool
+    requires { Fits airport.now ledger.now }
+    ensures { result ≡ nat_le most_holders (holder_count ledger.now.state) }
+{
+    ledger.parties() + ledger.count() >= MOST_HOLDERS
+}

@@ -1,0 +1,13 @@
+//! What a command names, or why it is refused before any search: over an airport and the holders in force.
+#![tactic(auto)]
+
+mod asking;
+mod choosing;
+mod filing;
+mod holders;
+mod shutting;
+
+pub use asking::{Asked, asked_arrival, asked_departure, is_stand};
+pub use choosing::{AskedAny, asked_arrival_any, asked_departure_any};
+pub use filing::check_filed;
+pub use shutting::check_work;

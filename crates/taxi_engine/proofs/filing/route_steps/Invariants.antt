@@ -1,6 +1,0 @@
-use Rattle.std.proofs.Common.{◌≡◌, drop, []}
-use Rattle.taxi_engine.proofs.StepsMade.{steps_and}
-use Rattle.taxi_engine.proofs.filing.route_steps.Given as goal
-
-abbrev pub invariant-loop-filed : goal.invariant-loop-filed
-invariant-loop-filed l = steps_and l.fn.airport [] l.start l.fn.filed ≡ steps_and l.fn.airport l.steps l.enter (drop l.filed-index l.filed)
