@@ -1,10 +1,7 @@
 pub mod LoopLaws
 pub mod AmongLaws
-pub mod GapLaws
-pub mod CutLaws
 pub mod RowLaws
 pub mod PlaceLaws
-pub mod NearLaws
 pub mod KnownLaws
 pub mod ListCuts
 pub mod EachLaws

@@ -18,7 +18,8 @@ use Rattle.held_spans.specs.Holds.{held_at}
 use Rattle.check_rows.specs.declared.known.KnownWindows.{KnownWindows}
 use Rattle.check_rows.specs.declared.known.SegmentWindows.{SegmentWindows}
 use Rattle.check_rows.specs.Known.{AreKnown}
-use Rattle.check_rows.specs.Cuts.{AreCut, IsApart, IsListCut, is_among, AreListsCut}
+use Rattle.segment_windows.specs.Cuts.{AreCut}
+use Rattle.check_rows.specs.Cuts.{IsApart, IsListCut, is_among, AreListsCut}
 use Rattle.check_rows.proofs.KnownLaws.{get-at, set-cases, conflict-other_way, still-known, AreStill-none}
 
 -- ---- list by list

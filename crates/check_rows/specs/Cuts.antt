@@ -1,24 +1,11 @@
--- What is left of windows where a span is cut out of them? No public clause cites these.
-use Rattle.std.specs.Prelude.{ℕ, ◌≡◌, ◌∷◌, ◌++◌, [], Bool, true, ◌&&◌, not, ◌==◌, max, min, List, Some, length, slice_get, IsTrue}
+-- What is left of the lists of windows where a span is cut out of them? No public clause cites these.
+use Rattle.std.specs.Prelude.{ℕ, ◌≡◌, Bool, true, ◌==◌, List, Some, length, slice_get, IsTrue}
 use Rattle.std.specs.List.{list_any}
 use Rattle.taxi_base.specs.declared.numbers.Segment.{Segment}
 use Rattle.taxi_base.specs.declared.rows.Span.{Span}
-use Rattle.taxi_base.specs.Windows.{span_has, covers, AreApart}
+use Rattle.taxi_base.specs.Windows.{AreApart}
+use Rattle.segment_windows.specs.Cuts.{AreCut}
 use Rattle.check_rows.specs.declared.known.SegmentWindows.{SegmentWindows}
-use Rattle.check_rows.specs.Gaps.{gap}
-
--- what comes before the span, and what comes behind it
-abbrev pub parts_of : Span → Span → List Span
-parts_of span w = gap w.from (min w.until span.from) ++ gap (max w.from span.until) w.until
-
-abbrev pub cut_out : Span → List Span → List Span
-cut_out span [] = []
-cut_out span (w ∷ ws) = parts_of span w ++ cut_out span ws
-
--- windows that lie apart have lost the seconds of a span, where it is cut out, and still lie apart
-pub record AreCut (is_cut : Bool) (span : Span) (old new : List Span) : Type 0 where
-  pub apart : AreApart 0 new
-  pub seconds : (t : ℕ) → covers new t ≡ (covers old t && not (is_cut && span_has span t))
 
 -- the windows that were made lie apart
 abbrev pub IsApart : SegmentWindows → Type 0

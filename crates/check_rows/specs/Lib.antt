@@ -1,4 +1,3 @@
-pub mod Gaps
 pub mod Known
 pub mod Cuts
 pub mod Rows

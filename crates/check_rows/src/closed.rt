@@ -12,12 +12,12 @@ ghost use Rattle.check_rows.specs.Reached.{conditions_at, label_in, IsReachedAt,
 
 use crate::KnownWindows;
 use crate::around::{row_around, rows_behind};
-use crate::near::windows_between;
 use crate::reach::{Reach, short_part, value_in};
 use crate::rows::window_of;
 use crate::table::Table;
 use airport_file::Airport;
 use held_spans::HoldsOf;
+use segment_windows::windows_between;
 use taxi_base::{Arc, Class, LabelRow, Memory, Span, Time};
 
 /// Whether each label of some arcs that is reached in time has a row.

@@ -8,10 +8,9 @@ ghost use Rattle.check_rows.specs.Known.{AreKnown, is_known, DifferOn, DifferAt,
 ghost use Rattle.check_rows.specs.Cuts.{IsApart, IsListCut, AreListsCut};
 
 use crate::around::note_firsts;
-use crate::cuts::cut_windows;
-use crate::windows::fill_windows;
 use airport_file::Airport;
 use held_spans::HoldsOf;
+use segment_windows::{cut_windows, fill_windows};
 use std::alloc::Global;
 use std::mem::replace;
 use taxi_base::{LabelRow, Memory, Segment, Span, Step, Time};
@@ -108,7 +107,9 @@ impl KnownWindows {
     {
         let list = &mut self.lists[segment.0 as usize];
         list.is_made = false;
-        fill_windows(&mut list.windows, &mut self.busy, airport, holds, segment)?;
+        let (conflicts, horizon) = (airport.conflicts(), airport.horizon());
+        let (windows, busy) = (&mut list.windows, &mut self.busy);
+        fill_windows(windows, busy, conflicts, horizon, holds, segment)?;
         list.is_made = true;
         Ok(())
     }

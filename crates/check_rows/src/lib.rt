@@ -4,11 +4,9 @@
 mod around;
 mod arrivals;
 mod closed;
-mod cuts;
 mod departures;
 mod known;
 mod laws;
-mod near;
 mod places;
 mod reach;
 mod rows;
@@ -17,7 +15,6 @@ mod steps;
 mod table;
 mod target;
 mod verdict;
-mod windows;
 
 pub use arrivals::{Begin, check_arrival};
 pub use departures::{End, check_departure};

@@ -1,8 +1,5 @@
 //! Whether rows are of places.
-ghost use Rattle.std.specs.Prelude.{◌≡◌, ◌↔◌, ◌≤◌, ◌&&◌, ◌==◌, true, false, nat_lt, All, Contains, IfOk, IsTrue, length};
-ghost use Rattle.std.specs.List.Sorted.{IsPartitionPoint};
-ghost use Rattle.taxi_base.specs.Airport.{segment_of};
-ghost use Rattle.taxi_base.specs.Windows.{AreApart};
+ghost use Rattle.std.specs.Prelude.{◌≡◌, ◌↔◌, All, IfOk, IsTrue, length};
 ghost use Rattle.taxi_base.specs.Walks.{conditions_among, free_among};
 ghost use Rattle.walk_labels.specs.Places.{IsPlace, place_of};
 ghost use Rattle.walk_labels.specs.PlacesInWindows.{can_use};
@@ -12,7 +9,8 @@ use crate::KnownWindows;
 use crate::rows::window_of;
 use airport_file::Airport;
 use held_spans::HoldsOf;
-use taxi_base::{Arc, Class, LabelRow, Memory, Span};
+use segment_windows::has_window;
+use taxi_base::{Arc, Class, LabelRow, Memory};
 
 /// Whether each row's arc exists, the class has seconds on it, and the row's span is a window of its segment.
 pub fn are_at_places<H: HoldsOf>(
@@ -59,48 +57,4 @@ fn can_use(airport: &Airport, class: Class, arc: Arc) -> bool
     ensures { result ≡ can_use airport.now class arc }
 {
     airport.graph().exists(arc) && airport.classes().seconds(class, arc.segment()).is_some()
-}
-
-/// Whether a span is one of some windows. Mostly it is the last, since commands come in order of time.
-#[inline(always)]
-fn has_window(windows: &[Span], window: Span) -> bool
-    requires { AreApart 0 windows.now }
-    ensures { IsTrue result ↔ Contains windows.now window }
-{
-    is_last(windows, window) || is_among(windows, window)
-}
-
-#[inline(always)]
-fn is_last(windows: &[Span], window: Span) -> bool
-    ensures { IsTrue result → Contains windows.now window }
-{
-    match windows.last() {
-        Some(last) => is_same(*last, window),
-        None => false,
-    }
-}
-
-fn is_among(windows: &[Span], window: Span) -> bool
-    requires { AreApart 0 windows.now }
-    ensures { IsTrue result ↔ Contains windows.now window }
-{
-    match windows.get(windows_before(windows, window)) {
-        Some(found) => is_same(*found, window),
-        None => false,
-    }
-}
-
-/// How many windows begin before a span.
-fn windows_before(windows: &[Span], window: Span) -> usize
-    requires { AreApart 0 windows.now }
-    ensures few { result ≤ length windows.now }
-    ensures point { IsPartitionPoint (λ w. nat_lt w.from window.from ≡ true) (λ w. nat_lt w.from window.from ≡ false) windows.now result }
-{
-    windows.partition_point(|w| w.from < window.from)
-}
-
-fn is_same(found: Span, window: Span) -> bool
-    ensures { result ≡ (found.from == window.from && found.until == window.until) }
-{
-    found.from == window.from && found.until == window.until
 }

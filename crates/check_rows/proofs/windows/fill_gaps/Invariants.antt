@@ -1,6 +1,0 @@
-use Rattle.std.proofs.Common.{◌≡◌, ◌++◌, drop}
-use Rattle.check_rows.specs.Gaps.{gaps}
-use Rattle.check_rows.proofs.windows.fill_gaps.Given as goal
-
-abbrev pub invariant-loop-span : goal.invariant-loop-span
-invariant-loop-span l = l.windows.items ++ gaps l.low l.horizon (drop l.span-index l.busy) ≡ gaps 0 l.horizon l.busy

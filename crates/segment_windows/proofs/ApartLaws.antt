@@ -1,0 +1,77 @@
+-- Windows that lie apart are in order, and one of them is found by its begin.
+use Rattle.std.proofs.Common.{◌≡◌, ◌↔◌, ℕ, zero, suc, ◌+◌, ◌<◌, ◌≤◌, true, false, List, [], ◌∷◌, length, get_or, inl, inr, IsTrue, sym, ◌∙◌, ap, subst, arith}
+use Rattle.std.specs.Prelude.{◌&&◌, ◌==◌, nat_lt, Contains}
+use Rattle.std.specs.List.Sorted.{IsPartitionPoint, IsNonDecreasingBy}
+use Rattle.std.proofs.lemmas.Bool.{cases_lt, both_ways, and_parts, and_from, eqb-true, eq-eqb, ltb-true, lt-ltb}
+use Rattle.std.proofs.lemmas.List.{get_or_default}
+use Rattle.taxi_base.specs.declared.rows.Span.{Span}
+use Rattle.taxi_base.specs.Windows.{AreApart}
+use Rattle.taxi_base.proofs.WindowLaws.{Span-same}
+
+apart-low : (low : ℕ) (ws : List Span) → AreApart low ws → (i : ℕ) (d : Span) → i < length ws → low ≤ (get_or ws i d).from
+apart-low low (w ∷ ws) apart zero d on = apart.0
+apart-low low (w ∷ ws) apart (suc i) d on = let later = apart-low (w.until + 1) ws apart.2 i d (omega arith) in omega (arith, apart.0, apart.1)
+apart-low low [] apart i d on = absurd (omega arith)
+
+pub apart-some : (low : ℕ) (ws : List Span) → AreApart low ws → (i : ℕ) (d : Span) → i < length ws → (get_or ws i d).from < (get_or ws i d).until
+apart-some low [] apart i d on = absurd (omega arith)
+apart-some low (w ∷ ws) apart zero d on = apart.1
+apart-some low (w ∷ ws) apart (suc i) d on = apart-some (w.until + 1) ws apart.2 i d (omega arith)
+
+pub apart-rising : (low : ℕ) (ws : List Span) → AreApart low ws → (i j : ℕ) (d : Span) → i < j → j < length ws → (get_or ws i d).from < (get_or ws j d).from
+apart-rising low [] apart i j d below on = absurd (omega arith)
+apart-rising low (w ∷ ws) apart zero zero d below on = absurd (omega arith)
+apart-rising low (w ∷ ws) apart (suc i) zero d below on = absurd (omega arith)
+apart-rising low (w ∷ ws) apart zero (suc j) d below on = let later = apart-low (w.until + 1) ws apart.2 j d (omega arith) in omega (arith, apart.1)
+apart-rising low (w ∷ ws) apart (suc i) (suc j) d below on = apart-rising (w.until + 1) ws apart.2 i j d (omega arith) (omega arith)
+
+pub apart-ordered : (ws : List Span) → AreApart 0 ws → IsNonDecreasingBy (λ w. w.from) ws
+apart-ordered ws apart i j d le on =
+    elim (cases_lt i j) [
+      | inl below ↦ (let rising = apart-rising 0 ws apart i j d below on in omega arith)
+      | inr above ↦ (let e : i ≡ j = omega arith in subst (λ k. (get_or ws i d).from ≤ (get_or ws k d).from) e (omega arith))
+    ]
+
+apart-ends : (low : ℕ) (ws : List Span) → AreApart low ws → (i j : ℕ) (d : Span) → i < j → j < length ws → (get_or ws i d).until < (get_or ws j d).until
+apart-ends low [] apart i j d below on = absurd (omega arith)
+apart-ends low (w ∷ ws) apart zero zero d below on = absurd (omega arith)
+apart-ends low (w ∷ ws) apart (suc i) zero d below on = absurd (omega arith)
+apart-ends low (w ∷ ws) apart zero (suc j) d below on =
+    let later = apart-low (w.until + 1) ws apart.2 j d (omega arith) in
+    let some = apart-some (w.until + 1) ws apart.2 j d (omega arith) in
+    omega arith
+apart-ends low (w ∷ ws) apart (suc i) (suc j) d below on = apart-ends (w.until + 1) ws apart.2 i j d (omega arith) (omega arith)
+
+pub apart-ends_ordered : (ws : List Span) → AreApart 0 ws → IsNonDecreasingBy (λ w. w.until) ws
+apart-ends_ordered ws apart i j d le on =
+    elim (cases_lt i j) [
+      | inl below ↦ (let rising = apart-ends 0 ws apart i j d below on in omega arith)
+      | inr above ↦ (let e : i ≡ j = omega arith in subst (λ k. (get_or ws i d).until ≤ (get_or ws k d).until) e (omega arith))
+    ]
+
+module _ (ws : List Span) (window : Span) (apart : AreApart 0 ws) (at : ℕ)
+    (point : IsPartitionPoint (λ w. nat_lt w.from window.from ≡ true) (λ w. nat_lt w.from window.from ≡ false) ws at) where
+  window-there : Contains ws window → (at < length ws) × (get_or ws at window ≡ window)
+  window-there there =
+      let k = there.0 in
+      let begins : (get_or ws k window).from ≡ window.from = ap (λ w. w.from) there.2 in
+      elim (cases_lt k at) [
+        | inl below ↦ absurd (omega (arith, begins, ltb-true _ _ (point.0 k window (omega arith) below)))
+        | inr above ↦ elim (cases_lt at k) [
+          | inl beyond ↦
+              let rising = apart-rising 0 ws apart at k window beyond there.1 in
+              absurd (both_ways _ (point.1 at window (omega arith) (omega (arith, there.1))) (lt-ltb _ _ (omega (arith, begins, rising))))
+          | inr same_place ↦ (let e : k ≡ at = omega arith in (omega (arith, there.1), subst (λ n. get_or ws n window ≡ window) e there.2))
+        ]
+      ]
+
+  pub window-some : (found : Span) → at < length ws → get_or ws at found ≡ found → IsTrue (found.from == window.from && found.until == window.until) ↔ Contains ws window
+  window-some found on is = (
+    λ same. (let parts = and_parts _ _ same in subst (Contains ws) (Span-same found window (eqb-true _ _ parts.0) (eqb-true _ _ parts.1)) (at, on, is)),
+    λ there.
+        let same : found ≡ window = sym is ∙ get_or_default ws at found window on ∙ (window-there there).1 in
+        and_from _ _ (eq-eqb _ _ (ap (λ w. w.from) same)) (eq-eqb _ _ (ap (λ w. w.until) same)),
+  )
+
+  pub window-none : length ws ≤ at → Contains ws window → ⊥
+  window-none past there = absurd (omega (arith, (window-there there).0))

@@ -1,0 +1,4 @@
+pub mod GapLaws
+pub mod ApartLaws
+pub mod CutLaws
+pub mod NearLaws

@@ -1,0 +1,10 @@
+//! The windows of one segment in a plain list: made from what is held, cut where more is, and looked through.
+#![tactic(auto)]
+
+mod cuts;
+mod finding;
+mod making;
+
+pub use cuts::cut_windows;
+pub use finding::{has_window, windows_between};
+pub use making::fill_windows;
