@@ -4,7 +4,7 @@ ghost use Rattle.taxi_base.specs.Walks.{begin_of, end_of};
 ghost use Rattle.taxi_base.specs.Reports.{kind_of_request, flight_row};
 
 use checked_state::FlightList;
-use taxi_base::{Flight, FlightKind, FlightRow, Request, Step, Time};
+use taxi_base::{Flight, FlightKind, FlightRow, Request, Step, Time, begin_of, end_of};
 
 /// Whether rows tell of flights, one row of each and in their order.
 pub fn are_flight_rows(rows: &[FlightRow], flights: &FlightList) -> bool
@@ -30,13 +30,13 @@ fn is_row_of(row: &FlightRow, flight: &Flight) -> bool
 fn flight_row(flight: &Flight) -> FlightRow
     ensures { result ≡ flight_row flight.now }
 {
-    let steps = flight.steps.as_slice();
+    let (start, end) = times_of(flight.steps.as_slice());
     FlightRow {
         flight: flight.name,
         kind: kind_of(&flight.request),
         class: flight.class,
-        start: begin_of(steps),
-        end: end_of(steps),
+        start,
+        end,
     }
 }
 
@@ -50,20 +50,13 @@ fn kind_of(request: &Request) -> FlightKind
     }
 }
 
-fn begin_of(steps: &[Step]) -> Time
-    ensures { result ≡ begin_of steps.now }
+// When a route begins and ends; both are 0 where it has no step.
+fn times_of(steps: &[Step]) -> (Time, Time)
+    ensures { result ≡ record { 0 = begin_of steps.now; 1 = end_of steps.now } }
 {
-    match steps.first() {
-        Some(step) => step.enter,
-        None => 0,
-    }
-}
-
-fn end_of(steps: &[Step]) -> Time
-    ensures { result ≡ end_of steps.now }
-{
-    match steps.last() {
-        Some(step) => step.leave,
-        None => 0,
+    if steps.is_empty() {
+        (0, 0)
+    } else {
+        (begin_of(steps), end_of(steps))
     }
 }

@@ -1,20 +1,31 @@
 -- The flights and work parties that are kept as a state, and the spans of what they hold.
-use Rattle.std.specs.Prelude.{ℕ, ◌≡◌, ◌<◌, ◌≤◌, List, length, Result, IfOk, IfErr, IsTrue, AllPairs, Some}
+use Rattle.std.specs.Prelude.{ℕ, ◌≡◌, ◌<◌, ◌≤◌, List, ◌++◌, length, map, flat_map, Result, IfOk, IfErr, IsTrue, AllPairs, Some}
 use Rattle.std.specs.List.{AllWithin, HoldsAt}
 use Rattle.taxi_base.specs.declared.answers.Flight.{Flight}
 use Rattle.taxi_base.specs.declared.answers.Party.{Party}
 use Rattle.taxi_base.specs.Airport.{Airport}
-use Rattle.taxi_base.specs.State.{State, name_precedes, flight_named, holds_in}
+use Rattle.taxi_base.specs.State.{State, name_precedes, flight_named, flight_holds, party_hold, holds_in}
 use Rattle.checked_state.specs.declared.flights.HeldFlights.{HeldFlights}
-use Rattle.held_spans.specs.Spans.{AreSpansOf, HasRoomFor}
+use Rattle.held_spans.specs.Spans.{AreSpansOf, NamedHold, held_by, AreHeldBy, HasRoomFor}
 
 abbrev pub state_of : HeldFlights → State
 state_of held = record { flights = held.flights; parties = held.parties.items }
 
--- there is a list for each segment of the airport, and the lists have the spans of what is held in a state
+-- what a flight and a party hold, and all of a state, each with the name of the holder
+abbrev pub flight_held : Airport → Flight → List NamedHold
+flight_held airport flight = held_by flight.name (flight_holds airport flight)
+
+abbrev pub party_held : Party → NamedHold
+party_held party = record { hold = party_hold party; holder = party.name }
+
+abbrev pub named_in : Airport → State → List NamedHold
+named_in airport state = map party_held state.parties ++ flat_map (flight_held airport) state.flights
+
+-- there is a list for each segment of the airport, and the lists have the spans of what is held in a state, each with the name of its holder
 pub record HasSpansOf (airport : Airport) (state : State) (held : HeldFlights) : Type 0 where
   pub lists : length held.spans.lists.items ≡ length airport.segments
   pub spans : AreSpansOf (holds_in airport state) held.spans
+  pub holders : AreHeldBy (named_in airport state) held.spans
 
 -- there is room for the spans of the flight of a name
 abbrev pub HasRoomAgain : List ℕ → HeldFlights → Type 0

@@ -90,7 +90,9 @@ impl HeldFlights {
         let flight = self.flights.at(place);
         let clearance = airport.clearance(flight.class);
         let steps = flight.steps.as_slice();
-        let held = self.spans.hold(airport.horizon(), clearance, steps);
+        let held = self
+            .spans
+            .hold(&flight.name, airport.horizon(), clearance, steps);
         if held.is_err() {
             let _ = self.flights.remove(place);
             return Err(Memory);
@@ -111,7 +113,8 @@ impl HeldFlights {
         let flight = self.flights.remove(place);
         let clearance = airport.clearance(flight.class);
         let steps = flight.steps.as_slice();
-        self.spans.release(airport.horizon(), clearance, steps);
+        self.spans
+            .release(&flight.name, airport.horizon(), clearance, steps);
     }
 
     /// Takes out the spans of the flight of a name, which stays in force. It needs no memory, and there is room for them then.
@@ -128,7 +131,8 @@ impl HeldFlights {
         let flight = self.flights.at(place);
         let clearance = airport.clearance(flight.class);
         let steps = flight.steps.as_slice();
-        self.spans.release(airport.horizon(), clearance, steps);
+        self.spans
+            .release(&flight.name, airport.horizon(), clearance, steps);
     }
 
     /// Puts the spans of the flight of a name back, for which there is room. It needs no memory.
@@ -147,7 +151,7 @@ impl HeldFlights {
         let clearance = airport.clearance(flight.class);
         let steps = flight.steps.as_slice();
         self.spans
-            .hold(airport.horizon(), clearance, steps)
+            .hold(&flight.name, airport.horizon(), clearance, steps)
             .unwrap();
     }
 
@@ -172,10 +176,9 @@ impl HeldFlights {
         ensures spans { HasSpansOf airport.now (state_of self.new) self.new }
     {
         let place = self.flights.place_of(name).unwrap();
-        let clearance = airport.clearance(self.flights.at(place).class);
-        let held = self
-            .spans
-            .hold(airport.horizon(), clearance, steps.as_slice());
+        let flight = self.flights.at(place);
+        let clearance = airport.clearance(flight.class);
+        let held = self.spans.hold(&flight.name, airport.horizon(), clearance, steps.as_slice());
         if held.is_err() {
             self.lower(airport, name);
             return Err(Memory);

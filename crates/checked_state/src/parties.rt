@@ -34,7 +34,7 @@ impl HeldFlights {
         ensures spans { (airport : Airport) → HasSpansOf airport (state_of self.old) self.old → HasSpansOf airport (state_of self.new) self.new }
     {
         self.parties.reserve(1)?;
-        self.spans.put(party.segment, span_of(&party))?;
+        self.spans.put(party.segment, span_of(&party), &party.name)?;
         let place = place_of(&self.parties, &party.name).unwrap_err();
         self.parties.insert(place, party).unwrap();
         Ok(())
@@ -50,7 +50,7 @@ impl HeldFlights {
     {
         let place = place_of(&self.parties, name).unwrap();
         let party = self.parties.remove(place);
-        self.spans.take(party.segment, span_of(&party));
+        self.spans.take(party.segment, span_of(&party), &party.name);
     }
 }
 

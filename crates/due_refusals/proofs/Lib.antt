@@ -1,3 +1,4 @@
 pub mod HeldLaws
 mod TakenLaws
+mod HolderLaws
 pub mod FiledLaws

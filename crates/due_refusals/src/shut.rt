@@ -56,6 +56,7 @@ pub fn hold_fault(
     segment: Segment,
     span: Span,
 ) -> Result<Option<StepFault>, Memory>
+    requires ordered { IsInOrder (state_of held.now) }
     requires spans { HasSpansOf airport.now (state_of held.now) held.now }
     requires known { AreKnownIn airport.now (state_of held.now) known.old }
     requires on { segment.0 < length airport.now.segments }
@@ -76,6 +77,7 @@ fn hold_cause(
     segment: Segment,
     span: Span,
 ) -> Result<Option<StepCause>, Memory>
+    requires ordered { IsInOrder (state_of held.now) }
     requires spans { HasSpansOf airport.now (state_of held.now) held.now }
     requires known { AreKnownIn airport.now (state_of held.now) known.old }
     requires on { segment.0 < length airport.now.segments }

@@ -1,11 +1,10 @@
 //! When a hold is taken first, and by whom.
-ghost use Rattle.std.specs.Prelude.{◌≡◌, ◌≤◌, ◌<◌, [], IfOk, OnOk, IsTrue, true, false, length, nat_le};
-ghost use Rattle.std.specs.List.{list_any};
+ghost use Rattle.std.specs.Prelude.{◌≡◌, ◌≤◌, ◌<◌, IfOk, OnOk, IsTrue, true, false, length, nat_le};
 ghost use Rattle.std.specs.List.Sorted.{IsPartitionPoint};
 ghost use Rattle.taxi_base.specs.Airport.{arc_exists, layout_of};
-ghost use Rattle.taxi_base.specs.Windows.{AreApart, span_has, covers, blocks};
-ghost use Rattle.taxi_base.specs.State.{flight_holds};
-ghost use Rattle.taxi_base.specs.Faults.{first_taken, flight_at, taken_by, taken_cause};
+ghost use Rattle.taxi_base.specs.Windows.{AreApart, covers};
+ghost use Rattle.taxi_base.specs.State.{IsInOrder};
+ghost use Rattle.taxi_base.specs.Faults.{first_taken, taken_by, taken_cause};
 ghost use Rattle.check_rows.specs.Known.{is_known};
 ghost use Rattle.checked_state.specs.Flights.{state_of, HasSpansOf};
 ghost use Rattle.due_refusals.specs.KnownIn.{AreKnownIn};
@@ -14,9 +13,8 @@ ghost use Rattle.due_refusals.specs.Filing.{IsFirstOutside};
 use crate::holder::holder_at;
 use airport_file::Airport;
 use check_rows::KnownWindows;
-use checked_state::{FlightList, HeldFlights};
-use conflict_sets::Conflicts;
-use taxi_base::{Class, Flight, Memory, Name, Segment, Span, Step, StepCause, Time};
+use checked_state::HeldFlights;
+use taxi_base::{Class, Memory, Segment, Span, Step, StepCause, Time};
 
 /// The first second of what a step of a class holds at which its segment is taken, and the first holder by name that takes it.
 pub(crate) fn taken_cause(
@@ -26,6 +24,7 @@ pub(crate) fn taken_cause(
     known: &mut KnownWindows,
     step: Step,
 ) -> Result<Option<StepCause>, Memory>
+    requires ordered { IsInOrder (state_of held.now) }
     requires spans { HasSpansOf airport.now (state_of held.now) held.now }
     requires known { AreKnownIn airport.now (state_of held.now) known.old }
     requires arc { IsTrue (arc_exists (layout_of airport.now) step.arc) }
@@ -44,6 +43,7 @@ pub(crate) fn taken_by(
     segment: Segment,
     span: Span,
 ) -> Result<Option<StepCause>, Memory>
+    requires ordered { IsInOrder (state_of held.now) }
     requires spans { HasSpansOf airport.now (state_of held.now) held.now }
     requires known { AreKnownIn airport.now (state_of held.now) known.old }
     requires on { segment.0 < length airport.now.segments }
@@ -54,7 +54,6 @@ pub(crate) fn taken_by(
     let Some(at) = first_taken(known.of(segment), span) else {
         return Ok(None);
     };
-    // Only here are the holders gone through.
     let Some(by) = holder_at(airport, held, segment, at) else {
         return Ok(None);
     };
@@ -112,64 +111,4 @@ fn windows_over(windows: &[Span], second: Time) -> usize
     ensures point { IsPartitionPoint (λ w. nat_le w.until second ≡ true) (λ w. nat_le w.until second ≡ false) windows.now result }
 {
     windows.partition_point(|w| w.until <= second)
-}
-
-/// The first of some flights by rising names that holds a segment in conflict with this one at a second.
-pub(crate) fn flight_at(
-    airport: &Airport,
-    flights: &FlightList,
-    segment: Segment,
-    second: Time,
-) -> Option<Name>
-    requires { segment.0 < length airport.now.segments }
-    ensures { result ≡ flight_at airport.now (record { flights = flights.now; parties = [] }) segment second }
-{
-    for at in 0..flights.len() {
-        let flight = flights.at(at);
-        if holds_at(airport, flight, segment, second) {
-            return Some(flight.name);
-        }
-    }
-    None
-}
-
-// Whether a flight holds a segment in conflict with this one at a second.
-fn holds_at(airport: &Airport, flight: &Flight, segment: Segment, second: Time) -> bool
-    requires { segment.0 < length airport.now.segments }
-    ensures { result ≡ list_any (blocks airport.now.conflicts segment second) (flight_holds airport.now flight.now) }
-{
-    let horizon = airport.horizon();
-    let clearance = airport.clearance(flight.class);
-    let conflicts = airport.conflicts();
-    for step in flight.steps.as_slice() {
-        let held = step.held(horizon, clearance);
-        if blocks(conflicts, segment, second, step.arc.segment(), held) {
-            return true;
-        }
-    }
-    false
-}
-
-/// Whether a hold is of a segment in conflict with this one, and has a second.
-pub(crate) fn blocks(
-    conflicts: &Conflicts,
-    segment: Segment,
-    second: Time,
-    other: Segment,
-    held: Span,
-) -> bool
-    requires { segment.0 < conflicts.now.segments }
-    ensures { result ≡ blocks conflicts.now.sets segment second (record { segment = other; span = held }) }
-{
-    // Most holds are over or have not begun, so the time is looked at first.
-    if !has_second(held, second) {
-        return false;
-    }
-    conflicts.conflict(segment, other)
-}
-
-fn has_second(span: Span, second: Time) -> bool
-    ensures { result ≡ span_has span second }
-{
-    span.from <= second && second < span.until
 }

@@ -1,3 +1,5 @@
 pub mod SumLaws
+mod RowLaws
+pub mod FirstLaws
 pub mod SpanLaws
 pub mod LoopLaws

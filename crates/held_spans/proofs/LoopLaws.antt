@@ -1,5 +1,5 @@
 -- What steps hold, put in and taken out one step after the other.
-use Rattle.std.proofs.Common.{◌≡◌, ◌∙◌, ℕ, ◌+◌, ◌<◌, ◌≤◌, true, false, ◌==◌, cond, List, [], ◌∷◌, ◌++◌, length, get_or, take, drop, map, append_assoc, append-nil, refl, sym, ap, subst, arith}
+use Rattle.std.proofs.Common.{◌≡◌, ◌∙◌, ℕ, ◌+◌, ◌<◌, ◌≤◌, true, false, ◌==◌, cond, List, [], ◌∷◌, ◌++◌, length, get_or, take, drop, append_assoc, append-nil, refl, sym, ap, subst, arith}
 use Rattle.std.specs.Prelude.{Result, Ok, Err, OnOk, OnErr, is_err}
 use Rattle.std.proofs.lemmas.List.{at_drop_more, drop_all, take_all, take_more}
 use Rattle.std.proofs.lemmas.List.Sums.{sum_by_more, sum_by_more_le}
@@ -9,8 +9,8 @@ use Rattle.taxi_base.specs.declared.rows.Step.{Step}
 use Rattle.taxi_base.specs.Airport.{segment_of}
 use Rattle.taxi_base.specs.Windows.{Hold, hold_of, holds_of}
 use Rattle.held_spans.specs.declared.spans.HeldSpans.{HeldSpans}
-use Rattle.held_spans.specs.Spans.{AreSpansOf, steps_on}
-use Rattle.held_spans.proofs.SpanLaws.{AreSpansOf-same, weight-cons, weight-append}
+use Rattle.held_spans.specs.Spans.{NamedHold, held_by, AreHeldBy, steps_on}
+use Rattle.held_spans.proofs.SpanLaws.{one_hold, AreHeldBy-same, named-cons, named-append}
 
 -- what stands for a step that is not there
 abbrev pub no_step : Step
@@ -25,37 +25,46 @@ pub done-err : {A E : Type 0} (r : Result A E) (P : Type 0) → OnErr r P → is
 done-err (Ok x) P h e = absurd (cc e)
 done-err (Err x) P h e = h
 
--- a hold among others, put first
-front : (held : HeldSpans) (holds : List Hold) (h : Hold) (rest : List Hold) → AreSpansOf (holds ++ h ∷ rest) held → AreSpansOf (h ∷ (holds ++ rest)) held
-front held holds h rest are =
-    AreSpansOf-same held (holds ++ h ∷ rest) (h ∷ (holds ++ rest))
-    (λ s weight. omega (arith, weight-append weight s holds (h ∷ rest), weight-cons weight s h rest, weight-cons weight s h (holds ++ rest), weight-append weight s holds rest)) are
+-- what follows of what a call did
+pub then-ok : {A E : Type 0} (r : Result A E) (P Q : Type 0) → (P → Q) → OnOk r P → OnOk r Q
+then-ok (Ok x) P Q follows h = follows h
+then-ok (Err x) P Q follows h = tt
 
-module _ (horizon clearance : ℕ) (steps : List Step) (i : ℕ) (segment : Segment) (span : Span) (on : i < length steps) (is_segment : segment ≡ segment_of (get_or steps i no_step).arc)
+pub then-err : {A E : Type 0} (r : Result A E) (P Q : Type 0) → (P → Q) → OnErr r P → OnErr r Q
+then-err (Ok x) P Q follows h = tt
+then-err (Err x) P Q follows h = follows h
+
+-- a hold among others, put first
+front : (held : HeldSpans) (holds : List NamedHold) (h : NamedHold) (rest : List NamedHold) → AreHeldBy (holds ++ h ∷ rest) held → AreHeldBy (h ∷ (holds ++ rest)) held
+front held holds h rest are =
+    AreHeldBy-same held (holds ++ h ∷ rest) (h ∷ (holds ++ rest))
+    (λ s weight. omega (arith, named-append weight s holds (h ∷ rest), named-cons weight s h rest, named-cons weight s h (holds ++ rest), named-append weight s holds rest)) are
+
+module _ (holder : List ℕ) (horizon clearance : ℕ) (steps : List Step) (i : ℕ) (segment : Segment) (span : Span) (on : i < length steps) (is_segment : segment ≡ segment_of (get_or steps i no_step).arc)
     (is_span : span ≡ (hold_of horizon clearance (get_or steps i no_step)).span) where
   is_hold : hold_of horizon clearance (get_or steps i no_step) ≡ record { segment = segment; span = span }
   is_hold = λ j. record { segment = sym is_segment j; span = sym is_span j }
 
   -- the next of the holds that are left is the step's
-  pub first-left : (held : HeldSpans) (holds : List Hold) → AreSpansOf (holds ++ holds_of horizon clearance (drop i steps)) held
-      → AreSpansOf (record { segment = segment; span = span } ∷ (holds ++ holds_of horizon clearance (drop (i + 1) steps))) held
+  pub first-left : (held : HeldSpans) (holds : List NamedHold) → AreHeldBy (holds ++ held_by holder (holds_of horizon clearance (drop i steps))) held
+      → AreHeldBy (one_hold segment span holder ∷ (holds ++ held_by holder (holds_of horizon clearance (drop (i + 1) steps)))) held
   first-left held holds are =
-      let next = at_drop_more (λ (rest : List Step). holds_of horizon clearance rest) steps i no_step on in
-      let there = next ∙ ap (λ (h : Hold). h ∷ holds_of horizon clearance (drop (i + 1) steps)) is_hold in
-      front held holds (record { segment = segment; span = span }) (holds_of horizon clearance (drop (i + 1) steps)) (subst (λ (rest : List Hold). AreSpansOf (holds ++ rest) held) there are)
+      let next = at_drop_more (λ (rest : List Step). held_by holder (holds_of horizon clearance rest)) steps i no_step on in
+      let there = next ∙ ap (λ (h : Hold). record { hold = h; holder = holder } ∷ held_by holder (holds_of horizon clearance (drop (i + 1) steps))) is_hold in
+      front held holds (one_hold segment span holder) (held_by holder (holds_of horizon clearance (drop (i + 1) steps))) (subst (λ (rest : List NamedHold). AreHeldBy (holds ++ rest) held) there are)
 
   -- one more is put in
-  pub one-more : (held : HeldSpans) (holds : List Hold) → AreSpansOf ((holds ++ holds_of horizon clearance (take i steps)) ++ record { segment = segment; span = span } ∷ []) held
-      → AreSpansOf (holds ++ holds_of horizon clearance (take (i + 1) steps)) held
+  pub one-more : (held : HeldSpans) (holds : List NamedHold) → AreHeldBy ((holds ++ held_by holder (holds_of horizon clearance (take i steps))) ++ one_hold segment span holder ∷ []) held
+      → AreHeldBy (holds ++ held_by holder (holds_of horizon clearance (take (i + 1) steps))) held
   one-more held holds are =
-      let more = ap (λ (some : List Step). holds_of horizon clearance some) (take_more steps i no_step on) in
-      let pushed = more ∙ map-push (hold_of horizon clearance) (take i steps) (get_or steps i no_step) ∙ ap (λ (h : Hold). holds_of horizon clearance (take i steps) ++ h ∷ []) is_hold in
-      subst (λ (all : List Hold). AreSpansOf (holds ++ all) held) (sym pushed)
-      (subst (λ (all : List Hold). AreSpansOf all held) (append_assoc holds (holds_of horizon clearance (take i steps)) (record { segment = segment; span = span } ∷ [])) are)
+      let more = ap (λ (some : List Step). held_by holder (holds_of horizon clearance some)) (take_more steps i no_step on) in
+      let pushed = more ∙ push (take i steps) (get_or steps i no_step) ∙ ap (λ (h : Hold). held_by holder (holds_of horizon clearance (take i steps)) ++ record { hold = h; holder = holder } ∷ []) is_hold in
+      subst (λ (all : List NamedHold). AreHeldBy (holds ++ all) held) (sym pushed)
+      (subst (λ (all : List NamedHold). AreHeldBy all held) (append_assoc holds (held_by holder (holds_of horizon clearance (take i steps))) (one_hold segment span holder ∷ [])) are)
     where
-      map-push : {X Y : Type 0} (f : X → Y) (xs : List X) (x : X) → map f (xs ++ x ∷ []) ≡ map f xs ++ f x ∷ []
-      map-push f [] x = refl
-      map-push f (y ∷ ys) x = ap (λ rest. f y ∷ rest) (map-push f ys x)
+      push : (some : List Step) (step : Step) → held_by holder (holds_of horizon clearance (some ++ step ∷ [])) ≡ held_by holder (holds_of horizon clearance some) ++ record { hold = hold_of horizon clearance step; holder = holder } ∷ []
+      push [] step = refl
+      push (first ∷ some) step = ap (λ (rest : List NamedHold). record { hold = hold_of horizon clearance first; holder = holder } ∷ rest) (push some step)
 
   -- how many of the first steps are on a segment
   pub steps_on-more : (s : Segment) → steps_on s (take (i + 1) steps) ≡ steps_on s (take i steps) + cond (segment.0 == s.0) 1 0
@@ -68,11 +77,11 @@ module _ (horizon clearance : ℕ) (steps : List Step) (i : ℕ) (segment : Segm
       (sum_by_more_le (λ (step : Step). cond ((segment_of step.arc).0 == s.0) 1 0) steps i no_step on)
 
 -- none is left
-pub none-left : (horizon clearance : ℕ) (steps : List Step) (i : ℕ) → length steps ≤ i → (held : HeldSpans) (holds : List Hold)
-    → AreSpansOf (holds ++ holds_of horizon clearance (drop i steps)) held → AreSpansOf holds held
-none-left horizon clearance steps i past held holds are =
-    let there = subst (λ (rest : List Step). AreSpansOf (holds ++ holds_of horizon clearance rest) held) (drop_all i steps past) are in
-    subst (λ (all : List Hold). AreSpansOf all held) (append-nil holds) there
+pub none-left : (holder : List ℕ) (horizon clearance : ℕ) (steps : List Step) (i : ℕ) → length steps ≤ i → (held : HeldSpans) (holds : List NamedHold)
+    → AreHeldBy (holds ++ held_by holder (holds_of horizon clearance (drop i steps))) held → AreHeldBy holds held
+none-left holder horizon clearance steps i past held holds are =
+    let there = subst (λ (rest : List Step). AreHeldBy (holds ++ held_by holder (holds_of horizon clearance rest)) held) (drop_all i steps past) are in
+    subst (λ (all : List NamedHold). AreHeldBy all held) (append-nil holds) there
 
 pub steps_on-all : (steps : List Step) (i : ℕ) → length steps ≤ i → (s : Segment) → steps_on s (take i steps) ≡ steps_on s steps
 steps_on-all steps i past s = ap (λ (some : List Step). steps_on s some) (take_all i steps past)

@@ -1,2 +1,4 @@
 pub mod Holds
+pub mod Rows
+pub mod Holders
 pub mod Spans

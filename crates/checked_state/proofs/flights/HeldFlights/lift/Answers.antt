@@ -1,11 +1,11 @@
 use Rattle.std.proofs.Common.{List, ◌≡◌, ◌≤◌, ◌+◌, ◌∙◌, sym, ap, subst, arith}
 use Rattle.taxi_base.specs.declared.rows.Step.{Step}
 use Rattle.taxi_base.specs.declared.answers.Flight.{Flight}
-use Rattle.taxi_base.specs.State.{without, holds_in}
+use Rattle.taxi_base.specs.State.{without}
 use Rattle.held_spans.specs.Spans.{steps_on, room_at}
-use Rattle.checked_state.specs.Flights.{state_of}
+use Rattle.checked_state.specs.Flights.{state_of, named_in}
 use Rattle.checked_state.proofs.PlaceLaws.{found-at, place-there}
-use Rattle.checked_state.proofs.FlightLaws.{take-apart}
+use Rattle.checked_state.proofs.FlightLaws.{has-spans, take-apart}
 use Rattle.checked_state.proofs.flights.HeldFlights.lift.Goals as goal
 
 pub unwrap-place-requires : goal.unwrap-place-requires
@@ -17,9 +17,9 @@ release-requires c =
     let name = c.args.name.now in
     let flight = c.at-flight.result.now in
     let found = found-at (λ (f : Flight). f.name) flights name c.requires.ordered c.place_of.result c.unwrap-place.result c.place_of.ensures c.unwrap-place.ensures flight c.at-flight.ensures in (
-      holds_in c.args.airport.now (without name (state_of c.args.self.now)),
+      named_in c.args.airport.now (without name (state_of c.args.self.now)),
       take-apart c.args.airport.now c.args.self.now.spans name (state_of c.args.self.now) flight c.requires.ordered c.requires.alone found c.horizon.result c.clearance-clearance.result c.as_slice-steps.result.now
-          c.horizon.ensures.horizon c.clearance-clearance.ensures.clearance c.as_slice-steps.ensures c.requires.spans.spans,
+          c.horizon.ensures.horizon c.clearance-clearance.ensures.clearance c.as_slice-steps.ensures c.requires.spans.holders,
     )
 
 pub returns-clause-spans : goal.returns-clause-spans
@@ -28,12 +28,10 @@ returns-clause-spans c =
     let name = c.args.name.now in
     let flight = c.at-flight.result.now in
     let found = found-at (λ (f : Flight). f.name) flights name c.requires.ordered c.place_of.result c.unwrap-place.result c.place_of.ensures c.unwrap-place.ensures flight c.at-flight.ensures in
-    record {
-      lists = c.release.ensures.count ∙ c.requires.spans.lists;
-      spans = c.release.ensures.gone (holds_in c.args.airport.now (without name (state_of c.args.self.now)))
-          (take-apart c.args.airport.now c.args.self.now.spans name (state_of c.args.self.now) flight c.requires.ordered c.requires.alone found c.horizon.result c.clearance-clearance.result c.as_slice-steps.result.now
-          c.horizon.ensures.horizon c.clearance-clearance.ensures.clearance c.as_slice-steps.ensures c.requires.spans.spans);
-    }
+    has-spans _ _ _ (c.release.ensures.count ∙ c.requires.spans.lists)
+    (c.release.ensures.gone (named_in c.args.airport.now (without name (state_of c.args.self.now)))
+    (take-apart c.args.airport.now c.args.self.now.spans name (state_of c.args.self.now) flight c.requires.ordered c.requires.alone found c.horizon.result c.clearance-clearance.result c.as_slice-steps.result.now
+    c.horizon.ensures.horizon c.clearance-clearance.ensures.clearance c.as_slice-steps.ensures c.requires.spans.holders))
 
 pub returns-clause-room : goal.returns-clause-room
 returns-clause-room c other known s =

@@ -1,9 +1,9 @@
 use Rattle.std.proofs.Common.{◌∙◌}
 use Rattle.taxi_base.specs.declared.answers.Flight.{Flight}
-use Rattle.taxi_base.specs.State.{without, holds_in}
-use Rattle.checked_state.specs.Flights.{state_of}
+use Rattle.taxi_base.specs.State.{without}
+use Rattle.checked_state.specs.Flights.{state_of, named_in}
 use Rattle.checked_state.proofs.PlaceLaws.{found-at, place-there}
-use Rattle.checked_state.proofs.FlightLaws.{put-together, steps-listed}
+use Rattle.checked_state.proofs.FlightLaws.{has-spans, put-together, steps-listed}
 use Rattle.checked_state.proofs.flights.HeldFlights.lower.Goals as goal
 
 pub unwrap-place-requires : goal.unwrap-place-requires
@@ -31,9 +31,7 @@ returns-clause-spans c =
     let name = c.args.name.now in
     let flight = c.at-flight.result.now in
     let found = found-at (λ (f : Flight). f.name) flights name c.requires.ordered c.place_of.result c.unwrap-place.result c.place_of.ensures c.unwrap-place.ensures flight c.at-flight.ensures in
-    record {
-      lists = c.hold.ensures.count ∙ c.requires.spans.lists;
-      spans = put-together c.args.airport.now c.hold.new.self name (state_of c.args.self.now) flight c.requires.ordered c.requires.alone found c.horizon.result c.clearance-clearance.result c.as_slice-steps.result.now
-          c.horizon.ensures.horizon c.clearance-clearance.ensures.clearance c.as_slice-steps.ensures
-          ((rw c.unwrap.ensures at c.hold.ensures.ok) (holds_in c.args.airport.now (without name (state_of c.args.self.now))) c.requires.spans.spans);
-    }
+    has-spans _ _ _ (c.hold.ensures.count ∙ c.requires.spans.lists)
+    (put-together c.args.airport.now c.hold.new.self name (state_of c.args.self.now) flight c.requires.ordered c.requires.alone found c.horizon.result c.clearance-clearance.result c.as_slice-steps.result.now
+    c.horizon.ensures.horizon c.clearance-clearance.ensures.clearance c.as_slice-steps.ensures
+    ((rw c.unwrap.ensures at c.hold.ensures.ok) (named_in c.args.airport.now (without name (state_of c.args.self.now))) c.requires.spans.holders))

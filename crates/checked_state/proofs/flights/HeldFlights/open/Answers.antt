@@ -2,11 +2,11 @@ use Rattle.std.proofs.Common.{List, ◌∷◌, ◌∙◌, sym, subst}
 use Rattle.std.specs.Prelude.{Ok}
 use Rattle.taxi_base.specs.declared.answers.Party.{Party}
 use Rattle.taxi_base.specs.declared.rows.Span.{Span}
-use Rattle.taxi_base.specs.State.{State, parties_without, holds_in}
-use Rattle.held_spans.specs.Spans.{AreSpansOf}
-use Rattle.checked_state.specs.Flights.{state_of}
+use Rattle.taxi_base.specs.State.{State, parties_without}
+use Rattle.held_spans.specs.Spans.{AreHeldBy}
+use Rattle.checked_state.specs.Flights.{state_of, named_in}
 use Rattle.checked_state.proofs.PlaceLaws.{named-at, place-at, place-there, without-at}
-use Rattle.checked_state.proofs.FlightLaws.{party-apart}
+use Rattle.checked_state.proofs.FlightLaws.{has-spans, party-apart}
 use Rattle.checked_state.proofs.flights.HeldFlights.open.Goals as goal
 
 pub unwrap-place-requires : goal.unwrap-place-requires
@@ -23,9 +23,9 @@ take-requires c =
     let place = place-at (λ (p : Party). p.name) parties name c.place_of.result (Ok c.unwrap-place.result) (rw c.deref.ensures.value at c.place_of.ensures) c.unwrap-place.ensures in
     let found = named-at (λ (p : Party). p.name) parties name c.requires.ordered c.unwrap-place.result place party c.remove-party.ensures.value in
     let has = c.requires.spans.1 in (
-      holds_in c.requires.spans.0 left,
-      subst (λ (span : Span). AreSpansOf (record { segment = party.segment; span = span } ∷ holds_in c.requires.spans.0 left) c.args.self.now.spans) (sym c.span_of.ensures)
-          (party-apart c.requires.spans.0 c.args.self.now.spans name before party c.requires.ordered found has.spans),
+      named_in c.requires.spans.0 left,
+      subst (λ (span : Span). AreHeldBy (record { hold = record { segment = party.segment; span = span }; holder = party.name } ∷ named_in c.requires.spans.0 left) c.args.self.now.spans) (sym c.span_of.ensures)
+          (party-apart c.requires.spans.0 c.args.self.now.spans name before party c.requires.ordered found has.holders),
     )
 
 pub returns-clause-state : goal.returns-clause-state
@@ -47,10 +47,8 @@ returns-clause-spans c airport has =
     let place = place-at (λ (p : Party). p.name) parties name c.place_of.result (Ok c.unwrap-place.result) (rw c.deref.ensures.value at c.place_of.ensures) c.unwrap-place.ensures in
     let found = named-at (λ (p : Party). p.name) parties name c.requires.ordered c.unwrap-place.result place party c.remove-party.ensures.value in
     let left = c.remove-party.ensures.items ∙ without-at (λ (p : Party). p.name) parties name c.requires.ordered c.unwrap-place.result place party in
-    let own = subst (λ (span : Span). AreSpansOf (record { segment = party.segment; span = span } ∷ holds_in airport after) c.args.self.now.spans) (sym c.span_of.ensures)
-    (party-apart airport c.args.self.now.spans name before party c.requires.ordered found has.spans) in
-    record {
-      lists = c.take.ensures.count ∙ has.lists;
-      spans = subst (λ (ps : List Party). AreSpansOf (holds_in airport (record before { parties = ps })) c.take.new.self) (sym left)
-          (c.take.ensures.gone (holds_in airport after) own);
-    }
+    let own = subst (λ (span : Span). AreHeldBy (record { hold = record { segment = party.segment; span = span }; holder = party.name } ∷ named_in airport after) c.args.self.now.spans) (sym c.span_of.ensures)
+    (party-apart airport c.args.self.now.spans name before party c.requires.ordered found has.holders) in
+    has-spans _ _ _ (c.take.ensures.count ∙ has.lists)
+    (subst (λ (ps : List Party). AreHeldBy (named_in airport (record before { parties = ps })) c.take.new.self) (sym left)
+    (c.take.ensures.gone (named_in airport after) own))

@@ -1,15 +1,14 @@
-use Rattle.std.proofs.Common.{List, ◌≡◌, ◌∙◌, ◌++◌, length, get_or, sym, ap, subst, arith}
+use Rattle.std.proofs.Common.{List, refl, ◌≡◌, ◌∙◌, ◌++◌, length, get_or, sym, ap, subst, arith}
 use Rattle.std.specs.Prelude.{Err}
 use Rattle.std.specs.List.{remove}
 use Rattle.taxi_base.specs.declared.answers.Flight.{Flight}
-use Rattle.taxi_base.specs.Windows.{Hold}
-use Rattle.taxi_base.specs.State.{State, flight_holds, holds_in}
-use Rattle.held_spans.specs.Spans.{AreSpansOf}
+use Rattle.taxi_base.specs.State.{State}
+use Rattle.held_spans.specs.Spans.{NamedHold, AreHeldBy}
 use Rattle.held_spans.proofs.LoopLaws.{done-ok, done-err}
-use Rattle.checked_state.specs.Flights.{state_of}
+use Rattle.checked_state.specs.Flights.{state_of, named_in, flight_held}
 use Rattle.checked_state.proofs.MapLaws.{insert-here, length-insert, remove-insert}
 use Rattle.checked_state.proofs.PlaceLaws.{place-at, place-gone, with-at}
-use Rattle.checked_state.proofs.FlightLaws.{its-parts, steps-listed, spans-with}
+use Rattle.checked_state.proofs.FlightLaws.{has-spans, its-parts, steps-listed, spans-with}
 use Rattle.checked_state.proofs.flights.HeldFlights.put_in.Goals as goal
 
 pub unwrap_err-place-requires : goal.unwrap_err-place-requires
@@ -48,11 +47,9 @@ returns-then-is_err-clause-spans c =
     let gap = place-at (λ (f : Flight). f.name) old c.args.flight.name c.place_of.result (Err place) c.place_of.ensures c.unwrap_err-place.ensures in
     let back = c.remove.ensures.items ∙ ap (λ (all : List Flight). remove all place) c.in_ok-insert.ensures.ok ∙ remove-insert old place c.args.flight gap.gap in
     let before : State = state_of c.args.self.now in
-    let kept = done-err c.hold-held.result _ c.hold-held.ensures.err (sym c.is_err.ensures.value ∙ c.if-is_err.true) (holds_in c.args.airport.now before) c.requires.spans.spans in
-    record {
-      lists = c.hold-held.ensures.count ∙ c.requires.spans.lists;
-      spans = subst (λ (flights : List Flight). AreSpansOf (holds_in c.args.airport.now (record before { flights = flights })) c.hold-held.new.self) (sym back) kept;
-    }
+    let kept = done-err c.hold-held.result _ c.hold-held.ensures.err (sym c.is_err.ensures.value ∙ c.if-is_err.true) (named_in c.args.airport.now before) c.requires.spans.holders in
+    has-spans _ _ _ (c.hold-held.ensures.count ∙ c.requires.spans.lists)
+    (subst (λ (flights : List Flight). AreHeldBy (named_in c.args.airport.now (record before { flights = flights })) c.hold-held.new.self) (sym back) kept)
 
 pub returns-clause-ok : goal.returns-clause-ok
 returns-clause-ok c =
@@ -70,13 +67,11 @@ returns-clause-spans c =
     let place = place-at (λ (f : Flight). f.name) old c.args.flight.name c.place_of.result (Err at) c.place_of.ensures c.unwrap_err-place.ensures in
     let here : flight ≡ c.args.flight = c.at-flight.ensures ∙ ap (λ (all : List Flight). get_or all at flight) c.in_ok-insert.ensures.ok ∙ insert-here old at c.args.flight flight place.gap in
     let with = c.in_ok-insert.ensures.ok ∙ with-at (λ (f : Flight). f.name) c.args.flight old at place in
-    let its = its-parts airport flight c.horizon.result c.clearance-clearance.result c.as_slice-steps.result.now c.horizon.ensures.horizon c.clearance-clearance.ensures.clearance c.as_slice-steps.ensures in
+    let its = its-parts airport flight flight.name c.horizon.result c.clearance-clearance.result c.as_slice-steps.result.now refl c.horizon.ensures.horizon c.clearance-clearance.ensures.clearance c.as_slice-steps.ensures in
     let before : State = state_of c.args.self.now in
-    let held = done-ok c.hold-held.result _ c.hold-held.ensures.ok (sym c.is_err.ensures.value ∙ c.if-is_err.false) (holds_in airport before) c.requires.spans.spans in
-    record {
-      lists = c.hold-held.ensures.count ∙ c.requires.spans.lists;
-      spans = subst (λ (flights : List Flight). AreSpansOf (holds_in airport (record before { flights = flights })) c.hold-held.new.self) (sym with)
-          (spans-with airport c.hold-held.new.self c.args.flight before
-          (subst (λ (f : Flight). AreSpansOf (holds_in airport before ++ flight_holds airport f) c.hold-held.new.self) here
-          (subst (λ (its : List Hold). AreSpansOf (holds_in airport before ++ its) c.hold-held.new.self) its held)));
-    }
+    let held = done-ok c.hold-held.result _ c.hold-held.ensures.ok (sym c.is_err.ensures.value ∙ c.if-is_err.false) (named_in airport before) c.requires.spans.holders in
+    has-spans _ _ _ (c.hold-held.ensures.count ∙ c.requires.spans.lists)
+    (subst (λ (flights : List Flight). AreHeldBy (named_in airport (record before { flights = flights })) c.hold-held.new.self) (sym with)
+    (spans-with airport c.hold-held.new.self c.args.flight before
+    (subst (λ (f : Flight). AreHeldBy (named_in airport before ++ flight_held airport f) c.hold-held.new.self) here
+    (subst (λ (its : List NamedHold). AreHeldBy (named_in airport before ++ its) c.hold-held.new.self) its held))))

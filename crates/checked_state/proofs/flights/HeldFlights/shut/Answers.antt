@@ -2,11 +2,11 @@ use Rattle.std.proofs.Common.{List, [], ◌∷◌, ◌∙◌, ◌++◌, sym, sub
 use Rattle.std.specs.Prelude.{Err}
 use Rattle.taxi_base.specs.declared.answers.Party.{Party}
 use Rattle.taxi_base.specs.declared.rows.Span.{Span}
-use Rattle.taxi_base.specs.State.{State, holds_in}
-use Rattle.held_spans.specs.Spans.{AreSpansOf}
-use Rattle.checked_state.specs.Flights.{state_of}
+use Rattle.taxi_base.specs.State.{State}
+use Rattle.held_spans.specs.Spans.{AreHeldBy}
+use Rattle.checked_state.specs.Flights.{state_of, named_in}
 use Rattle.checked_state.proofs.PlaceLaws.{place-at, place-gone, with-at}
-use Rattle.checked_state.proofs.FlightLaws.{spans-with_party}
+use Rattle.checked_state.proofs.FlightLaws.{has-spans, spans-with_party}
 use Rattle.checked_state.proofs.flights.HeldFlights.shut.Goals as goal
 
 pub unwrap_err-place-requires : goal.unwrap_err-place-requires
@@ -29,10 +29,15 @@ returns-clause-spans c airport has =
     let with = inserted ∙ with-at (λ (p : Party). p.name) c.args.party c.args.self.now.parties.items c.unwrap_err-place.result
     (place-at (λ (p : Party). p.name) c.args.self.now.parties.items c.args.party.name c.place_of.result (Err c.unwrap_err-place.result) place c.unwrap_err-place.ensures) in
     let before : State = state_of c.args.self.now in
-    let held = c.in_ok-put.ensures.ok (holds_in airport before) has.spans in
-    let own = subst (λ (span : Span). AreSpansOf (holds_in airport before ++ record { segment = c.args.party.segment; span = span } ∷ []) c.put.new.self) c.span_of.ensures held in
-    record {
-      lists = c.put.ensures.count ∙ has.lists;
-      spans = subst (λ (parties : List Party). AreSpansOf (holds_in airport (record before { parties = parties })) c.put.new.self) (sym with)
-          (spans-with_party airport c.put.new.self c.args.party before own);
-    }
+    let held = c.in_ok-put.ensures.ok (named_in airport before) has.holders in
+    let own = subst (λ (span : Span). AreHeldBy (named_in airport before ++ record { hold = record { segment = c.args.party.segment; span = span }; holder = c.args.party.name } ∷ []) c.put.new.self) c.span_of.ensures held in
+    has-spans _ _ _ (c.put.ensures.count ∙ has.lists)
+    (subst (λ (parties : List Party). AreHeldBy (named_in airport (record before { parties = parties })) c.put.new.self) (sym with)
+    (spans-with_party airport c.put.new.self c.args.party before own))
+
+pub returns-in_err-put-clause-spans : goal.returns-in_err-put-clause-spans
+returns-in_err-put-clause-spans c airport has =
+    let before : State = state_of c.args.self.now in
+    let kept = c.in_err-put.ensures.err (named_in airport before) has.holders in
+    has-spans _ _ _ (c.put.ensures.count ∙ has.lists)
+    (subst (λ (parties : List Party). AreHeldBy (named_in airport (record before { parties = parties })) c.put.new.self) (sym c.reserve.ensures.items) kept)

@@ -1,24 +1,40 @@
-use Rattle.std.proofs.Common.{◌≡◌, List, Some, refl, ap, arith}
-use Rattle.std.specs.Prelude.{slice_get, sum_by}
+use Rattle.std.proofs.Common.{◌≡◌, Some, refl}
+use Rattle.std.specs.Prelude.{slice_get}
 use Rattle.std.specs.Vec.{with_item}
 use Rattle.std.proofs.lemmas.Option.{slice_get_read}
-use Rattle.std.proofs.lemmas.List.Sums.{sum_by-insert}
-use Rattle.taxi_base.specs.declared.rows.Span.{Span}
-use Rattle.held_spans.proofs.SpanLaws.{put-spans, put-room}
+use Rattle.held_spans.proofs.SpanLaws.{put-row, same-rows, put-room, same-room, no-room}
+use Rattle.held_spans.proofs.LoopLaws.{then-ok, then-err}
 use Rattle.held_spans.proofs.spans.HeldSpans.put.Goals as goal
 
 pub returns-clause-ok : goal.returns-clause-ok
-returns-clause-ok c holds are =
-    let at : slice_get c.args.self.now.lists.items c.args.segment.0 ≡ Some c.index_mut-list.result.now = slice_get_read _ _ _ _ refl c.requires c.index_mut-list.ensures.value in
-    let went = c.insert.ensures.succeeds (omega (arith, c.in_ok-reserve.ensures.ok)) in
-    let items = rw went at c.insert.ensures.items in
-    put-spans c.args.self.now (record { lists = with_item c.args.self.now.lists c.args.segment.0 c.insert.new.self }) c.args.segment c.requires c.index_mut-list.result.now c.insert.new.self at refl
-    c.args.span (λ weight. omega (arith, ap (sum_by weight) items, ap (sum_by weight) c.reserve.ensures.items, sum_by-insert weight c.reserve.new.self.items c.place_in_order-place.result c.args.span)) holds are
+returns-clause-ok c =
+    let was = c.index_mut-list.result.now in
+    let at : slice_get c.args.self.now.lists.items c.args.segment.0 ≡ Some was = slice_get_read _ _ _ _ refl c.requires c.index_mut-list.ensures.value in
+    then-ok c.put.result _ _ (λ more. put-row c.args.self.now (record { lists = with_item c.args.self.now.lists c.args.segment.0 c.put.new.self }) c.args.segment c.requires was c.put.new.self at refl
+    c.args.span c.args.holder.now more) c.put.ensures.ok
+
+pub returns-clause-err : goal.returns-clause-err
+returns-clause-err c =
+    let was = c.index_mut-list.result.now in
+    let at : slice_get c.args.self.now.lists.items c.args.segment.0 ≡ Some was = slice_get_read _ _ _ _ refl c.requires c.index_mut-list.ensures.value in
+    then-err c.put.result _ _ (λ same. same-rows c.args.self.now (record { lists = with_item c.args.self.now.lists c.args.segment.0 c.put.new.self }) c.args.segment c.requires was c.put.new.self at refl same)
+    c.put.ensures.err
 
 pub returns-clause-room : goal.returns-clause-room
 returns-clause-room c s =
-    let at : slice_get c.args.self.now.lists.items c.args.segment.0 ≡ Some c.index_mut-list.result.now = slice_get_read _ _ _ _ refl c.requires c.index_mut-list.ensures.value in
-    let went = c.insert.ensures.succeeds (omega (arith, c.in_ok-reserve.ensures.ok)) in
-    let longer = rw went at c.insert.ensures.len in
-    put-room c.args.self.now (record { lists = with_item c.args.self.now.lists c.args.segment.0 c.insert.new.self }) c.args.segment c.requires c.index_mut-list.result.now c.insert.new.self at refl
-    (omega (arith, longer, c.insert.ensures.capacity)) s
+    let was = c.index_mut-list.result.now in
+    let at : slice_get c.args.self.now.lists.items c.args.segment.0 ≡ Some was = slice_get_read _ _ _ _ refl c.requires c.index_mut-list.ensures.value in
+    put-room c.args.self.now (record { lists = with_item c.args.self.now.lists c.args.segment.0 c.put.new.self }) c.args.segment c.requires was c.put.new.self at refl c.put.ensures.room s
+
+pub returns-clause-kept : goal.returns-clause-kept
+returns-clause-kept c =
+    let was = c.index_mut-list.result.now in
+    let at : slice_get c.args.self.now.lists.items c.args.segment.0 ≡ Some was = slice_get_read _ _ _ _ refl c.requires c.index_mut-list.ensures.value in
+    then-err c.put.result _ _ (λ kept s. same-room c.args.self.now (record { lists = with_item c.args.self.now.lists c.args.segment.0 c.put.new.self }) c.args.segment c.requires was c.put.new.self at refl kept s)
+    c.put.ensures.kept
+
+pub returns-clause-full : goal.returns-clause-full
+returns-clause-full c =
+    let was = c.index_mut-list.result.now in
+    let at : slice_get c.args.self.now.lists.items c.args.segment.0 ≡ Some was = slice_get_read _ _ _ _ refl c.requires c.index_mut-list.ensures.value in
+    then-err c.put.result _ _ (λ none. no-room c.args.self.now c.args.segment was at none) c.put.ensures.full

@@ -1,0 +1,178 @@
+//! The spans for which one segment is held, and by whom.
+ghost use Rattle.std.specs.Prelude.{◌≡◌, ◌+◌, ◌<◌, ◌≤◌, ◌↔◌, ◌∷◌, [], if◌then◌else◌, ℕ, List, map, length, vec_len, vec_capacity, Some, None, slice_get, Contains, IsTrue, IsSome, IfSome, OnOk, OnErr};
+ghost use Rattle.std.specs.List.{insert};
+ghost use Rattle.std.specs.List.Sorted.{IsPermutation};
+ghost use Rattle.taxi_base.specs.declared.rows.Span.{Span};
+ghost use Rattle.taxi_base.specs.Windows.{span_has};
+ghost use Rattle.held_spans.specs.Holders.{IsFirstOf, IsHolderIn};
+
+use crate::first_name;
+use std::alloc::Global;
+use std::marker::Model;
+use taxi_base::{Memory, Name, Span, Time};
+
+/// The spans for which a segment is held, in order of time, and beside them the names of their holders in the same order.
+#[derive(Drop)]
+pub(crate) struct SegmentSpans {
+    spans: Vec<Span>,
+    holders: Vec<Name>,
+}
+
+impl Model for SegmentSpans {
+    ghost use Rattle.std.specs.Prelude.{◌≡◌, ◌-◌, min, length, vec_capacity, vec_len};
+    ghost use Rattle.std.specs.List.{zip};
+    ghost use Rattle.held_spans.specs.Rows.{SpanRows};
+
+    ghost Value = { SpanRows };
+
+    ghost view = { λ l. record { rows = zip l.spans.items l.holders.items; room = min (vec_capacity l.spans - vec_len l.spans) (vec_capacity l.holders - vec_len l.holders) } };
+
+    ghost invariant = { λ l. length l.holders.items ≡ length l.spans.items };
+}
+
+impl SegmentSpans {
+    /// No span.
+    pub(crate) fn new(alloc: Global) -> SegmentSpans
+        ensures { result.rows ≡ [] }
+    {
+        SegmentSpans {
+            spans: Vec::new(alloc),
+            holders: Vec::new(alloc),
+        }
+    }
+
+    /// The spans alone.
+    pub(crate) fn spans(&self) -> &[Span]
+        ensures { result.now ≡ map (λ row. row.0) self.now.rows }
+    {
+        &self.spans
+    }
+
+    /// Puts a span in. Where memory runs out there are those that were, with no less room.
+    pub(crate) fn put(&mut self, span: Span, holder: &Name) -> Result<(), Memory>
+        ensures ok { OnOk result (IsPermutation (record { 0 = span; 1 = holder.now } ∷ self.old.rows) self.new.rows) }
+        ensures err { OnErr result (self.new.rows ≡ self.old.rows) }
+        ensures room { self.old.room ≤ self.new.room + 1 }
+        ensures kept { OnErr result (self.old.room ≤ self.new.room) }
+        ensures full { OnErr result (self.old.room ≡ 0) }
+    {
+        self.spans.reserve(1)?;
+        self.holders.reserve(1)?;
+        let place = place_in_order(&self.spans, span);
+        insert_reserved(&mut self.spans, place, span);
+        insert_reserved(&mut self.holders, place, *holder);
+        Ok(())
+    }
+
+    /// Takes a span out, which its holder has. It needs no memory, and there is room for it then.
+    pub(crate) fn take(&mut self, span: Span, holder: &Name)
+        requires { Contains self.old.rows (record { 0 = span; 1 = holder.now }) }
+        ensures rows { IsPermutation self.old.rows (record { 0 = span; 1 = holder.now } ∷ self.new.rows) }
+        ensures room { self.old.room + 1 ≤ self.new.room }
+    {
+        let place = self.place_of(span, holder).unwrap();
+        self.spans.remove(place);
+        self.holders.remove(place);
+    }
+
+    // The place of a holder's span. They are in order, so it mostly stands where those end that begin sooner.
+    fn place_of(&self, span: Span, holder: &Name) -> Option<usize>
+        ensures there { Contains self.now.rows (record { 0 = span; 1 = holder.now }) → IsSome result }
+        ensures place { IfSome result (λ place. slice_get self.now.rows place ≡ Some (record { 0 = span; 1 = holder.now })) }
+    {
+        let near = place_before(&self.spans, span);
+        if near < self.spans.len() && self.has_at(near, span, holder) {
+            return Some(near);
+        }
+        for place in 0..self.spans.len() {
+            if self.has_at(place, span, holder) {
+                return Some(place);
+            }
+        }
+        None
+    }
+
+    // Whether a holder's span stands at a place.
+    fn has_at(&self, place: usize, span: Span, holder: &Name) -> bool
+        requires { place < length self.now.rows }
+        ensures { IsTrue result ↔ slice_get self.now.rows place ≡ Some (record { 0 = span; 1 = holder.now }) }
+    {
+        is_same_span(self.spans[place], span) && is_same_name(&self.holders[place], holder)
+    }
+
+    /// The first by name of those whose spans have a second; none where none has it.
+    pub(crate) fn first_holder(&self, second: Time) -> Option<Name>
+        ensures { IsFirstOf (IsHolderIn self.now.rows second) result }
+    {
+        let mut first = None;
+        for place in 0..self.spans.len() {
+            first = first_name(first, self.holder_at(place, second));
+        }
+        first
+    }
+
+    // The holder of the span at a place, where that has a second.
+    fn holder_at(&self, place: usize, second: Time) -> Option<Name>
+        requires { place < length self.now.rows }
+        ensures { (row : Span × List ℕ) → slice_get self.now.rows place ≡ Some row → result ≡ (if span_has row.0 second then Some row.1 else None) }
+    {
+        if has_second(self.spans[place], second) {
+            Some(self.holders[place])
+        } else {
+            None
+        }
+    }
+}
+
+// Puts an item in at a place, where there is room. At the end it moves no other.
+#[tactic(auto, using(std::proofs::lemmas::List::Edits::insert_end))]
+fn insert_reserved<T: Drop>(items: &mut Vec<T>, place: usize, item: T)
+    requires place { place ≤ length items.old.items }
+    requires room { vec_len items.old < vec_capacity items.old }
+    ensures items { items.new.items ≡ insert items.old.items place item }
+    ensures len { vec_len items.new ≡ vec_len items.old + 1 }
+    ensures capacity { vec_capacity items.old ≤ vec_capacity items.new }
+{
+    if place == items.len() {
+        items.push_reserved(item);
+    } else {
+        items.insert(place, item).unwrap();
+    }
+}
+
+fn is_same_span(one: Span, other: Span) -> bool
+    ensures { IsTrue result ↔ one ≡ other }
+{
+    one == other
+}
+
+fn is_same_name(one: &Name, other: &Name) -> bool
+    ensures { IsTrue result ↔ one.now ≡ other.now }
+{
+    *one == *other
+}
+
+fn has_second(span: Span, second: Time) -> bool
+    ensures { result ≡ span_has span second }
+{
+    span.from <= second && second < span.until
+}
+
+// The place of a span behind those that begin no later, mostly behind all. Spans in order of time are sorted again in few steps.
+fn place_in_order(spans: &[Span], span: Span) -> usize
+    ensures { result ≤ length spans.now }
+{
+    match spans.last() {
+        Some(last) if span.from < last.from => {
+            spans.partition_point(|other| other.from <= span.from)
+        }
+        _ => spans.len(),
+    }
+}
+
+// How many spans stand before the first that begins no sooner.
+fn place_before(spans: &[Span], span: Span) -> usize
+    ensures { result ≤ length spans.now }
+{
+    spans.partition_point(|other| other.from < span.from)
+}
