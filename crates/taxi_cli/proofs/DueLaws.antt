@@ -8,10 +8,12 @@ use Rattle.airport_file.specs.Reading.{RecordFault}
 use Rattle.schedule_import.specs.declared.import.ScheduleRefused.{ScheduleRefused as WhyRefused}
 use Rattle.schedule_import.specs.declared.import.ScheduleRefused.TheVariants as why
 use Rattle.schedule_import.specs.Schedule.{import_of}
-use Rattle.taxi_cli.specs.declared.status.Status.{Status}
-use Rattle.taxi_cli.specs.declared.status.Status.TheVariants as status
+use Rattle.program_endings.specs.declared.status.Status.{Status}
+use Rattle.program_endings.specs.declared.status.Status.TheVariants as status
 use Rattle.program_words.specs.Asked.{FileNames, Traffic, Asked, Route, Check, Generate, Migrate, Import}
-use Rattle.taxi_cli.specs.Outcomes.{airport_limit, commands_limit, transcript_limit, IsJudged, AreAccepted, IsImported, IsDoneText, IsWrongText, IsScheduleRefusedText, IsRefused, IsReadFault, IsRunTooLarge, IsTooLarge}
+use Rattle.program_files.specs.Inputs.{airport_limit, commands_limit, transcript_limit, IsJudged, AreAccepted, IsRefused, IsReadFault, IsRunTooLarge, IsTooLarge}
+use Rattle.text_verbs.specs.Texts.{IsImported}
+use Rattle.taxi_cli.specs.Outcomes.{IsDoneText, IsWrongText, IsScheduleRefusedText}
 use Rattle.taxi_cli.specs.Due.{IsDueOfFile, IsDueOfJudgement, IsDueOfAirport, IsDueOfTranscript, IsDueOfImport, IsDueOfRun, IsDueOf}
 use Rattle.taxi_cli.specs.Halts.{IsLargeText}
 use Rattle.taxi_cli.specs.Endings.{Call, Ends}

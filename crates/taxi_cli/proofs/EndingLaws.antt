@@ -4,30 +4,30 @@ use Rattle.taxi_base.specs.Airport.{Airport}
 use Rattle.taxi_text.specs.Lines.{commands_of}
 use Rattle.taxi_io.specs.declared.trouble.Trouble.{Trouble}
 use Rattle.taxi_io.specs.declared.trouble.Trouble.TheVariants as trouble
-use Rattle.taxi_cli.specs.declared.status.Status.{Status}
-use Rattle.taxi_cli.specs.declared.status.Status.TheVariants.{Done, AirportRefused, ReadFault, TooLarge, Wrong, ScheduleRefused}
+use Rattle.program_endings.specs.declared.status.Status.{Status}
+use Rattle.program_endings.specs.declared.status.Status.TheVariants.{Done, Usage, AirportRefused, ReadFault, WriteFault, Memory, TooLarge, Wrong, ScheduleRefused}
 use Rattle.taxi_io.proofs.Pieces.{grew-nothing}
-use Rattle.taxi_cli.specs.Lines.{refusal_line, read_fault_line, too_large_line, ok_line, wrong_line, first_row_line, bad_start_line}
+use Rattle.program_files.specs.Lines.{refusal_line}
+use Rattle.program_endings.specs.Lines.{read_fault_line, too_large_line}
+use Rattle.taxi_cli.specs.Lines.{ok_line, wrong_line}
 use Rattle.transcripts.specs.Runs.{transcript}
 use Rattle.taxi_io.specs.Files.{Files}
-use Rattle.taxi_cli.specs.Stops.{IsCause, StopsWith, RefusesWith}
+use Rattle.program_files.specs.Stops.{IsCause, StopsWith, IsReadEnd}
+use Rattle.text_verbs.specs.Texts.{IsMigrateText, IsImportText}
 use Rattle.program_words.specs.declared.words.Asked.{Asked as LentAsked}
 use Rattle.program_words.specs.LentWords.{asked_for, asked_as}
-use Rattle.taxi_cli.specs.declared.inputs.Stop.{Stop}
-use Rattle.taxi_cli.specs.declared.inputs.Stop.TheVariants as stop
+use Rattle.program_files.specs.declared.stop.Stop.{Stop}
+use Rattle.program_files.specs.declared.stop.Stop.TheVariants as stop
 use Rattle.program_words.specs.Asked.{FileNames, Traffic, Asked, Route, Check, Generate, Migrate, Import, asked_by}
-use Rattle.schedule_import.specs.declared.import.ScheduleRefused.{ScheduleRefused as WhyRefused}
-use Rattle.schedule_import.specs.declared.import.ScheduleRefused.TheVariants as why
 use Rattle.generated_run.specs.declared.summary.Summary.{Summary}
 use Rattle.generated_run.specs.Summaries.{IsSummary, six_lines}
-use Rattle.schedule_import.specs.Schedule.{import_of}
 use Rattle.transcript_check.specs.declared.failure.Failure.{Failure}
 use Rattle.transcript_check.specs.declared.checking.Verdict.TheVariants as verdict
 use Rattle.transcript_check.specs.Verdicts.{IsVerdict}
-use Rattle.taxi_cli.specs.Outcomes.{AreAccepted, AreToCheck, IsTooLarge}
+use Rattle.program_files.specs.Inputs.{AreToCheck, IsTooLarge}
 use Rattle.taxi_cli.specs.Halts.{IsFaultText, IsLargeText}
 use Rattle.taxi_cli.specs.Endings.{Call, IsDueText, IsWhole, Ends}
-use Rattle.taxi_cli.specs.LastLine.{status_after, IsWriting, EndsWith}
+use Rattle.program_endings.specs.LastLine.{status_after, IsWriting, EndsWith}
 
 -- the writing of the text that is due ends the call
 pub writing-ends : (call : Call) (asked : Option Asked) (whole : Status) (text : List ℕ) (written : Result (Unit {0}) Trouble)
@@ -78,27 +78,6 @@ generate-ends call traffic summary line status comes_to same ends =
     last-ends call (Some (Generate traffic)) Done (six_lines summary) line status
     (record { summary = summary; comes_to = comes_to; whole = refl }) same ends (λ whole. whole)
 
--- the writing of what a schedule comes to ends the call
-pub import-ends : (call : Call) (names : FileNames) (airport : Airport) (schedule text line : List ℕ) (status : Status)
-    → AreAccepted call.files names airport schedule → import_of airport schedule ≡ Ok text → line ≡ text → EndsWith line Done call.writes call.taken status
-    → Ends call (Some (Import names)) status
-import-ends call names airport schedule text line status accepted comes_to same ends =
-    last-ends call (Some (Import names)) Done text line status
-    (record { airport = airport; schedule = schedule; accepted = accepted; comes_to = comes_to }) same ends (λ whole. whole)
-
--- and so does that of the line that says why it is refused
-pub schedule-ends : (call : Call) (names : FileNames) (airport : Airport) (schedule : List ℕ) (refused : WhyRefused) (status : Status)
-    → AreAccepted call.files names airport schedule → (refused ≡ why.FirstRow → import_of airport schedule ≡ Err why.FirstRow)
-    → (refused ≡ why.BadStart → import_of airport schedule ≡ Err why.BadStart) → RefusesWith refused call.writes call.taken status
-    → Ends call (Some (Import names)) status
-schedule-ends call names airport schedule why.FirstRow status accepted first second refuses =
-    last-ends call (Some (Import names)) ScheduleRefused first_row_line _ status
-    (inl (record { airport = airport; schedule = schedule; accepted = accepted; comes_to = first refl }, refl)) refl refuses (λ whole. whole)
-schedule-ends call names airport schedule why.BadStart status accepted first second refuses =
-    last-ends call (Some (Import names)) ScheduleRefused bad_start_line _ status
-    (inr (record { airport = airport; schedule = schedule; accepted = accepted; comes_to = second refl }, refl)) refl refuses (λ whole. whole)
-schedule-ends call names airport schedule why.Memory status accepted first second refuses = rw refuses.0 (inl (rw refuses.1 (grew-nothing call.taken.0)))
-
 -- a verb whose files are read whole before anything is written
 abbrev pub ReadsWhole : Asked → Type 0
 ReadsWhole (Route names) = ⊥
@@ -128,6 +107,34 @@ stop-ends call asked stop.ReadFault status whole cause stops =
 stop-ends call asked stop.TooLarge status whole cause stops =
     last-ends call (Some asked) TooLarge too_large_line _ status (large-line call.files asked whole cause) refl stops (λ whole. whole)
 stop-ends call asked stop.Memory status whole cause stops = rw stops.0 (inl (rw stops.1 (grew-nothing call.taken.0)))
+
+-- how `migrate` ends ends the call
+pub migrate-ends : (call : Call) (name : List ℕ) (status : Status)
+    → IsReadEnd (IsMigrateText call.files name) call.files (Migrate name) call.reads call.writes call.taken status → Ends call (Some (Migrate name)) status
+migrate-ends call name status (inl (why, cause, stops)) = stop-ends call (Migrate name) why status tt cause stops
+migrate-ends call name status (inr (Done, text, is, ends)) = last-ends call (Some (Migrate name)) Done text text status is refl ends (λ whole. whole)
+migrate-ends call name status (inr (Usage, text, is, ends)) = absurd is
+migrate-ends call name status (inr (AirportRefused, text, is, ends)) = absurd is
+migrate-ends call name status (inr (ReadFault, text, is, ends)) = absurd is
+migrate-ends call name status (inr (WriteFault, text, is, ends)) = absurd is
+migrate-ends call name status (inr (Memory, text, is, ends)) = absurd is
+migrate-ends call name status (inr (TooLarge, text, is, ends)) = absurd is
+migrate-ends call name status (inr (Wrong, text, is, ends)) = absurd is
+migrate-ends call name status (inr (ScheduleRefused, text, is, ends)) = absurd is
+
+-- and how `import` does
+pub import-ends : (call : Call) (names : FileNames) (status : Status)
+    → IsReadEnd (IsImportText call.files names) call.files (Import names) call.reads call.writes call.taken status → Ends call (Some (Import names)) status
+import-ends call names status (inl (why, cause, stops)) = stop-ends call (Import names) why status tt cause stops
+import-ends call names status (inr (Done, text, is, ends)) = last-ends call (Some (Import names)) Done text text status is refl ends (λ whole. whole)
+import-ends call names status (inr (ScheduleRefused, text, is, ends)) = last-ends call (Some (Import names)) ScheduleRefused text text status is refl ends (λ whole. whole)
+import-ends call names status (inr (Usage, text, is, ends)) = absurd is
+import-ends call names status (inr (AirportRefused, text, is, ends)) = absurd is
+import-ends call names status (inr (ReadFault, text, is, ends)) = absurd is
+import-ends call names status (inr (WriteFault, text, is, ends)) = absurd is
+import-ends call names status (inr (Memory, text, is, ends)) = absurd is
+import-ends call names status (inr (TooLarge, text, is, ends)) = absurd is
+import-ends call names status (inr (Wrong, text, is, ends)) = absurd is
 
 -- how a call ends for what the words ask for
 pub asked-ends : (call : Call) (words : List (List ℕ)) (lent : LentAsked) (asked : Asked) (status : Status)

@@ -30,13 +30,14 @@ use Rattle.certificate.specs.declared.rule.Rule.TheVariants as rule
 use Rattle.certificate.specs.Sought.{Sought, sought_of, sought_by, IsWalkFor}
 use Rattle.certificate.proofs.PassLaws.{reply-passes}
 use Rattle.certificate.proofs.BestLaws.{passed-best}
-use Rattle.taxi_cli.specs.declared.status.Status.{Status}
-use Rattle.taxi_cli.specs.declared.status.Status.TheVariants as status
+use Rattle.program_endings.specs.declared.status.Status.{Status}
+use Rattle.program_endings.specs.declared.status.Status.TheVariants as status
 use Rattle.program_words.specs.Asked.{FileNames, Asked, Route}
 use Rattle.transcripts.specs.Runs.{InTurn, IsRun, blocks_text, done_line, transcript}
 use Rattle.transcript_check.specs.Checks.{IsPassedRun}
 use Rattle.taxi_cli.proofs.DueLaws.{large-is}
-use Rattle.taxi_cli.specs.Outcomes.{airport_limit, commands_limit, IsJudged, AreAccepted, IsTranscript, IsRunTooLarge}
+use Rattle.program_files.specs.Inputs.{airport_limit, commands_limit, IsJudged, AreAccepted, IsRunTooLarge}
+use Rattle.taxi_cli.specs.Outcomes.{IsTranscript}
 use Rattle.taxi_cli.specs.Endings.{Call, IsDueText, IsCutShort, Ends}
 use Rattle.taxi_cli.specs.Headline.{TellsNoRoute, IsBestWalk, AnswersCommand, AnswersAll, IsWholeAnswer, Headline}
 use Rattle.transcripts.proofs.RunLaws.{none-sound, run-over}

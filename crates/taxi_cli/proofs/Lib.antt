@@ -1,5 +1,4 @@
 pub mod EndingLaws
-pub mod InputLaws
 pub mod DueLaws
 pub mod HeadlineLaws
 pub mod RunEndings

@@ -20,17 +20,18 @@ use Rattle.command_run.specs.Ended.{ended_lines_of, ended_commands_of, commands_
 use Rattle.command_run.specs.Answered.{Told, AreLeft, AreAnswered, IsWholeRun, IsHaltedRun, IsCutRun, IsPrompt, IsStopped}
 use Rattle.command_run.proofs.Reading.{among-append, ended-first}
 use Rattle.command_run.proofs.SoFar.{none-answered}
-use Rattle.taxi_cli.specs.declared.inputs.Stop.{Stop}
-use Rattle.taxi_cli.specs.declared.inputs.Stop.TheVariants as stop
-use Rattle.taxi_cli.specs.declared.status.Status.{Status}
-use Rattle.taxi_cli.specs.declared.status.Status.TheVariants as status
+use Rattle.program_files.specs.declared.stop.Stop.{Stop}
+use Rattle.program_files.specs.declared.stop.Stop.TheVariants as stop
+use Rattle.program_endings.specs.declared.status.Status.{Status}
+use Rattle.program_endings.specs.declared.status.Status.TheVariants as status
 use Rattle.program_words.specs.Asked.{FileNames, Route}
-use Rattle.taxi_cli.specs.Outcomes.{commands_limit, IsJudged}
-use Rattle.taxi_cli.specs.Lines.{refusal_line, read_fault_line, too_large_line}
+use Rattle.program_files.specs.Inputs.{commands_limit, IsJudged}
+use Rattle.program_files.specs.Lines.{refusal_line}
+use Rattle.program_endings.specs.Lines.{read_fault_line, too_large_line}
 use Rattle.taxi_cli.specs.Endings.{Call, IsDueText, IsWhole, IsCutShort, Ends}
-use Rattle.taxi_cli.specs.LastLine.{status_after, IsWriting, EndsWith}
-use Rattle.taxi_cli.specs.Stops.{IsCauseOfAirport, StopsWith}
-use Rattle.taxi_cli.specs.RunEnds.{IsCauseOfBegin, HaltsWith, HasOutcome, IsRunEnd}
+use Rattle.program_endings.specs.LastLine.{status_after, IsWriting, EndsWith}
+use Rattle.program_files.specs.Stops.{IsCauseOfAirport, StopsWith, IsCauseOfBegin}
+use Rattle.taxi_cli.specs.RunEnds.{HaltsWith, HasOutcome, IsRunEnd}
 use Rattle.taxi_cli.specs.Pace.{HaveBegun, bytes_told, left_of, commands_left, IsHalted, IsCaughtUp, KeepsPace}
 use Rattle.taxi_cli.proofs.EndingLaws.{writing-ends, last-ends}
 

@@ -8,11 +8,11 @@ use Rattle.certificate.specs.declared.block.Block.{Block}
 use Rattle.schedule_import.specs.declared.import.ScheduleRefused.{ScheduleRefused as WhyRefused}
 use Rattle.schedule_import.specs.Schedule.{import_of}
 use Rattle.transcript_check.specs.declared.failure.Failure.{Failure}
-use Rattle.taxi_cli.specs.declared.status.Status.{Status}
-use Rattle.taxi_cli.specs.declared.status.Status.TheVariants.{Done, Usage, AirportRefused, TooLarge, Wrong, ScheduleRefused}
+use Rattle.program_endings.specs.declared.status.Status.{Status}
+use Rattle.program_endings.specs.declared.status.Status.TheVariants.{Done, Usage, AirportRefused, TooLarge, Wrong, ScheduleRefused}
 use Rattle.program_words.specs.Asked.{FileNames, Asked, Route, Check, Generate, Migrate, Import}
 use Rattle.transcript_check.specs.Checks.{IsRight, IsWrongAt}
-use Rattle.taxi_cli.specs.Outcomes.{airport_limit, commands_limit, transcript_limit}
+use Rattle.program_files.specs.Inputs.{airport_limit, commands_limit, transcript_limit}
 
 -- What is due of a file, by its limit and by what is due of its bytes within it: a file of more bytes is too large. Nothing is due
 -- of a file that isn't there.

@@ -4,12 +4,13 @@ use Rattle.taxi_io.specs.Counts.{Rose}
 use Rattle.taxi_io.specs.Files.{Files}
 use Rattle.taxi_io.specs.Written.{Grew, GrewInPart}
 use Rattle.airport_file.specs.Reading.{RecordFault}
-use Rattle.taxi_cli.specs.declared.status.Status.{Status}
-use Rattle.taxi_cli.specs.declared.status.Status.TheVariants.{Done, Usage, AirportRefused, ReadFault, WriteFault, Memory, TooLarge, Wrong, ScheduleRefused}
+use Rattle.program_endings.specs.declared.status.Status.{Status}
+use Rattle.program_endings.specs.declared.status.Status.TheVariants.{Done, Usage, AirportRefused, ReadFault, WriteFault, Memory, TooLarge, Wrong, ScheduleRefused}
 use Rattle.program_words.specs.Usage.{usage_line}
-use Rattle.taxi_cli.specs.Lines.{refusal_line}
+use Rattle.program_files.specs.Lines.{refusal_line}
 use Rattle.program_words.specs.Asked.{Asked}
-use Rattle.taxi_cli.specs.Outcomes.{IsDoneText, IsWrongText, IsScheduleRefusedText, IsRefused, IsReadFault}
+use Rattle.taxi_cli.specs.Outcomes.{IsDoneText, IsWrongText, IsScheduleRefusedText}
+use Rattle.program_files.specs.Inputs.{IsRefused, IsReadFault}
 use Rattle.taxi_cli.specs.Halts.{IsFaultText, IsLargeText}
 
 -- what a call finds, and what it leaves: each pair is of before and after

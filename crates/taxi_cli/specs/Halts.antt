@@ -7,8 +7,8 @@ use Rattle.certificate.specs.declared.block.Block.{Block}
 use Rattle.transcripts.specs.Runs.{IsRun, blocks_text}
 use Rattle.command_run.specs.Ended.{ended_commands_of}
 use Rattle.program_words.specs.Asked.{FileNames, Asked, Route}
-use Rattle.taxi_cli.specs.Lines.{read_fault_line, too_large_line}
-use Rattle.taxi_cli.specs.Outcomes.{airport_limit, commands_limit, IsJudged, IsTooLarge}
+use Rattle.program_endings.specs.Lines.{read_fault_line, too_large_line}
+use Rattle.program_files.specs.Inputs.{airport_limit, commands_limit, IsJudged, IsTooLarge}
 
 -- The airport is accepted, the commands are answered whose lines have ended in these bytes, of which so many count as a command
 -- file may have, and then a last line is written.

@@ -23,12 +23,12 @@ use Rattle.certificate.specs.Refusals.{first_refusal}
 use Rattle.certificate.specs.Replies.{IsReply}
 use Rattle.certificate.specs.Passes.{IsPassed}
 use Rattle.certificate.specs.Sought.{Sought, sought_of, IsWalkFor}
-use Rattle.taxi_cli.specs.declared.status.Status.{Status}
-use Rattle.taxi_cli.specs.declared.status.Status.TheVariants.{Done, WriteFault, Memory}
+use Rattle.program_endings.specs.declared.status.Status.{Status}
+use Rattle.program_endings.specs.declared.status.Status.TheVariants.{Done, WriteFault, Memory}
 use Rattle.program_words.specs.Asked.{FileNames}
 use Rattle.transcripts.specs.Runs.{InTurn, transcript}
 use Rattle.transcript_check.specs.Checks.{IsRight}
-use Rattle.taxi_cli.specs.Outcomes.{AreAccepted}
+use Rattle.program_files.specs.Inputs.{AreAccepted}
 use Rattle.taxi_cli.specs.Endings.{Call}
 
 -- a block that tells that there is no route

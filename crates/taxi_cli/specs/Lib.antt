@@ -3,8 +3,6 @@ pub mod Outcomes
 pub mod Due
 pub mod Endings
 pub mod Headline
-pub mod Stops
-pub mod LastLine
 pub mod Exit
 pub mod Halts
 pub mod Pace

@@ -6,11 +6,11 @@ use Rattle.taxi_io.specs.Files.{Files, Gave, file_of}
 use Rattle.taxi_io.specs.Written.{Grew}
 use Rattle.command_run.specs.Ended.{ended_commands_of}
 use Rattle.command_run.specs.Answered.{Told, AreAnswered, IsHaltedRun, IsPrompt}
-use Rattle.taxi_cli.specs.declared.status.Status.{Status}
-use Rattle.taxi_cli.specs.declared.status.Status.TheVariants.{ReadFault, WriteFault, TooLarge}
+use Rattle.program_endings.specs.declared.status.Status.{Status}
+use Rattle.program_endings.specs.declared.status.Status.TheVariants.{ReadFault, WriteFault, TooLarge}
 use Rattle.program_words.specs.Asked.{FileNames}
-use Rattle.taxi_cli.specs.Lines.{read_fault_line, too_large_line}
-use Rattle.taxi_cli.specs.Outcomes.{commands_limit, IsJudged}
+use Rattle.program_endings.specs.Lines.{read_fault_line, too_large_line}
+use Rattle.program_files.specs.Inputs.{commands_limit, IsJudged}
 use Rattle.taxi_cli.specs.Endings.{Call}
 
 -- both files of a run were tried, by the names tried before and after, where they are told

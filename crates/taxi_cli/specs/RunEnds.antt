@@ -1,34 +1,19 @@
 -- How does a run end that doesn't come to the end of its command file? No public clause cites this file.
-use Rattle.std.specs.Prelude.{◌≡◌, ◌≤◌, ◌⊎◌, ℕ, List, Bool, true, false, Option, Result, Ok, Err, ⊤}
+use Rattle.std.specs.Prelude.{◌≡◌, ◌≤◌, ◌⊎◌, ℕ, List, Bool, true, false, Option, Result, Ok, Err}
 use Rattle.taxi_base.specs.Airport.{Airport}
 use Rattle.taxi_io.specs.Counts.{Rose}
 use Rattle.taxi_io.specs.Files.{Files, Begins}
-use Rattle.taxi_io.specs.declared.trouble.Trouble.{Trouble}
-use Rattle.taxi_io.specs.declared.trouble.Trouble.TheVariants as trouble
 use Rattle.command_run.specs.declared.refused.RunRefused.{RunRefused}
 use Rattle.command_run.specs.declared.refused.RunRefused.TheVariants as refused
 use Rattle.transcripts.specs.Runs.{done_line}
 use Rattle.command_run.specs.Answered.{Told, IsWholeRun, IsStopped}
-use Rattle.taxi_cli.specs.declared.inputs.Stop.{Stop}
-use Rattle.taxi_cli.specs.declared.inputs.Stop.TheVariants as stop
-use Rattle.taxi_cli.specs.declared.status.Status.{Status}
-use Rattle.taxi_cli.specs.declared.status.Status.TheVariants as status
-use Rattle.taxi_cli.specs.LastLine.{EndsWith}
-use Rattle.taxi_cli.specs.Lines.{read_fault_line, too_large_line}
-use Rattle.taxi_cli.specs.Outcomes.{commands_limit}
-use Rattle.taxi_cli.specs.Stops.{StopsWith}
-
--- how a file that can't be begun ends the call
-abbrev pub stop_for_begin : Trouble → Stop
-stop_for_begin trouble.Failed = stop.ReadFault
-stop_for_begin trouble.Memory = stop.Memory
-
--- what is true where it does, by the shelf's counts of faults before and after
-abbrev pub IsCauseOfBegin : ℕ × ℕ → Stop → Type 0
-IsCauseOfBegin faults (stop.Refused at why) = ⊥
-IsCauseOfBegin faults stop.ReadFault = Rose faults.0 faults.1
-IsCauseOfBegin faults stop.TooLarge = ⊥
-IsCauseOfBegin faults stop.Memory = ⊤
+use Rattle.program_files.specs.declared.stop.Stop.{Stop}
+use Rattle.program_endings.specs.declared.status.Status.{Status}
+use Rattle.program_endings.specs.declared.status.Status.TheVariants as status
+use Rattle.program_endings.specs.LastLine.{EndsWith}
+use Rattle.program_endings.specs.Lines.{read_fault_line, too_large_line}
+use Rattle.program_files.specs.Inputs.{commands_limit}
+use Rattle.program_files.specs.Stops.{IsCauseOfBegin, StopsWith}
 
 -- how a run ends that is stopped: by the writing of the line that says why; a failed write and want of memory write none
 abbrev pub HaltsWith : RunRefused → ℕ × ℕ → Option (List ℕ) × Option (List ℕ) → Status → Type 0

@@ -1,13 +1,12 @@
 //! The verb `check`.
 ghost use Rattle.std.specs.Prelude.{◌≤◌, Some};
 ghost use Rattle.program_words.specs.Asked.{Check};
-ghost use Rattle.taxi_cli.specs.Outcomes.{IsInOrder};
+ghost use Rattle.program_files.specs.Inputs.{IsInOrder};
 ghost use Rattle.taxi_cli.specs.Endings.{Ends};
 
-use crate::ending::{write_last, write_stop};
-use crate::inputs::read_check;
 use crate::last_line::{ok_line, wrong_line};
-use crate::status::Status;
+use program_endings::{Status, write_last};
+use program_files::{read_check, write_stop};
 use std::alloc::Global;
 use taxi_io::{Shelf, Sink};
 use transcript_check::{Verdict, check_transcript};

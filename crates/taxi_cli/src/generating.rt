@@ -4,9 +4,8 @@ ghost use Rattle.taxi_io.specs.Files.{Files};
 ghost use Rattle.program_words.specs.Asked.{Generate};
 ghost use Rattle.taxi_cli.specs.Endings.{Ends};
 
-use crate::ending::write_last;
-use crate::status::Status;
 use generated_run::run_generated;
+use program_endings::{Status, write_last};
 use program_words::Traffic;
 use std::alloc::Global;
 use taxi_io::Sink;

@@ -3,26 +3,20 @@
 
 ghost use Rattle.std.specs.Prelude.{◌≡◌, map, string_bytes, IsErr, IfOk};
 ghost use Rattle.std.specs.Process.{exit_status};
-ghost use Rattle.taxi_cli.specs.Exit.{number_of, MayExit};
+ghost use Rattle.program_endings.specs.Exit.{number_of};
+ghost use Rattle.taxi_cli.specs.Exit.{MayExit};
 
 mod checking;
-mod ending;
-mod exit;
 mod generating;
-mod importing;
-mod inputs;
 mod last_line;
-mod migrating;
 mod routing;
-pub mod status;
 pub mod steady;
 #[cfg(test)]
 mod tests;
 pub mod top;
 
-use exit::exit_code;
+use program_endings::{Status, exit_code};
 use program_words::words_after_name;
-use status::Status;
 use std::process::ExitCode;
 use std::rt::Files;
 use std::{env, io};

@@ -2,17 +2,15 @@
 ghost use Rattle.std.specs.Prelude.{◌≤◌, ◌∷◌, [], Some};
 ghost use Rattle.taxi_io.specs.Files.{BeganMore};
 ghost use Rattle.program_words.specs.Asked.{Route};
-ghost use Rattle.taxi_cli.specs.Outcomes.{IsInOrder};
+ghost use Rattle.program_files.specs.Inputs.{IsInOrder};
 ghost use Rattle.taxi_cli.specs.Endings.{Ends};
 ghost use Rattle.taxi_cli.specs.Pace.{HaveBegun, KeepsPace, commands_left};
 ghost use Rattle.taxi_cli.specs.RunEnds.{HaltsWith, IsRunEnd};
 
-use crate::ending::{write_last, write_stop};
-use crate::inputs::{COMMANDS_LIMIT, begin_commands, read_airport_file};
-use crate::last_line::{read_fault_line, too_large_line};
-use crate::status::Status;
 use airport_file::Airport;
 use command_run::{RunRefused, run_commands};
+use program_endings::{Status, read_fault_line, too_large_line, write_last};
+use program_files::{COMMANDS_LIMIT, begin_commands, read_airport_file, write_stop};
 use std::alloc::Global;
 use taxi_io::{Shelf, Sink};
 use transcripts::done_line;

@@ -5,11 +5,11 @@ ghost use Rattle.taxi_text.specs.Lines.{commands_of};
 ghost use Rattle.taxi_io.specs.SteadyFiles.{HasFile};
 ghost use Rattle.taxi_io.specs.Written.{Grew};
 ghost use Rattle.program_words.specs.Asked.{FileNames, Route, IsNamed, asked_by};
-ghost use Rattle.taxi_cli.specs.Outcomes.{AreAccepted};
+ghost use Rattle.program_files.specs.Inputs.{AreAccepted};
 ghost use Rattle.taxi_cli.specs.Headline.{IsWholeAnswer};
 
-use crate::status::Status;
 use crate::top::taxi;
+use program_endings::Status;
 use std::alloc::Global;
 use taxi_io::{SteadyShelf, SteadySink};
 

@@ -8,8 +8,8 @@ mod worked;
 
 ghost use Rattle.std.specs.Prelude.{◌≤◌};
 
-use crate::status::Status;
 use crate::top::taxi;
+use program_endings::Status;
 use std::alloc::{AllocError, Global};
 use std::process::Abort;
 use std::test::Fail;

@@ -3,22 +3,20 @@ ghost use Rattle.std.specs.Prelude.{◌≡◌, ◌⊎◌, ◌≤◌, ℕ, List, 
 ghost use Rattle.taxi_io.specs.Counts.{Rose};
 ghost use Rattle.taxi_io.specs.Files.{Files};
 ghost use Rattle.program_words.specs.Asked.{FileNames, Traffic, Route, Check, Generate, Migrate, Import, IsNamed, asked_by};
-ghost use Rattle.taxi_cli.specs.Outcomes.{IsInOrder};
+ghost use Rattle.program_files.specs.Inputs.{IsInOrder};
 ghost use Rattle.taxi_cli.specs.Due.{IsDueOf};
 ghost use Rattle.taxi_cli.specs.Endings.{Ends};
 ghost use Rattle.taxi_cli.specs.Headline.{Headline};
 ghost use Rattle.taxi_cli.specs.Pace.{HaveBegun, KeepsPace, commands_left};
 
 use crate::checking::check;
-use crate::ending::write_last;
 use crate::generating::generate;
-use crate::importing::import;
-use crate::migrating::migrate;
 use crate::routing::route;
-use crate::status::Status;
+use program_endings::{Status, write_last};
 use program_words::{Asked, asked_by, usage_line};
 use std::alloc::Global;
 use taxi_io::{Shelf, Sink};
+use text_verbs::{import, migrate};
 
 /// Does what the words after the program's name ask for, and writes what comes of it.
 /// The airport is accepted or refused before another file is begun.

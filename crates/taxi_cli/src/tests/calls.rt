@@ -1,6 +1,6 @@
 //! Each way in which a call ends, but for what failing files and output bring.
 use super::{MIGRATE, ROUTE, expect_call};
-use crate::status::Status;
+use program_endings::Status;
 use std::test::Fail;
 
 const AIRPORT: &[u8] =

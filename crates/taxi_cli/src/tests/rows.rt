@@ -1,8 +1,8 @@
 //! Runs over a small airport, written whole.
 use super::worked::{SMALL, airport_of};
 use super::{MIGRATE, ROUTE, expect_call, shelf_of, sink_of, words_of};
-use crate::status::Status;
 use crate::top::taxi;
+use program_endings::Status;
 use std::alloc::Global;
 use std::test::Fail;
 use taxi_base::Memory;

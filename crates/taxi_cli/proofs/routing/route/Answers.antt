@@ -1,7 +1,7 @@
 use Rattle.std.proofs.Common.{[], ◌∷◌, inr}
 use Rattle.program_words.specs.Asked.{FileNames}
 use Rattle.taxi_cli.specs.Endings.{Call}
-use Rattle.taxi_cli.proofs.InputLaws.{began-more}
+use Rattle.program_files.proofs.InputLaws.{began-more}
 use Rattle.taxi_cli.proofs.RunEndings.{airport-ends, not-begun, run-ends}
 use Rattle.taxi_cli.proofs.routing.route.Goals as goal
 

@@ -1,10 +1,10 @@
 use Rattle.std.proofs.Common.{◌≡◌, refl, sym, ap, subst, map, string_bytes, None}
-use Rattle.taxi_cli.specs.declared.status.Status.TheVariants.{Usage}
+use Rattle.program_endings.specs.declared.status.Status.TheVariants.{Usage}
 use Rattle.program_words.specs.Usage.{usage_line}
 use Rattle.taxi_cli.specs.Endings.{Call}
 use Rattle.program_words.specs.Asked.{FileNames, Route, Check, Generate, Migrate, Import, asked_by}
 use Rattle.program_words.specs.LentWords.{traffic_for, asked_for}
-use Rattle.taxi_cli.proofs.EndingLaws.{last-ends, asked-ends, one-asked}
+use Rattle.taxi_cli.proofs.EndingLaws.{last-ends, migrate-ends, import-ends, asked-ends, one-asked}
 use Rattle.taxi_cli.proofs.DueLaws.{due-is, made-is}
 use Rattle.taxi_cli.specs.Pace.{HaveBegun, KeepsPace, commands_left}
 use Rattle.taxi_cli.proofs.HeadlineLaws.{headline-asked}
@@ -54,13 +54,25 @@ returns-in-Some-Generate-clause-complete g c =
 
 pub returns-in-Some-Migrate-clause-ends : goal.returns-in-Some-Migrate-clause-ends
 returns-in-Some-Migrate-clause-ends g c =
-    asked-ends _ (map string_bytes c.args.words.now) c.in-Some-Migrate.field-0 (Migrate c.in-Some-Migrate.airport.now) c.migrate.result
-    c.in-Some-Migrate.ensures (ap asked_for c.in-Some-Migrate.field-0-is) c.migrate.ensures.ends
+    let call : Call = record {
+      files = g.S.Shelf.files c.args.shelf.now;
+      reads = (g.S.Shelf.faults c.args.shelf.now, g.S.Shelf.faults c.migrate.new.shelf);
+      writes = (g.K.Sink.faults c.args.out.now, g.K.Sink.faults c.migrate.new.out);
+      taken = (g.K.Sink.written c.args.out.now, g.K.Sink.written c.migrate.new.out);
+    } in
+    asked-ends call (map string_bytes c.args.words.now) c.in-Some-Migrate.field-0 (Migrate c.in-Some-Migrate.airport.now) c.migrate.result
+    c.in-Some-Migrate.ensures (ap asked_for c.in-Some-Migrate.field-0-is) (migrate-ends call c.in-Some-Migrate.airport.now c.migrate.result c.migrate.ensures.ends)
 
 pub returns-in-Some-Import-clause-ends : goal.returns-in-Some-Import-clause-ends
 returns-in-Some-Import-clause-ends g c =
-    asked-ends _ (map string_bytes c.args.words.now) c.in-Some-Import.field-0 (Import (record { airport = c.in-Some-Import.airport.now; commands = c.in-Some-Import.schedule.now })) c.import.result
-    c.in-Some-Import.ensures (ap asked_for c.in-Some-Import.field-0-is) c.import.ensures.ends
+    let call : Call = record {
+      files = g.S.Shelf.files c.args.shelf.now;
+      reads = (g.S.Shelf.faults c.args.shelf.now, g.S.Shelf.faults c.import.new.shelf);
+      writes = (g.K.Sink.faults c.args.out.now, g.K.Sink.faults c.import.new.out);
+      taken = (g.K.Sink.written c.args.out.now, g.K.Sink.written c.import.new.out);
+    } in
+    asked-ends call (map string_bytes c.args.words.now) c.in-Some-Import.field-0 (Import (record { airport = c.in-Some-Import.airport.now; commands = c.in-Some-Import.schedule.now })) c.import.result
+    c.in-Some-Import.ensures (ap asked_for c.in-Some-Import.field-0-is) (import-ends call (record { airport = c.in-Some-Import.airport.now; commands = c.in-Some-Import.schedule.now }) c.import.result c.import.ensures.ends)
 
 pub returns-in-None-clause-headline : goal.returns-in-None-clause-headline
 returns-in-None-clause-headline g c = λ names asked. headline-asked _ _ names _ (returns-in-None-clause-ends g c) asked

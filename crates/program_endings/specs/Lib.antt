@@ -1,0 +1,3 @@
+pub mod LastLine
+pub mod Lines
+pub mod Exit

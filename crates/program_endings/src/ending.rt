@@ -1,0 +1,25 @@
+//! What a call writes last, and the status that goes with it.
+ghost use Rattle.std.specs.Prelude.{◌≡◌, ◌≤◌};
+ghost use Rattle.program_endings.specs.LastLine.{EndsWith, status_after};
+
+use crate::status::Status;
+use taxi_io::{Sink, Trouble, write_all};
+
+/// Writes what a call writes last. Where that fails, the failure is the status.
+pub fn write_last<K: Sink>(out: &mut K, text: &[u8], status: Status) -> Status
+    ensures ends { EndsWith text.now status (K.faults out.old, K.faults out.new) (K.written out.old, K.written out.new) result }
+    ensures later { K.faults out.old ≤ K.faults out.new }
+{
+    status_after(write_all(out, text), status)
+}
+
+// The status of a call whose whole text was to be written.
+fn status_after(written: Result<(), Trouble>, whole: Status) -> Status
+    ensures { result ≡ status_after written whole }
+{
+    match written {
+        Ok(()) => whole,
+        Err(Trouble::Failed) => Status::WriteFault,
+        Err(Trouble::Memory) => Status::Memory,
+    }
+}

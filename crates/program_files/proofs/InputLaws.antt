@@ -1,0 +1,52 @@
+-- Why a file that is not read whole ends the call.
+use Rattle.std.proofs.Common.{◌≡◌, ◌≤◌, ◌++◌, ◌∙◌, ℕ, List, Option, Some, None, Ok, inl, inr, refl, ap, append_assoc, arith}
+use Rattle.taxi_base.specs.Airport.{Airport}
+use Rattle.taxi_io.specs.Counts.{Rose}
+use Rattle.taxi_io.specs.Files.{Files, IsLonger, BeganMore}
+use Rattle.taxi_io.specs.declared.trouble.ReadRefused.{ReadRefused}
+use Rattle.taxi_io.specs.declared.trouble.ReadRefused.TheVariants as refused
+use Rattle.program_files.specs.declared.stop.Stop.{Stop}
+use Rattle.program_files.specs.declared.stop.Stop.TheVariants as stop
+use Rattle.program_words.specs.Asked.{FileNames, Route, Check, Migrate, Import}
+use Rattle.program_files.specs.Inputs.{commands_limit, transcript_limit, IsJudged, AreAccepted}
+use Rattle.program_files.specs.Stops.{stop_for, IsCause, IsCauseOfAirport}
+
+pub commands_cause : (told : Option Files) (names : FileNames) (airport : Airport) (why : ReadRefused) (before between after : ℕ)
+    → IsJudged told names.airport (Ok airport) → (why ≡ refused.TooLarge → IsLonger told names.commands commands_limit)
+    → (why ≡ refused.Fault → Rose between after) → before ≤ between → IsCause told (Route names) (before, after) (stop_for why)
+commands_cause told names airport refused.Fault before between after judged longer rose later = let risen = rose refl in omega arith
+commands_cause told names airport refused.TooLarge before between after judged longer rose later = inr (airport, judged, longer refl)
+commands_cause told names airport refused.Memory before between after judged longer rose later = tt
+
+-- the airport file alone is asked for
+pub airport_cause : (told : Option Files) (name : List ℕ) (faults : ℕ × ℕ) (why : Stop) → IsCauseOfAirport told name faults why → IsCause told (Migrate name) faults why
+airport_cause told name faults (stop.Refused at why) cause = cause
+airport_cause told name faults stop.ReadFault cause = cause
+airport_cause told name faults stop.TooLarge cause = cause
+airport_cause told name faults stop.Memory cause = cause
+
+-- what stops the reading of a run's files stops that of a check
+pub run_cause : (told : Option Files) (names : FileNames) (transcript : List ℕ) (faults : ℕ × ℕ) (why : Stop) → IsCause told (Route names) faults why → IsCause told (Check names transcript) faults why
+run_cause told names transcript faults (stop.Refused at why) cause = cause
+run_cause told names transcript faults stop.ReadFault cause = cause
+run_cause told names transcript faults stop.TooLarge cause = inl cause
+run_cause told names transcript faults stop.Memory cause = cause
+
+-- and that of an import
+pub import_cause : (told : Option Files) (names : FileNames) (faults : ℕ × ℕ) (why : Stop) → IsCause told (Route names) faults why → IsCause told (Import names) faults why
+import_cause told names faults (stop.Refused at why) cause = cause
+import_cause told names faults stop.ReadFault cause = cause
+import_cause told names faults stop.TooLarge cause = cause
+import_cause told names faults stop.Memory cause = cause
+
+pub transcript_cause : (told : Option Files) (names : FileNames) (transcript : List ℕ) (airport : Airport) (commands : List ℕ) (why : ReadRefused) (before between after : ℕ)
+    → AreAccepted told names airport commands → (why ≡ refused.TooLarge → IsLonger told transcript transcript_limit)
+    → (why ≡ refused.Fault → Rose between after) → before ≤ between → IsCause told (Check names transcript) (before, after) (stop_for why)
+transcript_cause told names transcript airport commands refused.Fault before between after accepted longer rose later = let risen = rose refl in omega arith
+transcript_cause told names transcript airport commands refused.TooLarge before between after accepted longer rose later = inr (airport, commands, accepted, longer refl)
+transcript_cause told names transcript airport commands refused.Memory before between after accepted longer rose later = tt
+
+-- some names were tried, and then others
+pub began-more : (before between after : Option (List (List ℕ))) (names others : List (List ℕ)) → BeganMore before between names → BeganMore between after others → BeganMore before after (names ++ others)
+began-more None between after names others one two = rw one at two
+began-more (Some all) between after names others one two = (rw one at two) ∙ ap (λ (l : List (List ℕ)). Some l) (append_assoc all names others)
