@@ -10,12 +10,13 @@ use Rattle.std.proofs.lemmas.Option.{slice_get-get_or}
 use Rattle.slab.specs.Slab.{Slab, get, Updates}
 use Rattle.taxi_base.specs.declared.answers.Flight.{Flight}
 use Rattle.taxi_base.specs.State.{flight_named, flights_with}
-use Rattle.commitments.specs.Book.{flights_of, IsKept, name_order}
+use Rattle.std.specs.declared.cmp.Ordering.{Ordering}
+use Rattle.commitments.specs.Book.{flights_of, IsKept}
 use Rattle.commitments.specs.Places.{IsPlace, IsFlightPlace}
-use Rattle.commitments.proofs.Names.{searched, named-place, is-gap, put-in-gap}
+use Rattle.commitments.proofs.Names.{searched, put-in-gap}
 use Rattle.commitments.proofs.Inserted.{All-insert, ordered-insert}
 use Rattle.taxi_base.proofs.FlightNames.{Precedes}
-use Rattle.commitments.proofs.Stored.{AreStored, stored_from_keys, view-stored, keys_from_stored, length-stored, get-stored, some_flight, searched-keys, vacant-other, stored-insert, stored-remove}
+use Rattle.commitments.proofs.Stored.{AreStored, OrdersFlights, stored_from_keys, view-stored, keys_from_stored, length-stored, get-stored, some_flight, searched-keys, vacant-other, stored-insert, stored-remove}
 
 -- ---- the flights of a ledger
 
@@ -39,18 +40,11 @@ module _ (s : Slab Flight) (ks : List ℕ) (intact : IsKept s ks) where
       rw (get-stored s ks (flights_of s ks) stored place d (some_flight (flights_of s ks) (omega arith)) low) refl
 
   -- a search among the keys finds the place among the flights
-  pub among-flights : (name : List ℕ) (place : Result ℕ ℕ) → IsSearchInRange place (length ks) → IsBinarySearchResult (name_order s name) ks place
-      → IsPlace (λ f. f.name) (flights_of s ks) name place
-  among-flights name place bound found =
+  pub among-flights : (name : List ℕ) (order : ℕ → Ordering) → OrdersFlights s name order → (place : Result ℕ ℕ) → IsSearchInRange place (length ks)
+      → IsBinarySearchResult order ks place → IsPlace (λ f. f.name) (flights_of s ks) name place
+  among-flights name order agrees place bound found =
       searched (λ (f : Flight). f.name) (flights_of s ks) name intact.1.ordered place (subst (IsSearchInRange place) length-keys bound)
-      (searched-keys s ks (flights_of s ks) stored name place bound found)
-
-  pub flight-place : (name : List ℕ) (place : Result ℕ ℕ) → IsPlace (λ f. f.name) (flights_of s ks) name place → IsFlightPlace (flights_of s ks) name (result_ok place)
-  flight-place name place is_place = named-place (λ (f : Flight). f.name) (flights_of s ks) name intact.1.ordered place is_place
-
-  -- a name that no flight has is not found
-  pub no-flight : (name : List ℕ) (place : Result ℕ ℕ) → IsPlace (λ f. f.name) (flights_of s ks) name place → flight_named name (flights_of s ks) ≡ None → IsErr place
-  no-flight name place is_place none = is-gap (λ (f : Flight). f.name) (flights_of s ks) name intact.1.ordered place is_place none
+      (searched-keys s ks (flights_of s ks) stored name order agrees place bound found)
 
   module _ (new : Slab Flight) (key : ℕ) where
     -- the keys and flights after a commit at the gap of a name

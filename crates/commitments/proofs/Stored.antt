@@ -1,17 +1,15 @@
 -- Flights in a slab under keys, what a search among the keys is among the flights, and what stays stored where a key comes or goes.
 use Rattle.std.proofs.Common.{◌≡◌, ◌≢◌, ℕ, zero, suc, ◌<◌, ◌≤◌, List, [], ◌∷◌, length, get_or, insert, Option, Some, None, refl, sym, ap, ◌∙◌, subst, arith}
 use Rattle.std.specs.Prelude.{IsSome, All, AllPairs, ⊤, Result, Ok, Err}
-use Rattle.std.specs.Option.{option_map_or}
 use Rattle.std.specs.List.{remove}
 use Rattle.std.specs.List.Sorted.{IsSearchInRange, IsBinarySearchResult}
 use Rattle.std.specs.Ordering.{nat_cmp}
 use Rattle.std.specs.declared.cmp.Ordering.{Ordering}
-use Rattle.std.specs.declared.cmp.Ordering.TheVariants.{Less}
 use Rattle.std.specs.Cmp.Lexicographic.{slice_cmp}
 use Rattle.slab.specs.Slab.{Slab, get, Updates}
 use Rattle.taxi_base.specs.declared.answers.Flight.{Flight}
 use Rattle.taxi_base.proofs.ListLaws.{AllPairs-first, AllPairs-rest}
-use Rattle.commitments.specs.Book.{flights_of, name_order}
+use Rattle.commitments.specs.Book.{flights_of}
 use Rattle.taxi_base.proofs.FlightNames.{Precedes, precedes_itself}
 
 -- each key in turn has the flight there
@@ -68,14 +66,18 @@ get-stored s (k ∷ ks) (f ∷ fs) stored (suc j) d e low = get-stored s ks fs s
 
 -- ---- a search among the keys
 
-module _ (s : Slab Flight) (ks : List ℕ) (fs : List Flight) (stored : AreStored s ks fs) (name : List ℕ) where
+-- keys compare as the names of their flights do
+abbrev pub OrdersFlights : Slab Flight → List ℕ → (ℕ → Ordering) → Type 0
+OrdersFlights s name order = (key : ℕ) (f : Flight) → get s key ≡ Some f → order key ≡ slice_cmp nat_cmp f.name name
+
+module _ (s : Slab Flight) (ks : List ℕ) (fs : List Flight) (stored : AreStored s ks fs) (name : List ℕ) (order : ℕ → Ordering) (agrees : OrdersFlights s name order) where
   abbrev flight_order : Flight → Ordering
   flight_order f = slice_cmp nat_cmp f.name name
 
-  same-order : (j : ℕ) (d : ℕ) (e : Flight) → j < length ks → name_order s name (get_or ks j d) ≡ flight_order (get_or fs j e)
-  same-order j d e low = ap (λ (o : Option Flight). option_map_or flight_order o Less) (get-stored s ks fs stored j d e low)
+  same-order : (j : ℕ) (d : ℕ) (e : Flight) → j < length ks → order (get_or ks j d) ≡ flight_order (get_or fs j e)
+  same-order j d e low = agrees (get_or ks j d) (get_or fs j e) (get-stored s ks fs stored j d e low)
 
-  pub searched-keys : (r : Result ℕ ℕ) → IsSearchInRange r (length ks) → IsBinarySearchResult (name_order s name) ks r → IsBinarySearchResult flight_order fs r
+  pub searched-keys : (r : Result ℕ ℕ) → IsSearchInRange r (length ks) → IsBinarySearchResult order ks r → IsBinarySearchResult flight_order fs r
   searched-keys (Ok j) bound found = λ e. sym (same-order j 0 e bound) ∙ found 0
   searched-keys (Err j) bound parted = λ rising.
       let long = length-stored s ks fs stored in

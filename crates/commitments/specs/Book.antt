@@ -1,11 +1,6 @@
 -- What contracts see of a ledger: the holders in force, the flight that is lifted, for how many more there is room, and the
 -- windows that the others leave.
 use Rattle.std.specs.Prelude.{◌≡◌, ℕ, ◌≤◌, List, [], ◌∷◌, ◌++◌, length, map, filter_map, option_and_then, Option, Some, None, IsTrue, IsSome, IsSomeAnd, IfSome, All, AllPairs}
-use Rattle.std.specs.Option.{option_map_or}
-use Rattle.std.specs.Ordering.{nat_cmp}
-use Rattle.std.specs.declared.cmp.Ordering.{Ordering}
-use Rattle.std.specs.declared.cmp.Ordering.TheVariants.{Less}
-use Rattle.std.specs.Cmp.Lexicographic.{slice_cmp}
 use Rattle.slab.specs.Slab.{Slab, get}
 use Rattle.taxi_base.specs.declared.numbers.Segment.{Segment}
 use Rattle.taxi_base.specs.declared.rows.Step.{Step}
@@ -95,7 +90,3 @@ flights_of slab keys = filter_map (get slab) keys
 -- each key has a flight, and their names rise
 abbrev pub IsKept : Slab Flight → List ℕ → Type 0
 IsKept slab keys = All (λ key. IsSome (get slab key)) keys × IsBook (flights_of slab keys)
-
--- how the name of the flight at a key compares with another
-abbrev pub name_order : Slab Flight → List ℕ → ℕ → Ordering
-name_order slab name key = option_map_or (λ f. slice_cmp nat_cmp f.name name) (get slab key) Less

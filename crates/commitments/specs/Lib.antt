@@ -3,3 +3,4 @@ pub mod Places
 pub mod Taken
 pub mod Holders
 pub mod Held
+pub mod NameOrder

@@ -1,27 +1,39 @@
 //! Flights in a slab, and their keys in the order of their names.
-ghost use Rattle.std.specs.Prelude.{◌≡◌, ◌+◌, ◌<◌, ◌≤◌, [], Some, None, length, remove, slice_get, OnOk, option_copied};
-ghost use Rattle.commitments.specs.Book.{IsBook, flights_of, name_order, IsKept};
+ghost use Rattle.std.specs.Prelude.{◌≡◌, ◌+◌, ◌<◌, ◌≤◌, [], Some, None, length, remove, slice_get, IsTrue, IfOk, OnOk, option_copied};
+ghost use Rattle.commitments.specs.Book.{IsBook};
+ghost use Rattle.commitments.specs.NameOrder.{order_of, order_at};
 ghost use Rattle.commitments.specs.Places.{IsPlace, IsFlightPlace};
 ghost use Rattle.taxi_base.specs.State.{flight_named, flights_with};
+ghost use Rattle.taxi_base.specs.Words.{is_name};
 
+use crate::name_order::{order_at, order_of};
 use slab::Slab;
 use std::alloc::Global;
-use std::cmp::Ordering;
 use std::marker::Model;
 use taxi_base::{Flight, Memory, Name};
 
-/// The flights in force, by rising names, each with at least one step.
+// No more holders than these are ever in force at once.
+const MOST_FLIGHTS: usize = 4096;
+
+// So many keys are told apart in two bytes.
+const MOST_KEYS: usize = 1 << 16;
+
+/// The flights in force, by rising names, each with at least one step. The slab never grows, so that a key takes two bytes, and
+/// little is moved where a name goes in or out.
 #[derive(Drop)]
 pub(crate) struct FlightList {
     flights: Slab<Flight>,
+    // At the key of each flight the number of its name.
+    orders: Vec<u128>,
     // In the order of the flights' names.
-    keys: Vec<usize>,
+    keys: Vec<u16>,
 }
 
 impl Model for FlightList {
-    ghost use Rattle.std.specs.Prelude.{◌-◌, min, vec_len, vec_capacity};
+    ghost use Rattle.std.specs.Prelude.{◌-◌, ◌^◌, ◌≤◌, length, min, vec_len, vec_capacity};
     ghost use Rattle.slab.specs.Slab.{slab_len};
     ghost use Rattle.commitments.specs.Book.{Listing, flights_of, IsKept};
+    ghost use Rattle.commitments.specs.NameOrder.{AreNumbered};
 
     ghost Value = { Listing };
 
@@ -30,18 +42,24 @@ impl Model for FlightList {
       room = min (l.flights.capacity - slab_len l.flights) (vec_capacity l.keys - vec_len l.keys);
     } };
 
-    ghost invariant = { λ l. IsKept l.flights l.keys.items };
+    ghost invariant = { λ l. IsKept l.flights l.keys.items × AreNumbered l.flights l.orders.items × (l.flights.capacity ≤ length l.orders.items) × (l.flights.capacity ≤ 2 ^ 16) };
 }
 
 impl FlightList {
     /// No flight.
-    pub(crate) fn new(alloc: Global) -> FlightList
-        ensures { result ≡ record { flights = []; room = 0 } }
+    pub(crate) fn new(alloc: Global) -> Result<FlightList, Memory>
+        ensures { IfOk result (λ l. l.flights ≡ []) }
     {
-        FlightList {
-            flights: Slab::new(alloc),
-            keys: Vec::new(alloc),
+        let flights = Slab::with_capacity(alloc, MOST_FLIGHTS)?;
+        if MOST_KEYS < flights.capacity() {
+            return Err(Memory);
         }
+        let orders = Vec::from_elem(alloc, 0, flights.capacity())?;
+        Ok(FlightList {
+            flights,
+            orders,
+            keys: Vec::new(alloc),
+        })
     }
 
     /// How many flights are in force.
@@ -57,14 +75,14 @@ impl FlightList {
         requires { place < length self.now.flights }
         ensures { slice_get self.now.flights place ≡ Some result.now }
     {
-        &self.flights[self.keys[place]]
+        &self.flights[self.keys[place] as usize]
     }
 
     /// The place of the flight of a name.
     pub(crate) fn place(&self, name: &Name) -> Option<usize>
         ensures { IsFlightPlace self.now.flights name.now result }
     {
-        place_of(&self.flights, &self.keys, name).ok()
+        self.place_of(name, order_of(name)).ok()
     }
 
     /// The flight of a name.
@@ -81,7 +99,9 @@ impl FlightList {
         ensures flights { self.new.flights ≡ self.old.flights }
         ensures kept { self.old.room ≤ self.new.room }
     {
-        self.flights.reserve(1)?;
+        if self.flights.len() == self.flights.capacity() {
+            return Err(Memory);
+        }
         self.keys.reserve(1)?;
         Ok(())
     }
@@ -94,9 +114,11 @@ impl FlightList {
         ensures flights { self.new.flights ≡ flights_with flight self.old.flights }
         ensures room { self.new.room + 1 ≡ self.old.room }
     {
-        let place = place_of(&self.flights, &self.keys, &flight.name).unwrap_err();
+        let order = order_of(&flight.name);
+        let place = self.place_of(&flight.name, order).unwrap_err();
         let key = self.flights.insert_reserved(flight);
-        self.keys.insert(place, key).unwrap();
+        self.orders[key] = order;
+        self.keys.insert(place, key as u16).unwrap();
     }
 
     /// Takes the flight at a place out. It needs no memory, and leaves room for one flight more.
@@ -107,24 +129,19 @@ impl FlightList {
         ensures room { self.new.room ≡ self.old.room + 1 }
     {
         let key = self.keys.remove(place);
-        self.flights.remove(key)
+        self.flights.remove(key as usize)
     }
-}
 
-// Where the flight of a name is among these keys, or where its key would go.
-fn place_of(flights: &Slab<Flight>, keys: &[usize], name: &Name) -> Result<usize, usize>
-    requires { IsKept flights.now keys.now }
-    ensures { IsPlace (λ f. f.name) (flights_of flights.now keys.now) name.now result }
-{
-    keys.binary_search_by(|key| name_order(flights, *key, name))
-}
-
-// How the name of the flight at a key compares with another.
-fn name_order(flights: &Slab<Flight>, key: usize, name: &Name) -> Ordering
-    ensures { result ≡ name_order flights.now name.now key }
-{
-    match flights.get(key) {
-        Some(flight) => flight.name.cmp(name),
-        None => Ordering::Less,
+    // The place of the flight of a name, whose number this is, or where its key would go.
+    fn place_of(&self, name: &Name, order: u128) -> Result<usize, usize>
+        requires order { order ≡ order_of name.now }
+        requires name { IsTrue (is_name name.now) }
+        ensures place { IsPlace (λ f. f.name) self.now.flights name.now result }
+        ensures book { IsBook self.now.flights }
+    {
+        let _name = name;
+        let orders = &self.orders;
+        self.keys
+            .binary_search_by(|key| order_at(orders, *key as usize, order))
     }
 }

@@ -11,7 +11,6 @@ ghost use Rattle.commitments.specs.Taken.{has_second, takes, IsFirstNamed};
 use crate::segment_holds::{HeldStep, Holder, SegmentHolds, first_name};
 use airport_file::Airport;
 use conflict_sets::Conflicts;
-use segment_graph::segment_of;
 use std::alloc::Global;
 use std::marker::Model;
 use taxi_base::{Memory, Name, Segment, Step, Time};
@@ -82,7 +81,7 @@ impl HoldIndex {
         ensures room { OnOk result (HasRoomInConflict conflicts.now.sets store.now more (segment_of step.now.arc) self.new) }
         ensures gained { GainsHoldRoom self.old self.new }
     {
-        for segment in conflicts.of(segment_of(step.arc)) {
+        for segment in conflicts.of(step.arc.segment()) {
             self.make_room(*segment, store.held(*segment) + more)?;
         }
         Ok(())
@@ -119,7 +118,7 @@ impl HoldIndex {
         ensures lengths { (segment : SegmentNumber) → length (list_of self.new segment).steps ≡ length (list_of self.old segment).steps + (if held.step.arc.0 / 2 == segment.0 then 1 else 0) }
         ensures capacity { KeepsHoldRoom self.old self.new }
     {
-        self.lists[segment_of(held.step.arc).0 as usize].insert(held);
+        self.lists[held.step.arc.segment().0 as usize].insert(held);
     }
 
     /// Takes steps out that are among the others. It needs no memory.
@@ -143,7 +142,7 @@ impl HoldIndex {
         ensures steps { AreAsMany (all_steps self.old) (held ∷ all_steps self.new) }
         ensures capacity { KeepsHoldRoom self.old self.new }
     {
-        self.lists[segment_of(held.step.arc).0 as usize].remove(held);
+        self.lists[held.step.arc.segment().0 as usize].remove(held);
     }
 
     /// Each list has steps on its segment.

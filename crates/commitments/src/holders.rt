@@ -1,6 +1,7 @@
 //! Who holds segments: the work parties and the flights, and all of them as routes.
-ghost use Rattle.std.specs.Prelude.{◌≡◌, ◌+◌, ◌<◌, Some, [], length, slice_get};
+ghost use Rattle.std.specs.Prelude.{◌≡◌, ◌+◌, ◌<◌, Some, length, slice_get, IfOk};
 ghost use Rattle.taxi_base.specs.Airport.{Airport as AirportRow};
+ghost use Rattle.taxi_base.specs.State.{no_holder};
 ghost use Rattle.commitments.specs.Book.{routes_of};
 ghost use Rattle.commitments.specs.Held.{clearance_after, steps_with, steps_of_each};
 ghost use Rattle.commitments.specs.Holders.{state_of};
@@ -9,7 +10,7 @@ use crate::flight_list::FlightList;
 use crate::party_list::PartyList;
 use crate::segment_holds::Holder;
 use std::alloc::Global;
-use taxi_base::Step;
+use taxi_base::{Memory, Step};
 
 /// The flights and the work parties in force. As routes they are numbered together, the parties first.
 #[derive(Drop)]
@@ -20,13 +21,13 @@ pub(crate) struct Holders {
 
 impl Holders {
     /// No flight and no party.
-    pub(crate) fn new(alloc: Global) -> Holders
-        ensures { result ≡ record { flights = record { flights = []; room = 0 }; parties = record { parties = []; room = 0 } } }
+    pub(crate) fn new(alloc: Global) -> Result<Holders, Memory>
+        ensures { IfOk result (λ h. state_of h ≡ no_holder) }
     {
-        Holders {
-            flights: FlightList::new(alloc),
+        Ok(Holders {
+            flights: FlightList::new(alloc)?,
             parties: PartyList::new(alloc),
-        }
+        })
     }
 
     /// The steps of the holder of a number, and who it is.

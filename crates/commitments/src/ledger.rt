@@ -55,7 +55,7 @@ impl Ledger {
         ensures fits { IfOk result (Fits airport.now) }
     {
         Ok(Ledger {
-            holders: Holders::new(alloc),
+            holders: Holders::new(alloc)?,
             lifted: None,
             held: HeldSegments::new(alloc, airport)?,
         })

@@ -9,6 +9,7 @@ mod holders;
 mod holds;
 mod laws;
 mod ledger;
+mod name_order;
 mod party_list;
 mod route;
 mod segment_holds;

@@ -7,7 +7,6 @@ ghost use Rattle.taxi_base.specs.Faults.{conditions_in, may_follow, taken_by, ta
 
 use crate::Ledger;
 use airport_file::Airport;
-use segment_graph::segment_of;
 use taxi_base::{Arc, Class, Segment, Span, Step, StepCause, StepFault, Time};
 
 impl Ledger {
@@ -44,7 +43,7 @@ impl Ledger {
         requires arc { IsTrue (arc_exists (layout_of airport.now) step.now.arc) }
         ensures { result ≡ cause_of airport.now class self.now.state before step.now }
     {
-        let Some(seconds) = airport.classes().seconds(class, segment_of(step.arc)) else {
+        let Some(seconds) = airport.classes().seconds(class, step.arc.segment()) else {
             return Some(StepCause::ClassBarred);
         };
         if !may_follow(airport, before, step.arc) {
@@ -68,7 +67,7 @@ impl Ledger {
         ensures { result ≡ taken_cause airport.now class self.now.state step.now }
     {
         let held = step.held(airport.horizon(), airport.clearance(class));
-        self.taken_by(airport, segment_of(step.arc), held)
+        self.taken_by(airport, step.arc.segment(), held)
     }
 
     // The first second of a span at which a segment is taken, and by whom.

@@ -107,8 +107,9 @@ impl SegmentHolds {
         ensures steps { self.new.steps ≡ self.old.steps }
         ensures kept { self.old.capacity ≤ self.new.capacity }
     {
+        // A little more at once, so that a list rarely grows.
         let lacking = wanted.saturating_sub(self.steps.len());
-        self.steps.reserve(lacking)?;
+        self.steps.reserve(lacking.max(16))?;
         Ok(())
     }
 
@@ -118,7 +119,7 @@ impl SegmentHolds {
         ensures steps { IsPermutation (held ∷ self.old.steps) self.new.steps }
         ensures capacity { self.new.capacity ≡ self.old.capacity }
     {
-        let place = begun_before(&self.steps, u64::from(held.step.enter));
+        let place = place_for(&self.steps, held.step.enter);
         let reach = u64::from(held.step.leave) + 600;
         self.longest = self
             .longest
@@ -221,6 +222,19 @@ pub(crate) fn first_name(one: Option<Name>, other: Option<Name>) -> Option<Name>
         return one.or(other);
     };
     Some(if second < first { second } else { first })
+}
+
+// The place for a step that begins at a second. It is mostly the last: holders come in by rising times.
+fn place_for(steps: &[HeldStep], enter: Time) -> usize
+    requires { IsNonDecreasingBy (λ held. held.step.enter) steps.now }
+    ensures few { result ≤ length steps.now }
+    ensures before { AllWithin (λ s. s.step.enter ≤ enter) steps.now 0 result }
+    ensures after { AllWithin (λ s. enter ≤ s.step.enter) steps.now result (length steps.now) }
+{
+    match steps.last() {
+        Some(last) if enter < last.step.enter => begun_before(steps, u64::from(enter)),
+        _ => steps.len(),
+    }
 }
 
 // How many of some steps begin before a second.

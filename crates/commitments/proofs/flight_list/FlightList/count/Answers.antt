@@ -5,7 +5,7 @@ use Rattle.commitments.proofs.flight_list.FlightList.count.Goals as goal
 
 pub returns-clause-count : goal.returns-clause-count
 returns-clause-count c =
-    let long = length-keys c.self.inside.flights c.self.inside.keys.items c.self.invariant in
+    let long = length-keys c.self.inside.flights c.self.inside.keys.items c.self.invariant.0 in
     let view = ap (λ (b : Listing). length b.flights) c.self.view_is in
     let len = c.self.inside.keys.ok in
     omega (arith, long, view, len, c.len.ensures)

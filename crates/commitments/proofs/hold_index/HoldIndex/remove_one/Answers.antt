@@ -14,18 +14,18 @@ use Rattle.commitments.proofs.hold_index.HoldIndex.remove_one.Goals as goal
 pub remove-requires : goal.remove-requires
 remove-requires c =
     let items = c.self.inside.lists.items in
-    let k = c.segment_of.result.0 in
-    let low : k < length items = rw (c.segment_of.ensures, c.self.view_is) c.requires.segment in
+    let k = c.segment.result.0 in
+    let low : k < length items = rw (c.segment.ensures, c.self.view_is) c.requires.segment in
     let is : c.index_mut.result.now ≡ get_or items k no_step = c.index_mut.ensures.value ∙ get_or_default items k _ no_step low in
     let there = subst (λ (lists : List StepList). Contains (all_steps lists) c.args.held) (sym c.self.view_is) c.requires.there in
     subst (λ (l : StepList). Contains l.steps c.args.held) (sym is)
-    (subst (λ (s : Segment). Contains (list_of items s).steps c.args.held) (sym c.segment_of.ensures) (there-in_list items c.args.held c.self.invariant there))
+    (subst (λ (s : Segment). Contains (list_of items s).steps c.args.held) (sym c.segment.ensures) (there-in_list items c.args.held c.self.invariant there))
 
 pub invariant_of-self : goal.invariant_of-self
 invariant_of-self c =
     let items = c.self.inside.lists.items in
-    let k = c.segment_of.result.0 in
-    let low : k < length items = rw (c.segment_of.ensures, c.self.view_is) c.requires.segment in
+    let k = c.segment.result.0 in
+    let low : k < length items = rw (c.segment.ensures, c.self.view_is) c.requires.segment in
     let is : c.index_mut.result.now ≡ get_or items k no_step = c.index_mut.ensures.value ∙ get_or_default items k _ no_step low in
     let moved = subst (λ (l : StepList). IsPermutation l.steps (c.args.held ∷ c.remove.new.self.steps)) is c.remove.ensures.steps in
     let segment : Segment = record { 0 = k } in
@@ -37,8 +37,8 @@ invariant_of-self c =
 pub returns-clause-steps : goal.returns-clause-steps
 returns-clause-steps c =
     let items = c.self.inside.lists.items in
-    let k = c.segment_of.result.0 in
-    let low : k < length items = rw (c.segment_of.ensures, c.self.view_is) c.requires.segment in
+    let k = c.segment.result.0 in
+    let low : k < length items = rw (c.segment.ensures, c.self.view_is) c.requires.segment in
     let is : c.index_mut.result.now ≡ get_or items k no_step = c.index_mut.ensures.value ∙ get_or_default items k _ no_step low in
     let moved = subst (λ (l : StepList). IsPermutation l.steps (c.args.held ∷ c.remove.new.self.steps)) is c.remove.ensures.steps in
     subst (λ (lists : List StepList). AreAsMany (all_steps lists) (c.args.held ∷ all_steps (set items k c.remove.new.self))) c.self.view_is
@@ -47,8 +47,8 @@ returns-clause-steps c =
 pub returns-clause-capacity : goal.returns-clause-capacity
 returns-clause-capacity c =
     let items = c.self.inside.lists.items in
-    let k = c.segment_of.result.0 in
-    let low : k < length items = rw (c.segment_of.ensures, c.self.view_is) c.requires.segment in
+    let k = c.segment.result.0 in
+    let low : k < length items = rw (c.segment.ensures, c.self.view_is) c.requires.segment in
     let is : c.index_mut.result.now ≡ get_or items k no_step = c.index_mut.ensures.value ∙ get_or_default items k _ no_step low in
     subst (λ (lists : List StepList). KeepsHoldRoom lists (set items k c.remove.new.self)) c.self.view_is
     (room-set items k low c.remove.new.self (c.remove.ensures.capacity ∙ ap (λ (l : StepList). l.capacity) is))

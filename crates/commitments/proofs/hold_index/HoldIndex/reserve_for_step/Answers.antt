@@ -22,4 +22,4 @@ loop-segment-preserved c = (
 pub returns-clause-room : goal.returns-clause-room
 returns-clause-room c s met =
     All-contains (λ (s : Segment). (list_at c.args.store.now s).held + c.args.more ≤ (list_of c.loop-segment.self s).capacity) c.of-segment-items.result.now s
-    (rw (sym (take_all c.loop-segment.segment-index c.of-segment-items.result.now c.loop-segment-test.false)) c.loop-segment.invariant.0) (((rw c.segment_of.ensures at c.of-segment-items.ensures.all).each s).1 met)
+    (rw (sym (take_all c.loop-segment.segment-index c.of-segment-items.result.now c.loop-segment-test.false)) c.loop-segment.invariant.0) (((rw c.segment.ensures at c.of-segment-items.ensures.all).each s).1 met)
