@@ -8,7 +8,6 @@ mod tables;
 
 pub use builder::GraphBuilder;
 pub use graph::Graph;
-pub use links::segment_of;
 
 #[cfg(test)]
 mod tests {

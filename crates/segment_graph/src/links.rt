@@ -1,11 +1,11 @@
 //! Segments between nodes, and the ends of their arcs.
 ghost use Rattle.std.specs.Prelude.{◌≡◌, if◌then◌else◌};
 ghost use Rattle.std.specs.Option.{option_map};
-ghost use Rattle.taxi_base.specs.Airport.{segment_of, ends_of_link};
+ghost use Rattle.taxi_base.specs.Airport.{ends_of_link};
 ghost use Rattle.segment_graph.specs.Groups.{tail_in, head_in, end_in};
 
 use std::marker::Model;
-use taxi_base::{Arc, Node, Segment};
+use taxi_base::{Arc, Node};
 
 /// A segment from its first node to its second; `both` allows the way back too.
 #[derive(Clone, Copy)]
@@ -31,13 +31,6 @@ impl Link {
     {
         Link { from, to, both }
     }
-}
-
-/// The segment of an arc.
-pub fn segment_of(arc: Arc) -> Segment
-    ensures { result ≡ segment_of arc }
-{
-    Segment(arc.0 / 2)
 }
 
 /// An end of an arc.

@@ -3,7 +3,7 @@ ghost use Rattle.std.specs.Prelude.{◌≡◌, ◌+◌, ◌<◌, ◌≤◌, [], 
 ghost use Rattle.segment_graph.specs.Groups.{groups_of, tail_in, head_in, end_in, AreGrouped, AreBarred, AreEndRows, AreTurnsFrom, AreTurnsTo, has_arc, may_turn};
 ghost use Rattle.segment_graph.specs.Graphs.{AreArcRows};
 
-use crate::links::{Link, Side, end_in, head_in, segment_of, tail_in};
+use crate::links::{Link, Side, end_in, head_in, tail_in};
 use packed_rows::PackedRows;
 use std::alloc::Global;
 use taxi_base::{Arc, Memory, Node};
@@ -179,7 +179,7 @@ fn permitted_to(
 fn may_turn(barred: &[Vec<Arc>], x: Arc, y: Arc) -> bool
     ensures { result ≡ may_turn (groups_of barred.now) x y }
 {
-    segment_of(x) != segment_of(y) && !is_barred(barred, x, y)
+    x.segment() != y.segment() && !is_barred(barred, x, y)
 }
 
 fn is_barred(barred: &[Vec<Arc>], x: Arc, y: Arc) -> bool

@@ -48,7 +48,7 @@ fn numbers_arcs_and_texts(rt: HostRuntime) -> Result<(), Fail> {
 }
 
 #[test]
-fn each_form_of_command(rt: HostRuntime) -> Result<(), Fail> {
+fn a_route_given_by_hand(rt: HostRuntime) -> Result<(), Fail> {
     let alloc = rt.alloc();
     match read_command(alloc, b"file F1 M 007 A+ 30 B-- 60")? {
         Command::File {
@@ -67,6 +67,12 @@ fn each_form_of_command(rt: HostRuntime) -> Result<(), Fail> {
         }
         _ => return Err(Fail::from("a file command")),
     }
+    Ok(())
+}
+
+#[test]
+fn commands_that_search(rt: HostRuntime) -> Result<(), Fail> {
+    let alloc = rt.alloc();
     assert!(rt;
         matches!(
             read_command(alloc, b"arrival F1 M R S1 0 600")?,
@@ -87,7 +93,6 @@ fn each_form_of_command(rt: HostRuntime) -> Result<(), Fail> {
             }
         )
     );
-    assert!(rt; matches!(read_command(alloc, b"cancel F1")?, Command::Cancel { .. }));
     assert!(rt;
         matches!(
             read_command(alloc, b"reroute F1 12")?,
@@ -100,6 +105,13 @@ fn each_form_of_command(rt: HostRuntime) -> Result<(), Fail> {
             Command::Divert { time: 12, .. }
         )
     );
+    Ok(())
+}
+
+#[test]
+fn commands_that_tell_or_take_out(rt: HostRuntime) -> Result<(), Fail> {
+    let alloc = rt.alloc();
+    assert!(rt; matches!(read_command(alloc, b"cancel F1")?, Command::Cancel { .. }));
     assert!(rt; matches!(read_command(alloc, b"windows A")?, Command::Windows { .. }));
     assert!(rt;
         matches!(

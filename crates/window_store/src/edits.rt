@@ -14,7 +14,6 @@ use crate::segment_windows::SegmentWindows;
 use crate::still_held::StillHeld;
 use conflict_sets::Conflicts;
 use interval_list::Ids;
-use segment_graph::segment_of;
 use taxi_base::{Memory, Segment, Span, Step, Time};
 
 // ---- a step
@@ -32,7 +31,7 @@ fn segments_of<'a>(conflicts: &'a Conflicts, step: &Step) -> &'a [Segment]
     ensures all { AreConflicts conflicts.now.sets (segment_of step.now.arc) result.now }
     ensures exist { All (λ t. t.0 < conflicts.now.segments) result.now }
 {
-    conflicts.of(segment_of(step.arc))
+    conflicts.of(step.arc.segment())
 }
 
 // For which seconds a step holds its segment.

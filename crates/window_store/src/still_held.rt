@@ -7,7 +7,6 @@ ghost use Rattle.window_store.specs.Conflicting.{spans_in_conflict, ReachesUpTo}
 use crate::edits::{Term, span_of};
 use crate::held::{HeldSeconds, OtherHolds};
 use conflict_sets::Conflicts;
-use segment_graph::segment_of;
 use taxi_base::{Segment, Step, Time};
 
 /// The spans for which others and further steps hold segments in conflict with one.
@@ -87,7 +86,7 @@ fn first_of(
     let held = span_of(step, term);
     let begin = held.from.max(from);
     let meets = begin < until && begin < held.until;
-    if meets && conflicts.conflict(segment, segment_of(step.arc)) {
+    if meets && conflicts.conflict(segment, step.arc.segment()) {
         begin
     } else {
         until
@@ -118,7 +117,7 @@ fn end_of(conflicts: &Conflicts, segment: Segment, step: &Step, term: Term, from
 {
     let held = span_of(step, term);
     let has = held.from <= from && from < held.until;
-    if has && conflicts.conflict(segment, segment_of(step.arc)) {
+    if has && conflicts.conflict(segment, step.arc.segment()) {
         held.until
     } else {
         from
