@@ -15,11 +15,12 @@ use Rattle.certificate.specs.Replies.{IsDue, as_due, no_memory, NeedsNoMemory}
 use Rattle.certificate.specs.Passes.{KeepsReply, Keeps, IsAfter, IsPassed, IsFirstBroken}
 use Rattle.certificate.proofs.PassLaws.{reply-passes}
 use Rattle.certificate.proofs.BestLaws.{passed-best, passed-sound}
-use Rattle.certificate_check.specs.declared.checker.CheckRefused.{CheckRefused}
-use Rattle.certificate_check.specs.declared.checker.CheckRefused.TheVariants as check
+use Rattle.transcripts.specs.declared.refused.CheckRefused.{CheckRefused}
+use Rattle.transcripts.specs.declared.refused.CheckRefused.TheVariants as check
+use Rattle.transcripts.specs.Turns.{ChecksIn}
 use Rattle.check_walks.specs.Told.{IsFirstOf}
 use Rattle.certificate_check.specs.Judged.{KeepsFor, IsAfterFor, IsJudged}
-use Rattle.certificate_check.specs.Checker.{ChecksIn, IsBadLineChecked, answer_of}
+use Rattle.certificate_check.specs.Checker.{IsBadLineChecked, answer_of}
 
 module _ (airport : Airport) (state : State) (line : List ℕ) (block : Block) (command : Command) (read : command_of line ≡ Some command) where
   kept : (r : Rule) → KeepsFor airport state command block r → Keeps airport state line block r

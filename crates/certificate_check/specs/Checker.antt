@@ -2,30 +2,22 @@
 use Rattle.std.specs.Prelude.{ℕ, ◌≡◌, ◌⊎◌, List, Option, Some, None, Result, Ok, Err}
 use Rattle.taxi_base.specs.declared.collections.Memory.{Memory as NoMemory}
 use Rattle.taxi_base.specs.Airport.{Airport}
-use Rattle.taxi_base.specs.State.{State, IsSound}
+use Rattle.taxi_base.specs.State.{State}
 use Rattle.taxi_base.specs.declared.answers.Refusal.TheVariants as refusal
 use Rattle.certificate.specs.declared.block.Block.{Block}
 use Rattle.certificate.specs.declared.block.Block.TheVariants.{Refused}
 use Rattle.certificate.specs.declared.rule.Rule.{Rule}
 use Rattle.certificate.specs.declared.rule.Rule.TheVariants.{Reply}
-use Rattle.certificate.specs.Passes.{IsPassed, IsFirstBroken, TellsBest}
-use Rattle.certificate_check.specs.declared.checker.CheckRefused.{CheckRefused}
-use Rattle.certificate_check.specs.declared.checker.CheckRefused.TheVariants.{Wrong, Memory}
+use Rattle.transcripts.specs.declared.refused.CheckRefused.{CheckRefused}
+use Rattle.transcripts.specs.declared.refused.CheckRefused.TheVariants.{Wrong, Memory}
+use Rattle.transcripts.specs.Turns.{ChecksIn}
 
 -- a checker: the airport that it was made for, and who holds what
 pub record CheckerState : Type 0 where
   pub airport : Airport
   pub state : State
 
--- A block passes, or the first rule that it breaks is told, or memory ran out. Where it passes it keeps every rule, what it says
--- of walks is so, and the state afterwards is sound; else the state stays. A block that passes breaks no rule, so it is never
--- told one.
-abbrev pub ChecksIn : Airport → List ℕ → Block → State → Result Unit CheckRefused → State → Type 0
-ChecksIn airport line block old (Ok done) new = IsPassed airport old line block new × TellsBest airport old line block × IsSound airport new
-ChecksIn airport line block old (Err (Wrong rule)) new = IsFirstBroken airport old line block rule × (new ≡ old)
-ChecksIn airport line block old (Err Memory) new = new ≡ old
-
--- the same of a checker, whose airport stays
+-- what comes of a block for a line, by a checker whose airport stays
 abbrev pub Checks : List ℕ → Block → CheckerState → Result Unit CheckRefused → CheckerState → Type 0
 Checks line block old result new = (new.airport ≡ old.airport) × ChecksIn old.airport line block old.state result new.state
 

@@ -3,22 +3,15 @@ ghost use Rattle.std.specs.Prelude.{◌≡◌, IfOk};
 ghost use Rattle.taxi_base.specs.State.{no_holder};
 ghost use Rattle.certificate_check.specs.Checker.{Checks};
 
+use crate::CheckRefused;
 use crate::line::check_line;
 use airport_file::Airport;
-use certificate::{Block, Rule};
+use certificate::Block;
 use check_rows::KnownWindows;
 use checked_state::HeldFlights;
 use std::alloc::Global;
 use std::marker::Model;
 use taxi_base::Memory;
-
-/// Why a block does not pass.
-#[derive(Clone, Copy, Debug, Drop)]
-pub enum CheckRefused {
-    /// The first rule that the block breaks.
-    Wrong { rule: Rule },
-    Memory,
-}
 
 /// Checks the blocks of a transcript over an airport, one after the other, each in the state that those before it leave. The
 /// state is always sound.

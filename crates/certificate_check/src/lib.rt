@@ -3,6 +3,7 @@
 
 mod again;
 mod anew;
+mod block_checker;
 mod checker;
 mod choice;
 mod filing;
@@ -14,4 +15,5 @@ mod reply;
 mod reports;
 mod routed;
 
-pub use checker::{CheckRefused, Checker};
+pub use checker::Checker;
+pub use transcripts::CheckRefused;

@@ -8,7 +8,8 @@ ghost use Rattle.certificate.specs.Replies.{NeedsNoMemory};
 ghost use Rattle.checked_state.specs.Flights.{state_of};
 ghost use Rattle.certificate_check.specs.Desk.{IsReady};
 ghost use Rattle.certificate_check.specs.Judged.{brings_flight, is_search, is_choice, IsJudged};
-ghost use Rattle.certificate_check.specs.Checker.{ChecksIn, IsBadLineChecked, answer_of};
+ghost use Rattle.transcripts.specs.Turns.{ChecksIn};
+ghost use Rattle.certificate_check.specs.Checker.{IsBadLineChecked, answer_of};
 
 use crate::CheckRefused;
 use crate::anew::{check_divert, check_reroute};

@@ -1,5 +1,5 @@
 -- How a trouble of the file or of the output stops a run.
-use Rattle.std.proofs.Common.{◌≡◌, ℕ, List, [], Option, None, refl}
+use Rattle.std.proofs.Common.{◌≡◌, ℕ, List, Option, None, refl}
 use Rattle.taxi_base.specs.Airport.{Airport}
 use Rattle.taxi_base.specs.State.{State}
 use Rattle.taxi_text.specs.FirstLines.{first_line_of}

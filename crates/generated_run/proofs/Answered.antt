@@ -1,4 +1,4 @@
--- What the engine's reply to a line is to a reader of blocks and to a checker.
+-- What a reply to a line is to a reader of blocks and to a checker.
 use Rattle.std.proofs.Common.{◌≡◌, ◌∙◌, ℕ, List, [], sym, subst, append-nil}
 use Rattle.taxi_base.specs.Airport.{Airport, IsWellFormed}
 use Rattle.taxi_base.specs.State.{State}
@@ -7,27 +7,24 @@ use Rattle.certificate.specs.Texts.{block_text}
 use Rattle.certificate.specs.Replies.{IsAnswered}
 use Rattle.certificate.specs.Passes.{IsPassed}
 use Rattle.block_reader.specs.Read.{BeginsWith}
+use Rattle.transcripts.specs.Turns.{IsReplyText}
 use Rattle.transcripts.proofs.OneAfter.{passed-one}
-use Rattle.taxi_engine.specs.Engine.{EngineState, Answers}
 
-pub reply-begins : (airport : Airport) (old new : EngineState) (line reply : List ℕ) (answers : Answers old line new) → old.airport ≡ airport → reply ≡ new.reply
-    → BeginsWith airport reply answers.block
-reply-begins airport old new line reply answers own same =
-    subst (λ a. BeginsWith a reply answers.block) own
-    (answers.printable, ([], same ∙ answers.reply ∙ sym (append-nil (block_text old.airport answers.block))))
+module _ (airport own : Airport) (old new : State) (line text : List ℕ) (reply : IsReplyText own old line text new) (same : own ≡ airport) where
+  pub reply-begins : (bytes : List ℕ) → bytes ≡ text → BeginsWith airport bytes reply.block
+  reply-begins bytes told =
+      subst (λ a. BeginsWith a bytes reply.block) same (reply.printable, ([], told ∙ reply.is_text ∙ sym (append-nil (block_text own reply.block))))
 
-pub reply-answers : (airport : Airport) (old new : EngineState) (line : List ℕ) (block : Block) (answers : Answers old line new) → old.airport ≡ airport → block ≡ answers.block
-    → IsAnswered airport old.state line block new.state
-reply-answers airport old new line block answers own told =
-    subst (λ b. IsAnswered airport old.state line b new.state) (sym told)
-    (subst (λ a. IsAnswered a old.state line answers.block new.state) own answers.answered)
+  pub reply-answers : (block : Block) → block ≡ reply.block → IsAnswered airport old line block new
+  reply-answers block told =
+      subst (λ b. IsAnswered airport old line b new) (sym told) (subst (λ a. IsAnswered a old line reply.block new) same reply.answered)
 
--- a checker that knows who holds what knows it afterwards
-pub reply-follows : (airport checked : Airport) (old new : EngineState) (line : List ℕ) (block : Block) (state after : State) (answers : Answers old line new) → IsWellFormed airport
-    → old.airport ≡ airport → checked ≡ airport → block ≡ answers.block → state ≡ old.state → IsPassed checked state line block after → after ≡ new.state
-reply-follows airport checked old new line block state after answers well own same told known passed =
-    passed-one airport old.state line answers.block after new.state well
-    (subst (λ b. IsPassed airport old.state line b after) told
-    (subst (λ s. IsPassed airport s line block after) known
-    (subst (λ a. IsPassed a state line block after) same passed)))
-    (subst (λ a. IsPassed a old.state line answers.block new.state) own answers.passed)
+  -- a checker that knows who holds what knows it afterwards
+  pub reply-follows : (checked : Airport) (block : Block) (state after : State) → IsWellFormed airport → checked ≡ airport → block ≡ reply.block → state ≡ old
+      → IsPassed checked state line block after → after ≡ new
+  reply-follows checked block state after well is told known passed =
+      passed-one airport old line reply.block after new well
+      (subst (λ b. IsPassed airport old line b after) told
+      (subst (λ s. IsPassed airport s line block after) known
+      (subst (λ a. IsPassed a state line block after) is passed)))
+      (subst (λ a. IsPassed a old line reply.block new) same reply.passed)

@@ -8,33 +8,32 @@ ghost use Rattle.generated_run.specs.Summaries.{FoundMemory};
 use airport_file::Airport;
 use block_reader::{BlockRefused, read_block};
 use certificate::Block;
-use certificate_check::{CheckRefused, Checker};
 use std::alloc::Global;
 use taxi_base::{Memory, Refusal};
-use taxi_engine::Engine;
+use transcripts::{BlockChecker, CheckRefused, Router};
 
-/// Answers a command, reads the reply back and has it checked: the block that answers it, which passes every rule. The only
+/// Has a command answered, reads the reply back and has it checked: the block that answers it, which passes every rule. The only
 /// error is that memory ran out, for the command too.
-pub(crate) fn answer_checked(
+pub(crate) fn answer_checked<R: Router, C: BlockChecker>(
     alloc: Global,
     airport: &Airport,
-    engine: &mut Engine,
-    checker: &mut Checker<'_>,
+    router: &mut R,
+    checker: &mut C,
     line: &[u8],
 ) -> Result<Block, Memory>
-    requires engine { engine.old.airport ≡ airport.now }
-    requires checker { checker.old.airport ≡ airport.now }
-    requires same { checker.old.state ≡ engine.old.state }
-    ensures answered { IfOk result (λ block. IsAnswered airport.now engine.old.state line.now block engine.new.state) }
+    requires router { R.airport router.old ≡ airport.now }
+    requires checker { C.airport checker.old ≡ airport.now }
+    requires same { C.state checker.old ≡ R.state router.old }
+    ensures answered { IfOk result (λ block. IsAnswered airport.now (R.state router.old) line.now block (R.state router.new)) }
     ensures memory { IfOk result (λ block. FoundMemory block) }
-    ensures engine { engine.new.airport ≡ airport.now }
-    ensures checker { checker.new.airport ≡ airport.now }
-    ensures same { IfOk result (λ block. checker.new.state ≡ engine.new.state) }
+    ensures router { R.airport router.new ≡ airport.now }
+    ensures checker { C.airport checker.new ≡ airport.now }
+    ensures same { IfOk result (λ block. C.state checker.new ≡ R.state router.new) }
 {
     // The airport keeps its rules, so what passes leaves one state.
     let _ = airport.horizon();
-    engine.answer(line);
-    let block = read_reply(alloc, airport, engine.reply())?;
+    router.answer(line);
+    let block = read_reply(alloc, airport, router.reply())?;
     if let Block::Refused(Refusal::Memory) = block {
         return Err(Memory);
     }

@@ -5,9 +5,7 @@ mod answering;
 mod laws;
 mod run;
 mod summary;
-#[cfg(test)]
-mod tests;
 
 pub use laws::summaries_are_one;
-pub use run::run_generated;
+pub use run::{made_airport, run_generated};
 pub use summary::Summary;

@@ -3,67 +3,52 @@ ghost use Rattle.std.specs.Prelude.{◌≡◌, ◌≤◌, Ok, IsOk, IfOk, length
 ghost use Rattle.taxi_base.specs.State.{no_holder};
 ghost use Rattle.taxi_text.specs.Lines.{commands_of};
 ghost use Rattle.airport_file.specs.Reading.{airport_of};
-ghost use Rattle.traffic_generator.specs.Grid.{airport_text, grid_airport};
+ghost use Rattle.traffic_generator.specs.Grid.{grid_airport};
 ghost use Rattle.generated_run.specs.Summaries.{IsSummaryOf, IsSummary};
 
 use crate::answering::answer_checked;
 use crate::summary::Summary;
 use airport_file::{Airport, AirportRefused, read_airport};
-use certificate_check::Checker;
 use std::alloc::Global;
 use taxi_base::Memory;
-use taxi_engine::Engine;
 use taxi_text::{lines, skipped};
 use traffic_generator::{generate_airport, generate_commands};
+use transcripts::{BlockChecker, Router};
 
-/// Makes an airport and commands over it, answers each command, reads each reply back and has it checked, and counts what
-/// came of them. The only error is that memory ran out, for a command or for anything else.
-pub fn run_generated(alloc: Global, number: u32, side: u32, flights: u32) -> Result<Summary, Memory>
+/// The airport of a square grid, made as a file and read. The only error is that memory ran out.
+pub fn made_airport(alloc: Global, number: u32, side: u32) -> Result<Airport, Memory>
     requires number { number ≤ 9999999 }
     requires side { (2 ≤ side) × (side ≤ 40) }
-    requires flights { flights ≤ 2000 }
-    ensures { IfOk result (IsSummary number side flights) }
-{
-    let commands = generate_commands(alloc, number, side, flights)?;
-    run_commands(alloc, number, side, commands.as_slice())
-}
-
-/// Answers the commands of a file over the airport of a square grid.
-fn run_commands(alloc: Global, number: u32, side: u32, commands: &[u8]) -> Result<Summary, Memory>
-    requires number { number ≤ 9999999 }
-    requires side { (2 ≤ side) × (side ≤ 40) }
-    requires few { length (commands_of commands.now) ≤ 2000 }
-    ensures { IfOk result (IsSummaryOf (grid_airport number side) (commands_of commands.now)) }
-{
-    // The engine keeps its airport to itself, so the checker has one of its own.
-    let airport = made_airport(alloc, number, side)?;
-    let own = made_airport(alloc, number, side)?;
-    run_engine(alloc, &airport, own, commands)
-}
-
-/// Answers the commands of a file by a new engine, whose airport is `own`.
-fn run_engine(
-    alloc: Global,
-    airport: &Airport,
-    own: Airport,
-    commands: &[u8],
-) -> Result<Summary, Memory>
-    requires same { own ≡ airport.now }
-    requires few { length (commands_of commands.now) ≤ 2000 }
-    ensures { IfOk result (IsSummaryOf airport.now (commands_of commands.now)) }
-{
-    let mut engine = Engine::new(alloc, own)?;
-    count_replies(alloc, airport, &mut engine, commands)
-}
-
-/// The airport of a square grid, made as a file and read.
-fn made_airport(alloc: Global, number: u32, side: u32) -> Result<Airport, Memory>
-    requires number { number ≤ 9999999 }
-    requires side { (2 ≤ side) × (side ≤ 40) }
-    ensures { IfOk result (λ airport. airport_of (airport_text number side) ≡ Ok airport) }
+    ensures { IfOk result (λ airport. airport ≡ grid_airport number side) }
 {
     let text = generate_airport(alloc, number, side)?;
     read_accepted(alloc, text.as_slice())
+}
+
+/// Makes commands over the airport of a square grid, has each answered, reads each reply back and has it checked, and counts
+/// what came of them. To the router and to the checker, who have this airport, no flight is in force. The only error is that
+/// memory ran out, for a command or for anything else.
+pub fn run_generated<R: Router, C: BlockChecker>(
+    alloc: Global,
+    number: u32,
+    side: u32,
+    flights: u32,
+    airport: &Airport,
+    router: &mut R,
+    checker: &mut C,
+) -> Result<Summary, Memory>
+    requires number { number ≤ 9999999 }
+    requires side { (2 ≤ side) × (side ≤ 40) }
+    requires flights { flights ≤ 2000 }
+    requires airport { airport.now ≡ grid_airport number side }
+    requires router { R.airport router.old ≡ airport.now }
+    requires checker { C.airport checker.old ≡ airport.now }
+    requires fresh { R.state router.old ≡ no_holder }
+    requires follows { C.state checker.old ≡ no_holder }
+    ensures { IfOk result (IsSummary number side flights) }
+{
+    let commands = generate_commands(alloc, number, side, flights)?;
+    count_replies(alloc, airport, router, checker, commands.as_slice())
 }
 
 /// The airport of a file that is accepted.
@@ -79,23 +64,25 @@ fn read_accepted(alloc: Global, text: &[u8]) -> Result<Airport, Memory>
     }
 }
 
-/// Answers the commands of a file in turn, and counts.
-fn count_replies(
+/// Has the commands of a file answered in turn, and counts.
+fn count_replies<R: Router, C: BlockChecker>(
     alloc: Global,
     airport: &Airport,
-    engine: &mut Engine,
+    router: &mut R,
+    checker: &mut C,
     commands: &[u8],
 ) -> Result<Summary, Memory>
-    requires engine { engine.old.airport ≡ airport.now }
-    requires fresh { engine.old.state ≡ no_holder }
+    requires router { R.airport router.old ≡ airport.now }
+    requires checker { C.airport checker.old ≡ airport.now }
+    requires fresh { R.state router.old ≡ no_holder }
+    requires follows { C.state checker.old ≡ no_holder }
     requires few { length (commands_of commands.now) ≤ 2000 }
     ensures { IfOk result (IsSummaryOf airport.now (commands_of commands.now)) }
 {
-    let mut checker = Checker::new(alloc, airport)?;
     let mut summary = Summary::new(airport);
     for line in lines(commands) {
         if !skipped(line) {
-            let block = answer_checked(alloc, airport, engine, &mut checker, line)?;
+            let block = answer_checked(alloc, airport, router, checker, line)?;
             summary.count(&block);
         }
     }

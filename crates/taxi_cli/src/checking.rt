@@ -1,13 +1,18 @@
 //! The verb `check`.
-ghost use Rattle.std.specs.Prelude.{◌≤◌, Some};
+ghost use Rattle.std.specs.Prelude.{◌≤◌, Some, length, IfOk};
+ghost use Rattle.taxi_text.specs.Lines.{commands_of};
 ghost use Rattle.program_words.specs.Asked.{Check};
 ghost use Rattle.program_files.specs.Inputs.{IsInOrder};
+ghost use Rattle.transcript_check.specs.Verdicts.{IsVerdict};
 ghost use Rattle.taxi_cli.specs.Endings.{Ends};
 
 use crate::last_line::{ok_line, wrong_line};
+use airport_file::Airport;
+use certificate_check::Checker;
 use program_endings::{Status, write_last};
 use program_files::{read_check, write_stop};
 use std::alloc::Global;
+use taxi_base::Memory;
 use taxi_io::{Shelf, Sink};
 use transcript_check::{Verdict, check_transcript};
 
@@ -37,7 +42,7 @@ pub(crate) fn check<S: Shelf, K: Sink>(
         Ok(read) => {
             let commands = read.commands.as_slice();
             let transcript = read.transcript.as_slice();
-            let Ok(verdict) = check_transcript(alloc, &read.airport, commands, transcript) else {
+            let Ok(verdict) = verdict_of(alloc, &read.airport, commands, transcript) else {
                 return Status::Memory;
             };
             match verdict {
@@ -49,4 +54,18 @@ pub(crate) fn check<S: Shelf, K: Sink>(
         }
         Err(stop) => write_stop(out, stop),
     }
+}
+
+// What a new checker over an airport finds of a transcript.
+fn verdict_of(
+    alloc: Global,
+    airport: &Airport,
+    commands: &[u8],
+    transcript: &[u8],
+) -> Result<Verdict, Memory>
+    requires { length commands.now ≤ 16777216 }
+    ensures { IfOk result (IsVerdict airport.now (commands_of commands.now) transcript.now) }
+{
+    let mut checker = Checker::new(alloc, airport)?;
+    check_transcript(alloc, airport, &mut checker, commands, transcript)
 }

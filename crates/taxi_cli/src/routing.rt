@@ -1,8 +1,10 @@
 //! The verb `route`.
-ghost use Rattle.std.specs.Prelude.{◌≤◌, ◌∷◌, [], Some};
+ghost use Rattle.std.specs.Prelude.{◌≡◌, ◌≤◌, ◌∷◌, [], true, Some, IfOk, IfErr, IsErrOf, IsTrue};
+ghost use Rattle.taxi_io.specs.Counts.{Rose};
 ghost use Rattle.taxi_io.specs.Files.{BeganMore};
+ghost use Rattle.command_run.specs.Answered.{IsWholeRun, IsStopped};
 ghost use Rattle.program_words.specs.Asked.{Route};
-ghost use Rattle.program_files.specs.Inputs.{IsInOrder};
+ghost use Rattle.program_files.specs.Inputs.{commands_limit, IsInOrder};
 ghost use Rattle.taxi_cli.specs.Endings.{Ends};
 ghost use Rattle.taxi_cli.specs.Pace.{HaveBegun, KeepsPace, commands_left};
 ghost use Rattle.taxi_cli.specs.RunEnds.{HaltsWith, IsRunEnd};
@@ -12,6 +14,8 @@ use command_run::{RunRefused, run_commands};
 use program_endings::{Status, read_fault_line, too_large_line, write_last};
 use program_files::{COMMANDS_LIMIT, begin_commands, read_airport_file, write_stop};
 use std::alloc::Global;
+use std::mem::forget;
+use taxi_engine::Engine;
 use taxi_io::{Shelf, Sink};
 use transcripts::done_line;
 
@@ -70,12 +74,37 @@ fn route_at<S: Shelf, K: Sink>(
     ensures writes_later { K.faults out.old ≤ K.faults out.new }
 {
     match begin_commands(shelf, commands) {
-        Ok(()) => match run_commands(alloc, airport, shelf, COMMANDS_LIMIT, out) {
+        Ok(()) => match run_engine(alloc, airport, shelf, out) {
             Ok(count) => write_last(out, done_line(count).bytes(), Status::Done),
             Err(refused) => write_halt(out, refused),
         },
         Err(stop) => write_stop(out, stop),
     }
+}
+
+// Answers the commands of the begun file by a new engine over an airport.
+fn run_engine<S: Shelf, K: Sink>(
+    alloc: Global,
+    airport: Airport,
+    shelf: &mut S,
+    out: &mut K,
+) -> Result<u64, RunRefused>
+    requires { IsTrue (S.begun shelf.old) }
+    ensures whole { IfOk result (IsWholeRun airport commands_limit (S.rest shelf.old, S.rest shelf.new) (K.written out.old, K.written out.new)) }
+    ensures stopped { IfErr result (IsStopped airport commands_limit (S.rest shelf.old, S.rest shelf.new) (K.written out.old, K.written out.new)) }
+    ensures read_fault { IsErrOf result RunRefused.ReadFault → Rose (S.faults shelf.old) (S.faults shelf.new) }
+    ensures write_fault { IsErrOf result RunRefused.WriteFault → Rose (K.faults out.old) (K.faults out.new) }
+    ensures begun { S.begun shelf.new ≡ true }
+    ensures tried { S.tried shelf.new ≡ S.tried shelf.old }
+    ensures reads_later { S.faults shelf.old ≤ S.faults shelf.new }
+    ensures writes_later { K.faults out.old ≤ K.faults out.new }
+    ensures files { S.files shelf.new ≡ S.files shelf.old }
+{
+    let mut engine = Engine::new(alloc, airport)?;
+    let answered = run_commands(alloc, &mut engine, shelf, COMMANDS_LIMIT, out);
+    // A program makes one run and ends. Going through all windows to give each back would take longer than many a command.
+    forget(engine);
+    answered
 }
 
 // Writes the line that says why a run ends before the end of its file, and gives the status that goes with it.

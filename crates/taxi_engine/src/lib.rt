@@ -8,6 +8,7 @@ mod filing;
 mod reply;
 mod reporting;
 mod rerouting;
+mod router;
 mod routing;
 mod shutting;
 #[cfg(test)]

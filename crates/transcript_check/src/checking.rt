@@ -1,17 +1,17 @@
 //! The check of a transcript.
 ghost use Rattle.std.specs.Prelude.{◌≡◌, ◌≤◌, length, IfOk};
 ghost use Rattle.taxi_base.specs.Airport.{IsWellFormed};
+ghost use Rattle.taxi_base.specs.State.{no_holder};
 ghost use Rattle.taxi_text.specs.Lines.{commands_of};
 ghost use Rattle.transcript_check.specs.Verdicts.{IsBlockVerdict, IsVerdict};
 
 use crate::failure::Failure;
 use airport_file::Airport;
 use block_reader::{BlockRefused, read_block};
-use certificate_check::{CheckRefused, Checker};
 use std::alloc::Global;
 use taxi_base::Memory;
 use taxi_text::{lines, skipped};
-use transcripts::done_line;
+use transcripts::{BlockChecker, CheckRefused, done_line};
 
 /// What the check of a transcript finds.
 #[derive(Clone, Copy, Debug, Drop)]
@@ -30,24 +30,27 @@ pub(crate) enum BlockVerdict {
     Failed { why: Failure },
 }
 
-/// Checks the block of each command where it is due, and that the last line stands behind them.
-pub fn check_transcript(
+/// Has a checker, to whom no flight is in force, check the block of each command where it is due, and sees that the last
+/// line stands behind them.
+pub fn check_transcript<C: BlockChecker>(
     alloc: Global,
     airport: &Airport,
+    checker: &mut C,
     commands: &[u8],
     transcript: &[u8],
 ) -> Result<Verdict, Memory>
+    requires same { C.airport checker.old ≡ airport.now }
+    requires fresh { C.state checker.old ≡ no_holder }
     requires within { length commands.now ≤ 16777216 }
     ensures { IfOk result (IsVerdict airport.now (commands_of commands.now) transcript.now) }
 {
     // The airport keeps its rules, so what passes is best.
     let _ = airport.horizon();
-    let mut checker = Checker::new(alloc, airport)?;
     let mut rest = transcript;
     let mut count: u64 = 0;
     for line in lines(commands) {
         if !skipped(line) {
-            match check_block(alloc, airport, &mut checker, line, rest)? {
+            match check_block(alloc, airport, checker, line, rest)? {
                 BlockVerdict::Passed { length } => rest = &rest[length..],
                 BlockVerdict::Failed { why } => {
                     return Ok(Verdict::Wrong {
@@ -69,16 +72,16 @@ pub fn check_transcript(
 }
 
 // Reads the block that is due for a line, and has it checked.
-fn check_block(
+fn check_block<C: BlockChecker>(
     alloc: Global,
     airport: &Airport,
-    checker: &mut Checker<'_>,
+    checker: &mut C,
     line: &[u8],
     rest: &[u8],
 ) -> Result<BlockVerdict, Memory>
-    requires same { checker.old.airport ≡ airport.now }
-    ensures verdict { IfOk result (IsBlockVerdict airport.now checker.old.state line.now rest.now checker.new.state) }
-    ensures airport { checker.new.airport ≡ airport.now }
+    requires same { C.airport checker.old ≡ airport.now }
+    ensures verdict { IfOk result (IsBlockVerdict airport.now (C.state checker.old) line.now rest.now (C.state checker.new)) }
+    ensures airport { C.airport checker.new ≡ airport.now }
 {
     let (block, length) = match read_block(alloc, airport, rest) {
         Ok(read) => read,

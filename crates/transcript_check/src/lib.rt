@@ -4,8 +4,6 @@
 mod checking;
 mod failure;
 mod laws;
-#[cfg(test)]
-mod tests;
 
 pub use checking::{Verdict, check_transcript};
 pub use failure::Failure;

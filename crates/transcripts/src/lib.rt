@@ -1,20 +1,12 @@
-//! What a run over command lines is, and the transcript that is written of it.
+//! What a run over command lines is, who answers its lines and checks their blocks, and the transcript that is written of it.
 #![tactic(auto)]
 
-ghost use Rattle.std.specs.Prelude.{◌≡◌};
-ghost use Rattle.transcripts.specs.Runs.{done_line};
+mod block_checker;
+mod last_line;
+mod refused;
+mod router;
 
-use itoa::Buffer;
-use taxi_text::ShortText;
-
-/// The last line of a transcript, with the number of commands.
-pub fn done_line(count: u64) -> ShortText
-    ensures { result ≡ done_line count }
-{
-    let mut digits = Buffer::new();
-    let mut text = ShortText::new();
-    text.push(b"done ");
-    text.push(digits.format(count).as_bytes());
-    text.push(b"\n");
-    text
-}
+pub use block_checker::BlockChecker;
+pub use last_line::done_line;
+pub use refused::CheckRefused;
+pub use router::Router;

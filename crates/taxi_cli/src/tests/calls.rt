@@ -19,11 +19,17 @@ const MISSING: &str = "route airport.cs commands.txt";
 
 const GENERATE: &str = "generate 7 2 0";
 
+const GENERATE_MORE: &str = "generate 7 12 120";
+
 const USAGE: &[u8] =
     b"usage: taxi route AIRPORT COMMANDS; taxi check AIRPORT COMMANDS TRANSCRIPT; taxi generate NUMBER SIDE FLIGHTS; taxi migrate AIRPORT; taxi import AIRPORT SCHEDULE\n";
 
 // What comes of made traffic without flights.
 const TRAFFIC: &[u8] = b"nodes 4\nsegments 4\ncommands 0\nroutes 0\nno-route 0\nseconds 0\n";
+
+// What comes of a hundred and twenty flights, worked out by a program in another language.
+const MORE_TRAFFIC: &[u8] =
+    b"nodes 144\nsegments 264\ncommands 120\nroutes 120\nno-route 0\nseconds 71863\n";
 
 #[test]
 fn words_of_no_form(rt: HostRuntime) -> Result<(), Fail> {
@@ -73,6 +79,7 @@ fn calls_that_are_done(rt: HostRuntime) -> Result<(), Fail> {
         (ROUTE, COMMANDS, REPLIES),
         (MIGRATE, b"", MIGRATED),
         (GENERATE, b"", TRAFFIC),
+        (GENERATE_MORE, b"", MORE_TRAFFIC),
     ] {
         let files = [AIRPORT, commands];
         expect_call(&rt, alloc, words, files.as_slice(), Status::Done, text)?;

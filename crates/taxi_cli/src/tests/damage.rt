@@ -61,6 +61,29 @@ fn changed_at(alloc: Global, number: usize, other: &[u8]) -> Result<Vec<u8>, Mem
     Ok(text)
 }
 
+// Blocks for the first command with one change each, and what the check says of them.
+const CHANGED_BLOCKS: [(&[u8], &[u8]); 6] = [
+    (
+        b"route F1 150 2 1\nstep A+ 100 130\nstep B+ 130 150\nlabel A+ 0 3600 131\n",
+        b"wrong 1 start\n",
+    ),
+    (
+        b"route F1 151 2 1\nstep A+ 100 130\nstep B+ 130 150\nlabel A+ 0 3600 130\n",
+        b"wrong 1 walk\n",
+    ),
+    (
+        b"route F1 150 2 2\nstep A+ 100 130\nstep B+ 130 150\nlabel A+ 0 3600 130\nlabel B+ 0 3600 150\n",
+        b"wrong 1 target\n",
+    ),
+    (b"no-route 1\nlabel A+ 0 3600 130\n", b"wrong 1 step\n"),
+    (b"no-route 1\nlabel A+ 0 3599 130\n", b"wrong 1 rows\n"),
+    (b"cancelled F1\n", b"wrong 1 reply\n"),
+];
+
+fn changed_blocks() -> &'static [(&'static [u8], &'static [u8])] {
+    &CHANGED_BLOCKS
+}
+
 // The transcript with a carriage return before each line feed.
 fn with_carriage_returns(alloc: Global) -> Result<Vec<u8>, Memory> {
     let transcript = front_with(alloc, 5, b"")?;
@@ -109,6 +132,7 @@ fn transcripts_with_one_change(rt: HostRuntime) -> Result<(), Fail> {
         (0, b"refused memory\n", Status::Wrong, b"wrong 2 start\n"),
         (0, with_a_leading_zero(), Status::Wrong, b"wrong 1 form\n"),
         (4, b"done 4\ndone 4\n", Status::Wrong, b"wrong 5 form\n"),
+        (4, b"", Status::Wrong, b"wrong 5 form\n"),
     ] {
         let transcript = changed_at(alloc, number, other)?;
         expect_verdict(&rt, alloc, transcript.as_slice(), status, line)?;
@@ -116,6 +140,18 @@ fn transcripts_with_one_change(rt: HostRuntime) -> Result<(), Fail> {
     let transcript = with_carriage_returns(alloc)?;
     let line = b"wrong 1 form\n".as_slice();
     expect_verdict(&rt, alloc, transcript.as_slice(), Status::Wrong, line)
+}
+
+#[test]
+fn first_blocks_with_one_change(rt: HostRuntime) -> Result<(), Fail> {
+    let alloc = rt.alloc();
+    for (block, line) in changed_blocks() {
+        let transcript = changed_at(alloc, 0, block)?;
+        expect_verdict(&rt, alloc, transcript.as_slice(), Status::Wrong, line)?;
+    }
+    let cut_short = b"route F1 150 2 1\nstep A+ 100".as_slice();
+    let line = b"wrong 1 form\n".as_slice();
+    expect_verdict(&rt, alloc, cut_short, Status::Wrong, line)
 }
 
 // A line with two blanks, one with a pair more than a line may have, and one with a byte that is no character's.

@@ -16,8 +16,8 @@ returns-in-Right-clause-ends g c =
     } in
     let names : FileNames = record { airport = c.args.airport.now; commands = c.args.commands.now } in
     let read = c.in-Ok.read in
-    let found : IsVerdict read.airport (commands_of read.commands.items) read.transcript.items c.in-Ok-check_transcript.verdict =
-    rw (c.as_slice-commands.ensures.value, c.as_slice-transcript.ensures.value) at c.in-Ok-check_transcript.ensures in
+    let found : IsVerdict read.airport (commands_of read.commands.items) read.transcript.items c.in-Ok-verdict_of.verdict =
+    rw (c.as_slice-commands.ensures.value, c.as_slice-transcript.ensures.value) at c.in-Ok-verdict_of.ensures in
     right-ends call names c.args.transcript.now read.airport read.commands.items read.transcript.items c.in-Right.count _ c.write_last.result
     c.in-Ok.ensures.ok (rw c.in-Right.is at found) (c.bytes.ensures.same ∙ c.ok_line.ensures) c.write_last.ensures.ends
 
@@ -31,8 +31,8 @@ returns-in-Ok-clause-ends g c =
     } in
     let names : FileNames = record { airport = c.args.airport.now; commands = c.args.commands.now } in
     let read = c.in-Ok.read in
-    let found : IsVerdict read.airport (commands_of read.commands.items) read.transcript.items c.in-Ok-check_transcript.verdict =
-    rw (c.as_slice-commands.ensures.value, c.as_slice-transcript.ensures.value) at c.in-Ok-check_transcript.ensures in
+    let found : IsVerdict read.airport (commands_of read.commands.items) read.transcript.items c.in-Ok-verdict_of.verdict =
+    rw (c.as_slice-commands.ensures.value, c.as_slice-transcript.ensures.value) at c.in-Ok-verdict_of.ensures in
     wrong-ends call names c.args.transcript.now read.airport read.commands.items read.transcript.items c.in-Wrong.number c.in-Wrong.why _ c.write_last-in-Wrong.result
     c.in-Ok.ensures.ok (rw c.in-Wrong.is at found) (c.bytes-in-Wrong.ensures.same ∙ c.wrong_line.ensures) c.write_last-in-Wrong.ensures.ends
 

@@ -1,16 +1,17 @@
 use Rattle.std.proofs.Common.{◌≡◌, ◌+◌, ◌*◌, ◌≤◌, length, true}
 use Rattle.taxi_io.specs.Files.{SameNames}
 use Rattle.command_run.proofs.SoFar.{IsSoFar}
-use Rattle.command_run.proofs.answering.answer_commands.Given as goal
+use Rattle.command_run.proofs.answering.run_commands.Given as goal
 
 -- of the file a front was taken, whose lines are answered but for those that are kept
 abbrev pub invariant-loop-line : goal.invariant-loop-line
 invariant-loop-line g l =
+    let r = g.R.Router in
     let s = g.S.Shelf in
     let k = g.K.Sink in
     record {
-      so_far : IsSoFar l.fn.engine.airport l.fn.limit (s.rest l.fn.shelf, s.rest l.shelf) (k.written l.fn.out, k.written l.out) l.reader l.left l.count l.engine.state;
-      airport : l.engine.airport ≡ l.fn.engine.airport;
+      so_far : IsSoFar (r.airport l.fn.router) l.fn.limit (s.rest l.fn.shelf, s.rest l.shelf) (k.written l.fn.out, k.written l.out) l.reader l.left l.count (r.state l.router);
+      airport : r.airport l.router ≡ r.airport l.fn.router;
       begun : s.begun l.shelf ≡ true;
       tried : s.tried l.shelf ≡ s.tried l.fn.shelf;
       reads_later : s.faults l.fn.shelf ≤ s.faults l.shelf;
