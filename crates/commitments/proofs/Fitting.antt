@@ -24,7 +24,7 @@ use Rattle.window_store.specs.Store.{Store, list_at, spans_at}
 use Rattle.window_store.specs.Stands.{ListStandsFor, StandsFor, HasRoomFor, route_holds}
 use Rattle.window_store.specs.Kept.{KeepsNodes}
 use Rattle.commitments.specs.Book.{Book, without_lifted, remaining, lifted_flight, routes_of, Fits}
-use Rattle.commitments.specs.Places.{IsFlightPlace, IsPartyPlace}
+use Rattle.holder_lists.specs.Places.{IsFlightPlace, IsPartyPlace}
 use Rattle.commitments.proofs.SameHolds.{StandsFor-permutation, with_flight-holds, with_party-holds, flight-back}
 use Rattle.commitments.proofs.Routes.{without-flight, others-of-flight, without-party, others-of-party}
 

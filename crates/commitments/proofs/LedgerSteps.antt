@@ -9,7 +9,7 @@ use Rattle.window_store.specs.Stands.{StandsFor}
 use Rattle.commitments.specs.declared.segment_holds.HeldStep.{HeldStep}
 use Rattle.commitments.specs.Book.{Book, Fits, without_lifted, remaining}
 use Rattle.commitments.specs.Held.{hold_by, flight_steps, steps_of_each, joined, steps_in, AreAsMany}
-use Rattle.commitments.specs.Places.{IsFlightPlace}
+use Rattle.holder_lists.specs.Places.{IsFlightPlace}
 use Rattle.commitments.proofs.Routes.{AreOver, parties-over, without-flight}
 use Rattle.commitments.proofs.Arranged.{count-append}
 use Rattle.commitments.proofs.StepsIn.{each-flight, each-flight_left, steps-parted, steps-stand}

@@ -1,8 +1,3 @@
-pub mod Names
-pub mod Inserted
-pub mod NameOrder
-pub mod Stored
-pub mod Edits
 pub mod FirstNamed
 pub mod TakenCause
 pub mod SameHolds

@@ -23,8 +23,8 @@ use Rattle.window_store.specs.Store.{Store}
 use Rattle.window_store.specs.Stands.{HasRoomFor, route_holds}
 use Rattle.window_store.specs.Kept.{IsClearOf, KeepsWindows}
 use Rattle.commitments.specs.Book.{route_of, party_route, routes_of}
-use Rattle.commitments.specs.Places.{IsFlightPlace, IsPartyPlace}
-use Rattle.commitments.proofs.Inserted.{remove-map}
+use Rattle.holder_lists.specs.Places.{IsFlightPlace, IsPartyPlace}
+use Rattle.holder_lists.proofs.Inserted.{remove-map}
 use Rattle.commitments.proofs.SameHolds.{remove-holds}
 
 -- ---- lists

@@ -16,7 +16,7 @@ use Rattle.window_store.specs.Stands.{StandsFor, route_holds}
 use Rattle.commitments.specs.declared.segment_holds.HeldStep.{HeldStep}
 use Rattle.commitments.specs.Book.{route_of, party_route, routes_of}
 use Rattle.commitments.specs.Held.{hold_by, flight_holder, party_steps, flight_steps, steps_of_each, joined, steps_in, AreAsMany}
-use Rattle.commitments.proofs.Inserted.{remove-map}
+use Rattle.holder_lists.proofs.Inserted.{remove-map}
 use Rattle.commitments.proofs.SameHolds.{put_in-holds, remove-holds}
 use Rattle.commitments.proofs.Routes.{AreOver, routes-hold, slice_get-left, slice_get-right}
 use Rattle.commitments.proofs.Arranged.{count-append, permuted}

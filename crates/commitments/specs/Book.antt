@@ -1,14 +1,13 @@
 -- What contracts see of a ledger: the holders in force, the flight that is lifted, for how many more there is room, and the
 -- windows that the others leave.
-use Rattle.std.specs.Prelude.{◌≡◌, ℕ, ◌≤◌, List, [], ◌∷◌, ◌++◌, length, map, filter_map, option_and_then, Option, Some, None, IsTrue, IsSome, IsSomeAnd, IfSome, All, AllPairs}
-use Rattle.slab.specs.Slab.{Slab, get}
+use Rattle.std.specs.Prelude.{◌≡◌, ℕ, ◌≤◌, List, [], ◌∷◌, ◌++◌, length, map, option_and_then, Option, Some, None, IsSomeAnd, IfSome}
 use Rattle.taxi_base.specs.declared.numbers.Segment.{Segment}
 use Rattle.taxi_base.specs.declared.rows.Step.{Step}
 use Rattle.taxi_base.specs.declared.answers.Flight.{Flight}
 use Rattle.taxi_base.specs.declared.answers.Party.{Party}
 use Rattle.taxi_base.specs.Airport.{Airport, clearance_of}
 use Rattle.taxi_base.specs.Windows.{HeldRoute}
-use Rattle.taxi_base.specs.State.{State, name_precedes, flight_named, without, party_step, holds_in, IsFeasibleState}
+use Rattle.taxi_base.specs.State.{State, flight_named, without, party_step, holds_in, IsFeasibleState}
 use Rattle.window_store.specs.Store.{Store}
 use Rattle.window_store.specs.Stands.{StandsFor, HasRoomFor}
 
@@ -53,24 +52,6 @@ pub record IsPreparedForParty (airport : Airport) (segment : Segment) (book : Bo
   pub party : 1 ≤ book.party_room
   pub windows : (party : Party) → party.segment ≡ segment → HasRoomFor airport.conflicts (party_step party ∷ []) book.store
 
--- flights by rising names, each with at least one step
-pub record IsBook (flights : List Flight) : Type 0 where
-  pub ordered : AllPairs (λ f g. IsTrue (name_precedes f.name g.name)) flights
-  pub routed : All (λ f. 1 ≤ length f.steps) flights
-
--- parties by rising names
-abbrev pub AreParties : List Party → Type 0
-AreParties parties = AllPairs (λ p q. IsTrue (name_precedes p.name q.name)) parties
-
--- the flights, and for how many more there is room; and so the parties
-pub record Listing : Type 0 where
-  pub flights : List Flight
-  pub room : ℕ
-
-pub record PartyListing : Type 0 where
-  pub parties : List Party
-  pub room : ℕ
-
 -- a flight as a route, with the clearance of its class
 abbrev pub route_of : Airport → Flight → HeldRoute
 route_of airport flight = record { steps = flight.steps; clearance = clearance_of airport flight.class }
@@ -82,11 +63,3 @@ party_route party = record { steps = party_step party ∷ []; clearance = 0 }
 -- all of a state as routes, the parties first
 abbrev pub routes_of : Airport → State → List HeldRoute
 routes_of airport state = map party_route state.parties ++ map (route_of airport) state.flights
-
--- the flights at these keys
-abbrev pub flights_of : Slab Flight → List ℕ → List Flight
-flights_of slab keys = filter_map (get slab) keys
-
--- each key has a flight, and their names rise
-abbrev pub IsKept : Slab Flight → List ℕ → Type 0
-IsKept slab keys = All (λ key. IsSome (get slab key)) keys × IsBook (flights_of slab keys)

@@ -6,9 +6,8 @@ ghost use Rattle.commitments.specs.Book.{routes_of};
 ghost use Rattle.commitments.specs.Held.{clearance_after, steps_with, steps_of_each};
 ghost use Rattle.commitments.specs.Holders.{state_of};
 
-use crate::flight_list::FlightList;
-use crate::party_list::PartyList;
 use crate::segment_holds::Holder;
+use holder_lists::{FlightList, PartyList};
 use std::alloc::Global;
 use taxi_base::{Memory, Step};
 

@@ -8,7 +8,8 @@ ghost use Rattle.taxi_base.specs.State.{no_holder, holder_count, has_holder, fli
 ghost use Rattle.taxi_base.specs.Faults.{conditions_in};
 ghost use Rattle.window_store.specs.Stands.{HasRoomFor};
 ghost use Rattle.window_store.specs.Kept.{IsApartFrom, IsClearOf, KeepsWindows, KeepsNodes, GainsRoom};
-ghost use Rattle.commitments.specs.Book.{Book, Fits, IsPrepared, IsBook, lifted_flight};
+ghost use Rattle.holder_lists.specs.Lists.{IsBook};
+ghost use Rattle.commitments.specs.Book.{Book, Fits, IsPrepared, lifted_flight};
 
 use crate::held_segments::HeldSegments;
 use crate::holders::Holders;

@@ -2,15 +2,12 @@
 //! given by hand.
 #![tactic(auto)]
 
-mod flight_list;
 mod held_segments;
 mod hold_index;
 mod holders;
 mod holds;
 mod laws;
 mod ledger;
-mod name_order;
-mod party_list;
 mod route;
 mod segment_holds;
 mod shutting;

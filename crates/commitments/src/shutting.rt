@@ -3,7 +3,8 @@ ghost use Rattle.std.specs.Prelude.{◌≡◌, ◌↔◌, ◌+◌, ◌<◌, ◌�
 ghost use Rattle.taxi_base.specs.State.{IsFeasibleHold, holder_count, has_holder, party_named, party_hold, with_party, without};
 ghost use Rattle.taxi_base.specs.Faults.{hold_fault, hold_cause};
 ghost use Rattle.window_store.specs.Kept.{IsApartFrom, IsClearOf, KeepsWindows, KeepsNodes, GainsRoom};
-ghost use Rattle.commitments.specs.Book.{Fits, AreParties, IsPreparedForParty};
+ghost use Rattle.holder_lists.specs.Lists.{AreParties};
+ghost use Rattle.commitments.specs.Book.{Fits, IsPreparedForParty};
 
 use crate::Ledger;
 use crate::holds::{forward, free_holder, hold_party, keep_rules};

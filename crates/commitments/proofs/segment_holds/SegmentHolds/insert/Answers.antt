@@ -5,7 +5,7 @@ use Rattle.std.proofs.lemmas.List.Elements.{All-weaker}
 use Rattle.std.proofs.lemmas.List.Sorted.{IsPermutation-insert, IsNonDecreasingBy-insert}
 use Rattle.commitments.specs.declared.segment_holds.HeldStep.{HeldStep}
 use Rattle.commitments.specs.Held.{StepList}
-use Rattle.commitments.proofs.Inserted.{All-insert}
+use Rattle.holder_lists.proofs.Inserted.{All-insert}
 use Rattle.commitments.proofs.segment_holds.SegmentHolds.insert.Goals as goal
 
 pub returns-clause-steps : goal.returns-clause-steps

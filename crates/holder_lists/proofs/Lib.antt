@@ -1,0 +1,5 @@
+pub mod Names
+pub mod Inserted
+pub mod NameOrder
+pub mod Stored
+pub mod Edits
