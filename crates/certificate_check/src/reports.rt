@@ -1,9 +1,9 @@
 //! Commands that ask for a report: what is held of a segment, and the flights in force.
 ghost use Rattle.std.specs.Prelude.{◌≡◌, ◌↔◌, ◌<◌, IsTrue, Ok, length};
 ghost use Rattle.taxi_base.specs.Airport.{Airport};
-ghost use Rattle.taxi_base.specs.State.{IsInOrder, IsSound};
+ghost use Rattle.taxi_base.specs.State.{IsSound};
 ghost use Rattle.taxi_text.specs.declared.command.Command.TheVariants as command;
-ghost use Rattle.checked_state.specs.Flights.{state_of};
+ghost use Rattle.checked_state.specs.Flights.{flights_of, state_of};
 ghost use Rattle.certificate_check.specs.Judged.{IsJudged};
 ghost use Rattle.certificate_check.specs.Reports.{IsOccupancyOf, IsTimetableOf};
 
@@ -44,7 +44,6 @@ pub fn check_timetable(held: &HeldFlights, block: &Block) -> Option<Rule>
 // Whether a block tells all that is held of a segment and of those in conflict with it.
 fn is_occupancy(airport: &Airport, held: &HeldFlights, segment: Segment, block: &Block) -> bool
     requires on { segment.0 < length airport.now.segments }
-    requires ordered { IsInOrder (state_of held.now) }
     ensures { IsTrue result ↔ IsOccupancyOf airport.now (state_of held.now) segment block.now }
 {
     match block {
@@ -58,7 +57,7 @@ fn is_occupancy(airport: &Airport, held: &HeldFlights, segment: Segment, block: 
 
 // Whether a block tells that these are the flights in force.
 fn is_timetable(flights: &FlightList, block: &Block) -> bool
-    ensures { IsTrue result ↔ IsTimetableOf flights.now block.now }
+    ensures { IsTrue result ↔ IsTimetableOf (flights_of flights.now) block.now }
 {
     match block {
         Block::Timetable { flights: rows } => are_flight_rows(rows.as_slice(), flights),

@@ -20,7 +20,7 @@ use Rattle.taxi_base.proofs.ListLaws.{Contains-map, map-Contains}
 use Rattle.taxi_base.proofs.NameLaws.{name_precedes-trans, name_precedes-not_itself}
 use Rattle.taxi_base.proofs.NamedLists.{find-here}
 use Rattle.certificate.proofs.FlightLaws.{find-there, flight_named-there}
-use Rattle.checked_state.specs.Flights.{AreInOrder, ArePartiesInOrder}
+use Rattle.checked_state.specs.Order.{AreInOrder, ArePartiesInOrder}
 use Rattle.check_reports.specs.HeldRows.{end_precedes, name_precedes_then_segment, AreRowsInOrder, row_of, shut_row, IsRowDue, IsRowOfFlight, IsFlightRow, IsStepTold, IsPartyRow, IsPartyTold, AreTold}
 
 -- ---- the order

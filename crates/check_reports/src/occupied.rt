@@ -1,9 +1,8 @@
 //! The rows that tell what is held of a segment and of those in conflict with it.
 ghost use Rattle.std.specs.Prelude.{◌≡◌, ◌↔◌, ◌<◌, ◌≤◌, true, false, All, Contains, IsTrue, length};
 ghost use Rattle.std.specs.List.Sorted.{IsPartitionPoint};
-ghost use Rattle.taxi_base.specs.State.{IsInOrder};
 ghost use Rattle.taxi_base.specs.Reports.{IsHeldRow, AreHeldRows, row_precedes};
-ghost use Rattle.checked_state.specs.Flights.{state_of, AreInOrder};
+ghost use Rattle.checked_state.specs.Flights.{flights_of, state_of};
 ghost use Rattle.check_reports.specs.HeldRows.{row_of, end_precedes, name_precedes_then_segment, AreRowsInOrder, IsRowDue, IsFlightRow, IsRowOfFlight, IsStepTold, AreTold};
 
 use crate::parties::{are_parties_told, is_row_of_party};
@@ -19,7 +18,6 @@ pub fn are_held_rows(
     rows: &[HeldRow],
 ) -> bool
     requires on { segment.0 < length airport.now.segments }
-    requires ordered { IsInOrder (state_of held.now) }
     ensures { IsTrue result ↔ AreHeldRows airport.now (state_of held.now) segment rows.now }
 {
     if !are_in_order(rows) {
@@ -59,7 +57,6 @@ fn precedes_by_name(a: &HeldRow, b: &HeldRow) -> bool
 
 fn are_due(airport: &Airport, held: &HeldFlights, segment: Segment, rows: &[HeldRow]) -> bool
     requires on { segment.0 < length airport.now.segments }
-    requires ordered { IsInOrder (state_of held.now) }
     ensures { IsTrue result ↔ All (IsRowDue airport.now (state_of held.now) segment) rows.now }
 {
     for row in rows {
@@ -73,7 +70,6 @@ fn are_due(airport: &Airport, held: &HeldFlights, segment: Segment, rows: &[Held
 // Whether a row tells what is held, of a segment in conflict.
 fn is_due(airport: &Airport, held: &HeldFlights, segment: Segment, row: &HeldRow) -> bool
     requires on { segment.0 < length airport.now.segments }
-    requires ordered { IsInOrder (state_of held.now) }
     ensures { IsTrue result ↔ IsRowDue airport.now (state_of held.now) segment row.now }
 {
     airport.conflicts().conflict(segment, row.segment) && is_held(airport, held, row)
@@ -81,14 +77,12 @@ fn is_due(airport: &Airport, held: &HeldFlights, segment: Segment, row: &HeldRow
 
 // Whether a row tells what a party or a flight holds.
 fn is_held(airport: &Airport, held: &HeldFlights, row: &HeldRow) -> bool
-    requires { IsInOrder (state_of held.now) }
     ensures { IsTrue result ↔ IsHeldRow airport.now (state_of held.now) row.now }
 {
     is_row_of_party(held, row) || is_flight_row(airport, held, row)
 }
 
 fn is_flight_row(airport: &Airport, held: &HeldFlights, row: &HeldRow) -> bool
-    requires { AreInOrder (state_of held.now).flights }
     ensures { IsTrue result ↔ IsFlightRow airport.now (state_of held.now).flights row.now }
 {
     match held.flight(&row.flight) {
@@ -146,7 +140,7 @@ fn are_flights_told(
 ) -> bool
     requires on { segment.0 < length airport.now.segments }
     requires ordered { AreRowsInOrder rows.now }
-    ensures { IsTrue result ↔ All (λ flight. All (IsStepTold airport.now segment rows.now flight) flight.steps) flights.now }
+    ensures { IsTrue result ↔ All (λ flight. All (IsStepTold airport.now segment rows.now flight) flight.steps) (flights_of flights.now) }
 {
     for at in 0..flights.len() {
         let flight = flights.at(at);

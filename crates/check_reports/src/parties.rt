@@ -1,6 +1,6 @@
 //! The rows that tell what work parties shut.
 ghost use Rattle.std.specs.Prelude.{◌≡◌, ◌↔◌, ◌<◌, All, IsTrue, length};
-ghost use Rattle.checked_state.specs.Flights.{state_of, ArePartiesInOrder};
+ghost use Rattle.checked_state.specs.Flights.{state_of};
 ghost use Rattle.check_reports.specs.HeldRows.{AreRowsInOrder, shut_row, IsPartyRow, IsPartyTold};
 
 use crate::occupied::has_row;
@@ -10,7 +10,6 @@ use taxi_base::{HeldRow, Party, Segment};
 
 /// Whether a row tells what a party shuts.
 pub(crate) fn is_row_of_party(held: &HeldFlights, row: &HeldRow) -> bool
-    requires { ArePartiesInOrder (state_of held.now).parties }
     ensures { IsTrue result ↔ IsPartyRow (state_of held.now).parties row.now }
 {
     match held.party(&row.flight) {

@@ -2,13 +2,14 @@
 ghost use Rattle.std.specs.Prelude.{◌≡◌, ◌↔◌, IsTrue, length, map};
 ghost use Rattle.taxi_base.specs.Walks.{begin_of, end_of};
 ghost use Rattle.taxi_base.specs.Reports.{kind_of_request, flight_row};
+ghost use Rattle.checked_state.specs.Flights.{flights_of};
 
 use checked_state::FlightList;
 use taxi_base::{Flight, FlightKind, FlightRow, Request, Step, Time, begin_of, end_of};
 
 /// Whether rows tell of flights, one row of each and in their order.
 pub fn are_flight_rows(rows: &[FlightRow], flights: &FlightList) -> bool
-    ensures { IsTrue result ↔ (rows.now ≡ map flight_row flights.now) }
+    ensures { IsTrue result ↔ (rows.now ≡ map flight_row (flights_of flights.now)) }
 {
     if rows.len() != flights.len() {
         return false;

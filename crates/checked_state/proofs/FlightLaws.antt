@@ -15,8 +15,10 @@ use Rattle.taxi_base.proofs.AirportLaws.{arc_exists-segment}
 use Rattle.held_spans.specs.declared.spans.HeldSpans.{HeldSpans}
 use Rattle.held_spans.specs.Spans.{weight_on, AreSpansOf, NamedHold, held_by, weight_by, AreHeldBy}
 use Rattle.held_spans.proofs.SpanLaws.{weight-unnamed, AreSpansOf-held, named-cons, named-append, AreHeldBy-same}
+use Rattle.held_spans.proofs.AloneLaws.{unnamed-held_by}
 use Rattle.checked_state.specs.declared.flights.HeldFlights.{HeldFlights}
-use Rattle.checked_state.specs.Flights.{flight_held, party_held, named_in, HasSpansOf, AreInOrder, ArePartiesInOrder, IsPlace}
+use Rattle.checked_state.specs.Order.{AreInOrder, ArePartiesInOrder, IsPlace}
+use Rattle.checked_state.specs.Flights.{flight_held, party_held, named_in, HasSpansOf}
 use Rattle.checked_state.proofs.PlaceLaws.{named-at, set-here, left-none, all-put_in, all-left_out}
 
 -- ---- what holders weigh
@@ -76,11 +78,6 @@ module _ (airport : Airport) (s : Segment) (weight : Span × List ℕ → ℕ) w
 unfoldable unnamed : List NamedHold → List Hold
 unnamed holds = map (λ (h : NamedHold). h.hold) holds
 
-its-own : (name : List ℕ) (holds : List Hold) → unnamed (held_by name holds) ≡ holds
-unfolding unnamed
-its-own name [] = refl
-its-own name (h ∷ holds) = ap (λ (rest : List Hold). h ∷ rest) (its-own name holds)
-
 its-own_and : (name : List ℕ) (holds : List Hold) (rest : List NamedHold) (others : List Hold) → unnamed rest ≡ others → unnamed (held_by name holds ++ rest) ≡ holds ++ others
 unfolding unnamed
 its-own_and name [] rest others same = same
@@ -109,7 +106,7 @@ module _ (airport : Airport) (s : Segment) (weight : Span → ℕ) where
 
   in-flight : (x : Flight) → weight_on weight s (flight_holds airport x) ≡ weight_by alone_weight s (flight_held airport x)
   unfolding unnamed
-  in-flight x = ap (λ (holds : List Hold). weight_on weight s holds) (sym (its-own x.name (flight_holds airport x))) ∙ weight-unnamed weight s (flight_held airport x)
+  in-flight x = ap (λ (holds : List Hold). weight_on weight s holds) (sym (unnamed-held_by x.name (flight_holds airport x))) ∙ weight-unnamed weight s (flight_held airport x)
 
   in-party : (x : Party) → weight_on weight s (party_hold x ∷ []) ≡ weight_by alone_weight s (party_held x ∷ [])
   in-party x = weight-unnamed weight s (party_held x ∷ [])
@@ -133,13 +130,10 @@ module _ (airport : Airport) (s : Segment) (weight : Span → ℕ) where
   held-without_party name state x ordered found =
       omega (arith, in-all state, in-all (record state { parties = parties_without name state.parties }), in-party x, by-without_party airport s alone_weight name state x ordered found)
 
--- lists with the spans of all holders have the spans of what is held
-pub has-spans : (airport : Airport) (state : State) (held : HeldFlights) → length held.spans.lists.items ≡ length airport.segments → AreHeldBy (named_in airport state) held.spans → HasSpansOf airport state held
-has-spans airport state held lists are = record {
-  lists = lists;
-  spans = subst (λ (holds : List Hold). AreSpansOf holds held.spans) (unnamed-in airport state) (AreSpansOf-held held.spans (named_in airport state) are);
-  holders = are;
-}
+-- lists with the spans of all holders have, without the names, the spans of what is held
+pub spans-alone : (airport : Airport) (state : State) (held : HeldFlights) → HasSpansOf airport state held → AreSpansOf (holds_in airport state) held.spans
+spans-alone airport state held has =
+    subst (λ (holds : List Hold). AreSpansOf holds held.spans) (unnamed-in airport state) (AreSpansOf-held held.spans (named_in airport state) has.holders)
 
 -- ---- the spans of a state with a holder more, and without it
 

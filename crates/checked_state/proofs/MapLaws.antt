@@ -4,7 +4,7 @@ use Rattle.std.specs.Prelude.{Result, Ok, Err, AllPairs}
 use Rattle.std.specs.List.{insert, remove}
 use Rattle.std.proofs.lemmas.List.{length-map, get_or-map}
 use Rattle.taxi_base.specs.State.{name_precedes}
-use Rattle.checked_state.specs.Flights.{IsPlace}
+use Rattle.checked_state.specs.Order.{IsPlace}
 
 pub remove-insert : {A : Type 0} (xs : List A) (i : ℕ) (x : A) → i ≤ length xs → remove (insert xs i x) i ≡ xs
 remove-insert xs zero x low = refl

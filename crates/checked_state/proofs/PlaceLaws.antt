@@ -1,5 +1,5 @@
 -- The place of a name among things by rising names: what stands there, and what the list is without it and with one more.
-use Rattle.std.proofs.Common.{◌≡◌, ◌∙◌, ℕ, zero, suc, ◌+◌, ◌<◌, List, [], ◌∷◌, length, get_or, set, insert, inl, inr, ◌⊎◌, IsTrue, IsFalse, Option, Some, None, refl, sym, ap, subst, arith}
+use Rattle.std.proofs.Common.{◌≡◌, ◌∙◌, ℕ, zero, suc, ◌+◌, ◌<◌, List, [], ◌∷◌, length, get_or, set, insert, map, inl, inr, ◌⊎◌, IsTrue, IsFalse, Option, Some, None, refl, sym, ap, subst, arith}
 use Rattle.std.specs.Prelude.{Result, Ok, Err, IsOk, IsErr, IsSome, IfSome, All, AllPairs, bytes_eq}
 use Rattle.std.specs.Result.{result_ok}
 use Rattle.std.specs.List.{remove}
@@ -8,13 +8,15 @@ use Rattle.std.specs.Ordering.{nat_cmp, is_lt, is_eq, ordering_index, ordering_r
 use Rattle.std.specs.Cmp.Lexicographic.{slice_cmp, bytes_decides}
 use Rattle.std.proofs.lemmas.Bool.{cases_Bool, both_ways}
 use Rattle.std.proofs.lemmas.Cmp.{nat_list_cmp_total}
+use Rattle.std.proofs.lemmas.List.{get_or-map, map-set, set-get_or}
 use Rattle.std.proofs.lemmas.Map.Text.{is_eq-slice_cmp}
 use Rattle.std.proofs.lemmas.List.Sorted.{searchable_from_sorted}
 use Rattle.taxi_base.specs.State.{name_precedes, named, left_out, put_in}
-use Rattle.taxi_base.proofs.ListLaws.{AllPairs-first, AllPairs-rest}
-use Rattle.taxi_base.proofs.NameLaws.{none_named, name_precedes-differ, name_precedes-one_way, differ-turned}
+use Rattle.taxi_base.proofs.ListLaws.{AllPairs-first, AllPairs-rest, AllPairs-map}
+use Rattle.taxi_base.proofs.NameLaws.{none_named, ordered-put_in, name_precedes-differ, name_precedes-one_way, differ-turned}
 use Rattle.taxi_base.proofs.NamedLists.{Precede, absent-find, absent-without, find-here, remove-here, gap-absent, insert-gap}
-use Rattle.checked_state.specs.Flights.{IsPlace}
+use Rattle.checked_state.specs.Order.{IsPlace}
+use Rattle.checked_state.proofs.MapLaws.{pairs-of_map}
 
 module _ {X : Type 0} (name_of : X → List ℕ) where
   module _ (xs : List X) (name : List ℕ) (ordered : AllPairs (Precede name_of) xs) where
@@ -66,6 +68,17 @@ module _ {X : Type 0} (name_of : X → List ℕ) where
 
   pub with-at : (x : X) (xs : List X) (k : ℕ) → IsPlace name_of xs (name_of x) (Err k) → insert xs k x ≡ put_in name_of x xs
   with-at x xs k place = insert-gap name_of x xs k place.gap place.before place.after
+
+  -- with what goes in at its gap, and with what has the name of what stood there, the names rise as before
+  pub ordered-insert : (xs : List X) (x : X) (k : ℕ) → AllPairs (Precede name_of) xs → IsPlace name_of xs (name_of x) (Err k) → AllPairs (Precede name_of) (insert xs k x)
+  ordered-insert xs x k ordered place =
+      let none = gap-none xs (name_of x) ordered k place in
+      subst (AllPairs (Precede name_of)) (sym (with-at x xs k place)) (ordered-put_in name_of x xs ordered (none_named name_of (name_of x) xs (rw none refl)))
+
+  pub ordered-set : (xs : List X) (x : X) (k : ℕ) (d : X) → AllPairs (Precede name_of) xs → k < length xs → name_of (get_or xs k d) ≡ name_of x → AllPairs (Precede name_of) (set xs k x)
+  ordered-set xs x k d ordered low same = pairs-of_map (set xs k x) name_of (λ a b. IsTrue (name_precedes a b)) (subst (AllPairs (λ a b. IsTrue (name_precedes a b))) (sym names) (AllPairs-map name_of (λ a b. IsTrue (name_precedes a b)) xs ordered)) where
+    names : map name_of (set xs k x) ≡ map name_of xs
+    names = map-set name_of xs k x ∙ ap (λ (n : List ℕ). set (map name_of xs) k n) (sym same ∙ sym (get_or-map name_of xs k d (name_of d) low)) ∙ set-get_or (map name_of xs) k (name_of d)
 
   pub place-at : (xs : List X) (name : List ℕ) (r : Result ℕ ℕ) (k : Result ℕ ℕ) → IsPlace name_of xs name r → r ≡ k → IsPlace name_of xs name k
   place-at xs name r k place is = subst (IsPlace name_of xs name) is place

@@ -2,21 +2,21 @@
 ghost use Rattle.std.specs.Prelude.{◌≡◌, ◌<◌, [], None, All, AllPairs, IsTrue, IsSome, IfOk, IfSome, OnOk, OnErr, length, option_copied};
 ghost use Rattle.taxi_base.specs.Airport.{arc_exists, layout_of};
 ghost use Rattle.taxi_base.specs.State.{no_holder, flight_named, party_named, has_holder, with_flight, without, with_route, holder_count, holds_in};
-ghost use Rattle.held_spans.specs.Spans.{AreSpansOf};
-ghost use Rattle.checked_state.specs.Flights.{state_of, HasSpansOf, HasRoomAgain, AreInOrder, ArePartiesInOrder};
+ghost use Rattle.checked_state.specs.Flights.{flights_of, state_of, HasSpansOf, HasRoomAgain};
 
 use crate::FlightList;
+use crate::party_list::PartyList;
 use airport_file::Airport;
 use held_spans::HeldSpans;
 use std::alloc::Global;
-use taxi_base::{Flight, List, Memory, Name, Party, Request, Step};
+use taxi_base::{Flight, List, Memory, Name, Request, Step};
 
 /// The flights in force and the work parties, each by rising names, and beside them the spans for which segments are held. The
 /// spans of one flight may be taken out for a while.
 #[derive(Drop)]
 pub struct HeldFlights {
     pub(crate) flights: FlightList,
-    pub(crate) parties: Vec<Party>,
+    pub(crate) parties: PartyList,
     pub(crate) spans: HeldSpans,
 }
 
@@ -27,7 +27,7 @@ impl HeldFlights {
         ensures spans { IfOk result (HasSpansOf airport.now no_holder) }
     {
         let flights = FlightList::new(alloc);
-        let parties = Vec::new(alloc);
+        let parties = PartyList::new(alloc);
         let spans = HeldSpans::new(alloc, airport.graph().segments())?;
         Ok(HeldFlights {
             flights,
@@ -40,13 +40,11 @@ impl HeldFlights {
     pub fn count(&self) -> usize
         ensures { result ≡ holder_count (state_of self.now) }
     {
-        self.parties.len() + self.flights.len()
+        self.parties().len() + self.flights.len()
     }
 
     /// Whether a flight or a party has a name.
     pub fn has_holder(&self, name: &Name) -> bool
-        requires flights { AreInOrder (state_of self.now).flights }
-        requires parties { ArePartiesInOrder (state_of self.now).parties }
         ensures { result ≡ has_holder name.now (state_of self.now) }
     {
         self.party(name).is_some() || self.flight(name).is_some()
@@ -54,7 +52,7 @@ impl HeldFlights {
 
     /// The flights, by rising names.
     pub fn flights(&self) -> &FlightList
-        ensures { result.now ≡ (state_of self.now).flights }
+        ensures { flights_of result.now ≡ (state_of self.now).flights }
     {
         &self.flights
     }
@@ -68,7 +66,6 @@ impl HeldFlights {
 
     /// The flight of a name.
     pub fn flight(&self, name: &Name) -> Option<&Flight>
-        requires { AreInOrder (state_of self.now).flights }
         ensures { option_copied result ≡ flight_named name.now (state_of self.now).flights }
     {
         let place = self.flights.place_of(name).ok()?;
@@ -77,7 +74,6 @@ impl HeldFlights {
 
     /// Puts a flight in force. Where memory runs out nothing changes.
     pub fn put_in(&mut self, airport: &Airport, flight: Flight) -> Result<(), Memory>
-        requires ordered { AreInOrder (state_of self.old).flights }
         requires absent { flight_named flight.name (state_of self.old).flights ≡ None }
         requires arcs { All (λ step. IsTrue (arc_exists (layout_of airport.now) step.arc)) flight.steps }
         requires spans { HasSpansOf airport.now (state_of self.old) self.old }
@@ -102,7 +98,6 @@ impl HeldFlights {
 
     /// Takes the flight of a name out of force. It needs no memory.
     pub fn take_out(&mut self, airport: &Airport, name: &Name)
-        requires ordered { AreInOrder (state_of self.old).flights }
         requires in_force { IsSome (flight_named name.now (state_of self.old).flights) }
         requires alone { party_named name.now (state_of self.old).parties ≡ None }
         requires spans { HasSpansOf airport.now (state_of self.old) self.old }
@@ -119,7 +114,6 @@ impl HeldFlights {
 
     /// Takes out the spans of the flight of a name, which stays in force. It needs no memory, and there is room for them then.
     pub fn lift(&mut self, airport: &Airport, name: &Name)
-        requires ordered { AreInOrder (state_of self.old).flights }
         requires in_force { IsSome (flight_named name.now (state_of self.old).flights) }
         requires alone { party_named name.now (state_of self.old).parties ≡ None }
         requires spans { HasSpansOf airport.now (state_of self.old) self.old }
@@ -137,7 +131,6 @@ impl HeldFlights {
 
     /// Puts the spans of the flight of a name back, for which there is room. It needs no memory.
     pub fn lower(&mut self, airport: &Airport, name: &Name)
-        requires ordered { AreInOrder (state_of self.old).flights }
         requires in_force { IsSome (flight_named name.now (state_of self.old).flights) }
         requires alone { party_named name.now (state_of self.old).parties ≡ None }
         requires arcs { IfSome (flight_named name.now (state_of self.old).flights) (λ flight. All (λ step. IsTrue (arc_exists (layout_of airport.now) step.arc)) flight.steps) }
@@ -164,7 +157,6 @@ impl HeldFlights {
         request: Request,
         steps: List<Step>,
     ) -> Result<(), Memory>
-        requires ordered { AreInOrder (state_of self.old).flights }
         requires in_force { IsSome (flight_named name.now (state_of self.old).flights) }
         requires alone { party_named name.now (state_of self.old).parties ≡ None }
         requires old_arcs { IfSome (flight_named name.now (state_of self.old).flights) (λ flight. All (λ step. IsTrue (arc_exists (layout_of airport.now) step.arc)) flight.steps) }

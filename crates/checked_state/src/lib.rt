@@ -5,6 +5,7 @@
 mod flights;
 mod list;
 mod parties;
+mod party_list;
 
 pub use flights::HeldFlights;
 pub use list::FlightList;

@@ -21,7 +21,7 @@ use Rattle.check_rows.specs.Known.{AreKnown, DifferOn, DifferAt, HaveMore}
 use Rattle.check_rows.proofs.KnownLaws.{blocked}
 use Rattle.held_spans.specs.declared.spans.HeldSpans.{HeldSpans}
 use Rattle.held_spans.specs.Spans.{weight_on, AreSpansOf, holds_in_lists}
-use Rattle.checked_state.specs.Flights.{AreInOrder, ArePartiesInOrder}
+use Rattle.checked_state.specs.Order.{AreInOrder, ArePartiesInOrder}
 use Rattle.held_spans.proofs.SumLaws.{any-sum}
 use Rattle.held_spans.proofs.SpanLaws.{covers-held, AreSpansOf-own, weight-cons, weight-append}
 use Rattle.checked_state.proofs.FlightLaws.{held-with, held-without, held-with_party, held-without_party}

@@ -1,6 +1,6 @@
 //! What an arrival or a departure asks for, or why it is refused before any search.
 ghost use Rattle.std.specs.Prelude.{◌≡◌, ◌<◌, length, ◌∷◌, [], Some, None, false, nat_le, IfOk, IfErr};
-ghost use Rattle.taxi_base.specs.State.{IsInOrder, has_holder, holder_count};
+ghost use Rattle.taxi_base.specs.State.{has_holder, holder_count};
 ghost use Rattle.taxi_text.specs.declared.command.Command.TheVariants as command;
 ghost use Rattle.certificate.specs.Refusals.{is_runway, is_stand, most_holders, first_of, in_force, unknown_class, unknown_node, first_refusal};
 ghost use Rattle.checked_state.specs.Flights.{state_of};
@@ -30,7 +30,6 @@ pub fn named_arrival(
     from: &Name,
     to: &Name,
 ) -> Result<Named, Refusal>
-    requires { IsInOrder (state_of held.now) }
     ensures named { IfOk result (AreNamed airport.now class.now from.now to.now) }
     ensures ok { IfOk result (λ named. first_refusal airport.now (state_of held.now) (command.Arrival flight.now class.now from.now to.now 0 0) ≡ None) }
     ensures err { IfErr result (λ why. first_refusal airport.now (state_of held.now) (command.Arrival flight.now class.now from.now to.now 0 0) ≡ Some why) }
@@ -57,7 +56,6 @@ pub fn named_departure(
     from: &Name,
     to: &Name,
 ) -> Result<Named, Refusal>
-    requires { IsInOrder (state_of held.now) }
     ensures named { IfOk result (AreNamed airport.now class.now from.now to.now) }
     ensures ok { IfOk result (λ named. first_refusal airport.now (state_of held.now) (command.Departure flight.now class.now from.now to.now 0 0) ≡ None) }
     ensures err { IfErr result (λ why. first_refusal airport.now (state_of held.now) (command.Departure flight.now class.now from.now to.now 0 0) ≡ Some why) }
@@ -84,7 +82,6 @@ fn find_named(
     from: &Name,
     to: &Name,
 ) -> Result<Named, Refusal>
-    requires { IsInOrder (state_of held.now) }
     ensures named { IfOk result (AreNamed airport.now class.now from.now to.now) }
     ensures new { IfOk result (λ named. has_holder flight.now (state_of held.now) ≡ false) }
     ensures err { IfErr result (λ why. first_of (in_force (state_of held.now) flight.now ∷ unknown_class airport.now class.now ∷ unknown_node airport.now from.now ∷ unknown_node airport.now to.now ∷ []) ≡ Some why) }

@@ -1,6 +1,5 @@
 //! What a choice of nodes asks for, or why it is refused before any search.
 ghost use Rattle.std.specs.Prelude.{◌≡◌, Some, None, IfOk};
-ghost use Rattle.taxi_base.specs.State.{IsInOrder};
 ghost use Rattle.taxi_text.specs.declared.command.Command.TheVariants as command;
 ghost use Rattle.checked_state.specs.Flights.{state_of};
 ghost use Rattle.due_refusals.specs.Choice.{AreAnyNamed};
@@ -35,7 +34,6 @@ pub fn named_arrival_any(
     from: &Name,
     stands: &[Name],
 ) -> Result<NamedAny, Memory>
-    requires { IsInOrder (state_of held.now) }
     ensures { IfOk result (AreAnyNamed airport.now (state_of held.now) class.now from.now stands.now (command.ArrivalAny flight.now class.now from.now 0 0 stands.now)) }
 {
     if held.has_holder(flight) {
@@ -73,7 +71,6 @@ pub fn named_departure_any(
     from: &Name,
     names: &[Name],
 ) -> Result<NamedAny, Memory>
-    requires { IsInOrder (state_of held.now) }
     ensures { IfOk result (AreAnyNamed airport.now (state_of held.now) class.now from.now names.now (command.DepartureAny flight.now class.now from.now 0 0 names.now)) }
 {
     if held.has_holder(flight) {

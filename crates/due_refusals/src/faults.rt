@@ -1,7 +1,6 @@
 //! Why a route that is given by hand fails among the flights in force.
 ghost use Rattle.std.specs.Prelude.{◌≡◌, ◌+◌, ◌<◌, ◌^◌, IfOk, IsTrue, All, length, nat_lt};
 ghost use Rattle.taxi_base.specs.Airport.{arc_exists, layout_of};
-ghost use Rattle.taxi_base.specs.State.{IsInOrder};
 ghost use Rattle.taxi_base.specs.Faults.{may_follow, cause_of, route_fault};
 ghost use Rattle.checked_state.specs.Flights.{state_of, HasSpansOf};
 ghost use Rattle.due_refusals.specs.KnownIn.{AreKnownIn};
@@ -20,7 +19,6 @@ pub(crate) fn route_fault(
     known: &mut KnownWindows,
     steps: &[Step],
 ) -> Result<Option<StepFault>, Memory>
-    requires ordered { IsInOrder (state_of held.now) }
     requires spans { HasSpansOf airport.now (state_of held.now) held.now }
     requires known { AreKnownIn airport.now (state_of held.now) known.old }
     requires arcs { All (λ step. IsTrue (arc_exists (layout_of airport.now) step.arc)) steps.now }
@@ -49,7 +47,6 @@ fn cause_of(
     before: Option<Arc>,
     step: Step,
 ) -> Result<Option<StepCause>, Memory>
-    requires ordered { IsInOrder (state_of held.now) }
     requires spans { HasSpansOf airport.now (state_of held.now) held.now }
     requires known { AreKnownIn airport.now (state_of held.now) known.old }
     requires arc { IsTrue (arc_exists (layout_of airport.now) step.arc) }

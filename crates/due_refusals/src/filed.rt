@@ -2,7 +2,6 @@
 ghost use Rattle.std.specs.Prelude.{◌≡◌, IfOk, IsTrue, length};
 ghost use Rattle.taxi_text.specs.Commands.{is_step_count};
 ghost use Rattle.certificate.specs.Asked.{filed_steps};
-ghost use Rattle.taxi_base.specs.State.{IsInOrder};
 ghost use Rattle.checked_state.specs.Flights.{state_of, HasSpansOf};
 ghost use Rattle.due_refusals.specs.KnownIn.{AreKnownIn};
 ghost use Rattle.due_refusals.specs.Filing.{IsDueOf};
@@ -40,7 +39,6 @@ pub fn find_due(
     known: &mut KnownWindows,
     new: &FiledRoute<'_>,
 ) -> Result<Due, Memory>
-    requires ordered { IsInOrder (state_of held.now) }
     requires spans { HasSpansOf airport.now (state_of held.now) held.now }
     requires known { AreKnownIn airport.now (state_of held.now) known.old }
     requires steps { IsTrue (is_step_count (length new.now.steps.now)) }

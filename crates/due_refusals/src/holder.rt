@@ -1,6 +1,5 @@
 //! Which holder, a flight or a work party, holds a segment at a second.
 ghost use Rattle.std.specs.Prelude.{◌≡◌, ◌<◌, length};
-ghost use Rattle.taxi_base.specs.State.{IsInOrder};
 ghost use Rattle.taxi_base.specs.Faults.{holder_at};
 ghost use Rattle.checked_state.specs.Flights.{state_of, HasSpansOf};
 
@@ -16,7 +15,6 @@ pub(crate) fn holder_at(
     segment: Segment,
     second: Time,
 ) -> Option<Name>
-    requires ordered { IsInOrder (state_of held.now) }
     requires spans { HasSpansOf airport.now (state_of held.now) held.now }
     requires on { segment.0 < length airport.now.segments }
     ensures { result ≡ holder_at airport.now (state_of held.now) segment second }

@@ -1,7 +1,6 @@
 //! Why a work party may not shut a segment.
 ghost use Rattle.std.specs.Prelude.{◌≡◌, ◌<◌, ◌∷◌, [], Some, IfOk, IfErr, length};
 ghost use Rattle.taxi_base.specs.Airport.{segment_named};
-ghost use Rattle.taxi_base.specs.State.{IsInOrder};
 ghost use Rattle.taxi_base.specs.Faults.{hold_cause, hold_fault};
 ghost use Rattle.taxi_text.specs.declared.command.Command.TheVariants as command;
 ghost use Rattle.certificate.specs.Refusals.{first_of, hold_fails, first_refusal};
@@ -30,7 +29,6 @@ pub fn named_party(
     held: &HeldFlights,
     new: &NewParty<'_>,
 ) -> Result<Segment, Refusal>
-    requires { IsInOrder (state_of held.now) }
     ensures named { IfOk result (λ segment. segment_named airport.now new.now.segment.now ≡ Some segment) }
     ensures ok { IfOk result (λ segment. first_refusal airport.now (state_of held.now) (command.Work new.now.name.now new.now.segment.now new.now.from new.now.until) ≡ first_of (hold_fails airport.now (state_of held.now) new.now.name.now new.now.segment.now new.now.from new.now.until ∷ [])) }
     ensures err { IfErr result (λ why. first_refusal airport.now (state_of held.now) (command.Work new.now.name.now new.now.segment.now new.now.from new.now.until) ≡ Some why) }
@@ -56,7 +54,6 @@ pub fn hold_fault(
     segment: Segment,
     span: Span,
 ) -> Result<Option<StepFault>, Memory>
-    requires ordered { IsInOrder (state_of held.now) }
     requires spans { HasSpansOf airport.now (state_of held.now) held.now }
     requires known { AreKnownIn airport.now (state_of held.now) known.old }
     requires on { segment.0 < length airport.now.segments }
@@ -77,7 +74,6 @@ fn hold_cause(
     segment: Segment,
     span: Span,
 ) -> Result<Option<StepCause>, Memory>
-    requires ordered { IsInOrder (state_of held.now) }
     requires spans { HasSpansOf airport.now (state_of held.now) held.now }
     requires known { AreKnownIn airport.now (state_of held.now) known.old }
     requires on { segment.0 < length airport.now.segments }

@@ -3,7 +3,6 @@ ghost use Rattle.std.specs.Prelude.{◌≡◌, ◌≤◌, ◌<◌, IfOk, OnOk, I
 ghost use Rattle.std.specs.List.Sorted.{IsPartitionPoint};
 ghost use Rattle.taxi_base.specs.Airport.{arc_exists, layout_of};
 ghost use Rattle.taxi_base.specs.Windows.{AreApart, covers};
-ghost use Rattle.taxi_base.specs.State.{IsInOrder};
 ghost use Rattle.taxi_base.specs.Faults.{first_taken, taken_by, taken_cause};
 ghost use Rattle.check_rows.specs.Known.{is_known};
 ghost use Rattle.checked_state.specs.Flights.{state_of, HasSpansOf};
@@ -24,7 +23,6 @@ pub(crate) fn taken_cause(
     known: &mut KnownWindows,
     step: Step,
 ) -> Result<Option<StepCause>, Memory>
-    requires ordered { IsInOrder (state_of held.now) }
     requires spans { HasSpansOf airport.now (state_of held.now) held.now }
     requires known { AreKnownIn airport.now (state_of held.now) known.old }
     requires arc { IsTrue (arc_exists (layout_of airport.now) step.arc) }
@@ -43,7 +41,6 @@ pub(crate) fn taken_by(
     segment: Segment,
     span: Span,
 ) -> Result<Option<StepCause>, Memory>
-    requires ordered { IsInOrder (state_of held.now) }
     requires spans { HasSpansOf airport.now (state_of held.now) held.now }
     requires known { AreKnownIn airport.now (state_of held.now) known.old }
     requires on { segment.0 < length airport.now.segments }

@@ -2,4 +2,5 @@ pub mod SumLaws
 mod RowLaws
 pub mod FirstLaws
 pub mod SpanLaws
+pub mod AloneLaws
 pub mod LoopLaws

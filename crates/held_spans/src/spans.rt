@@ -1,10 +1,10 @@
 //! The spans for which segments are held, by their segment, and by whom.
-ghost use Rattle.std.specs.Prelude.{◌≡◌, ◌+◌, ◌≤◌, ◌<◌, ◌∷◌, ◌++◌, [], ◌==◌, if◌then◌else◌, List, All, IsOk, IfOk, OnOk, OnErr, length};
+ghost use Rattle.std.specs.Prelude.{◌≡◌, ◌+◌, ◌≤◌, ◌<◌, ◌∷◌, ◌++◌, [], ◌==◌, if◌then◌else◌, List, All, Contains, IsOk, IfOk, OnOk, OnErr, length};
 ghost use Rattle.taxi_base.specs.declared.numbers.Segment.{Segment};
 ghost use Rattle.taxi_base.specs.Airport.{segment_of};
-ghost use Rattle.taxi_base.specs.Windows.{holds_of};
+ghost use Rattle.taxi_base.specs.Windows.{Hold, holds_of};
 ghost use Rattle.held_spans.specs.Holders.{IsFirstOf, IsHolderIn};
-ghost use Rattle.held_spans.specs.Spans.{rows_at, NamedHold, held_by, AreHeldBy, HasRoomFor, KeepsRoom, GainsRoom, room_at};
+ghost use Rattle.held_spans.specs.Spans.{rows_at, AreSpansOf, NamedHold, held_by, AreHeldBy, HasRoomFor, KeepsRoom, GainsRoom, room_at};
 
 use crate::HoldsOf;
 use crate::segment_spans::SegmentSpans;
@@ -35,6 +35,7 @@ impl HeldSpans {
     pub fn new(alloc: Global, segments: usize) -> Result<HeldSpans, Memory>
         ensures count { IfOk result (λ held. length held.lists.items ≡ segments) }
         ensures none { IfOk result (AreHeldBy []) }
+        ensures spans_none { IfOk result (AreSpansOf []) }
     {
         let mut lists = Vec::new(alloc);
         for _ in 0..segments {
@@ -54,6 +55,8 @@ impl HeldSpans {
         requires on { All (λ step. (segment_of step.arc).0 < length self.old.lists.items) steps.now }
         ensures ok { OnOk result ((holds : List NamedHold) → AreHeldBy holds self.old → AreHeldBy (holds ++ held_by holder.now (holds_of horizon clearance steps.now)) self.new) }
         ensures err { OnErr result ((holds : List NamedHold) → AreHeldBy holds self.old → AreHeldBy holds self.new) }
+        ensures spans_ok { OnOk result ((holds : List Hold) → AreSpansOf holds self.old → AreSpansOf (holds ++ holds_of horizon clearance steps.now) self.new) }
+        ensures spans_err { OnErr result ((holds : List Hold) → AreSpansOf holds self.old → AreSpansOf holds self.new) }
         ensures room { OnErr result (KeepsRoom self.old self.new) }
         ensures succeeds { HasRoomFor steps.now self.old → IsOk result }
         ensures count { length self.new.lists.items ≡ length self.old.lists.items }
@@ -72,6 +75,7 @@ impl HeldSpans {
     pub fn release(&mut self, holder: &Name, horizon: Time, clearance: Time, steps: &[Step])
         requires { (holds : List NamedHold) × AreHeldBy (holds ++ held_by holder.now (holds_of horizon clearance steps.now)) self.old }
         ensures gone { (holds : List NamedHold) → AreHeldBy (holds ++ held_by holder.now (holds_of horizon clearance steps.now)) self.old → AreHeldBy holds self.new }
+        ensures spans_gone { (holds : List Hold) → AreSpansOf (holds ++ holds_of horizon clearance steps.now) self.old → AreSpansOf holds self.new }
         ensures room { GainsRoom steps.now self.old self.new }
         ensures count { length self.new.lists.items ≡ length self.old.lists.items }
     {
@@ -85,6 +89,8 @@ impl HeldSpans {
         requires { segment.0 < length self.old.lists.items }
         ensures ok { OnOk result ((holds : List NamedHold) → AreHeldBy holds self.old → AreHeldBy (holds ++ held_by holder.now (record { segment = segment; span = span } ∷ [])) self.new) }
         ensures err { OnErr result ((holds : List NamedHold) → AreHeldBy holds self.old → AreHeldBy holds self.new) }
+        ensures spans_ok { OnOk result ((holds : List Hold) → AreSpansOf holds self.old → AreSpansOf (holds ++ record { segment = segment; span = span } ∷ []) self.new) }
+        ensures spans_err { OnErr result ((holds : List Hold) → AreSpansOf holds self.old → AreSpansOf holds self.new) }
         ensures room { (s : Segment) → room_at self.old s ≤ room_at self.new s + (if segment.0 == s.0 then 1 else 0) }
         ensures kept { OnErr result (KeepsRoom self.old self.new) }
         ensures full { OnErr result (room_at self.old segment ≡ 0) }
@@ -96,8 +102,9 @@ impl HeldSpans {
 
     /// Takes a span of a holder out of a segment's list, where it is. It needs no memory, and there is room for it then.
     pub fn take(&mut self, segment: Segment, span: Span, holder: &Name)
-        requires { (holds : List NamedHold) × AreHeldBy (record { hold = record { segment = segment; span = span }; holder = holder.now } ∷ holds) self.old }
+        requires { Contains (rows_at self.old segment) (record { 0 = span; 1 = holder.now }) }
         ensures gone { (holds : List NamedHold) → AreHeldBy (record { hold = record { segment = segment; span = span }; holder = holder.now } ∷ holds) self.old → AreHeldBy holds self.new }
+        ensures spans_gone { (holds : List Hold) → AreSpansOf (record { segment = segment; span = span } ∷ holds) self.old → AreSpansOf holds self.new }
         ensures room { (s : Segment) → room_at self.old s + (if segment.0 == s.0 then 1 else 0) ≤ room_at self.new s }
         ensures count { length self.new.lists.items ≡ length self.old.lists.items }
     {

@@ -8,6 +8,7 @@ use Rattle.checked_state.specs.Flights.{state_of}
 use Rattle.certificate.specs.Sought.{sought_any}
 use Rattle.certificate.proofs.ChoiceNames.{one-met}
 use Rattle.check_walks.proofs.StepLaws.{walk-some}
+use Rattle.checked_state.proofs.FlightLaws.{spans-alone}
 use Rattle.due_refusals.proofs.HeldLaws.{same-conditions, known-own, own-known}
 use Rattle.certificate_check.proofs.JudgedLaws.{told-of}
 use Rattle.certificate_check.proofs.RoutedLaws.{walk-arcs, not-told, told-broken, none-broken, told-walk, told-route, told-other}
@@ -25,21 +26,21 @@ pub check_told_any-requires-clause-known : goal.check_told_any-requires-clause-k
 check_told_any-requires-clause-known c =
     let airport = c.args.airport.now in
     let state = state_of c.args.held.now in
-    let has = subst (AreSpansOf (holds_in airport state)) (sym c.spans.ensures) c.requires.ready.has_spans.spans in
+    let has = subst (AreSpansOf (holds_in airport state)) (sym c.spans.ensures) (spans-alone _ _ _ c.requires.ready.has_spans) in
     known-own airport state c.spans.result.now has c.args.known.now c.requires.ready.are_known
 
 pub returns-in_err-broken-clause-ready : goal.returns-in_err-broken-clause-ready
 returns-in_err-broken-clause-ready c =
     let airport = c.args.airport.now in
     let state = state_of c.args.held.now in
-    let has = subst (AreSpansOf (holds_in airport state)) (sym c.spans.ensures) c.requires.ready.has_spans.spans in
+    let has = subst (AreSpansOf (holds_in airport state)) (sym c.spans.ensures) (spans-alone _ _ _ c.requires.ready.has_spans) in
     record { is_sound = c.requires.ready.is_sound; has_spans = c.requires.ready.has_spans; can_go_on = c.requires.ready.can_go_on; are_known = own-known airport state c.spans.result.now has c.check_told_any.new.known c.check_told_any.ensures.known }
 
 pub returns-then-is_some-clause-told : goal.returns-then-is_some-clause-told
 returns-then-is_some-clause-told c choice node others asks are =
     let airport = c.args.airport.now in
     let state = state_of c.args.held.now in
-    let has = subst (AreSpansOf (holds_in airport state)) (sym c.spans.ensures) c.requires.ready.has_spans.spans in
+    let has = subst (AreSpansOf (holds_in airport state)) (sym c.spans.ensures) (spans-alone _ _ _ c.requires.ready.has_spans) in
     let s = sought_any airport state c.args.name.now c.args.class choice node others in
     let form = says-yes _ c.if-not-is_told.false (c.is_told.ensures s refl refl) in
     let conditions = sym (same-conditions airport c.args.class c.spans.result.now (holds_in airport state) has) in
@@ -51,14 +52,14 @@ pub returns-then-is_some-clause-ready : goal.returns-then-is_some-clause-ready
 returns-then-is_some-clause-ready c =
     let airport = c.args.airport.now in
     let state = state_of c.args.held.now in
-    let has = subst (AreSpansOf (holds_in airport state)) (sym c.spans.ensures) c.requires.ready.has_spans.spans in
+    let has = subst (AreSpansOf (holds_in airport state)) (sym c.spans.ensures) (spans-alone _ _ _ c.requires.ready.has_spans) in
     record { is_sound = c.requires.ready.is_sound; has_spans = c.requires.ready.has_spans; can_go_on = c.requires.ready.can_go_on; are_known = own-known airport state c.spans.result.now has c.check_told_any.new.known c.check_told_any.ensures.known }
 
 pub node_at_end-to-requires-clause-some : goal.node_at_end-to-requires-clause-some
 node_at_end-to-requires-clause-some c =
     let airport = c.args.airport.now in
     let state = state_of c.args.held.now in
-    let has = subst (AreSpansOf (holds_in airport state)) (sym c.spans.ensures) c.requires.ready.has_spans.spans in
+    let has = subst (AreSpansOf (holds_in airport state)) (sym c.spans.ensures) (spans-alone _ _ _ c.requires.ready.has_spans) in
     let choice = c.requires.choice.0 in
     let node = c.requires.choice.1 in
     let others = c.requires.choice.2 in
@@ -79,7 +80,7 @@ pub node_at_end-to-requires-clause-arcs : goal.node_at_end-to-requires-clause-ar
 node_at_end-to-requires-clause-arcs c =
     let airport = c.args.airport.now in
     let state = state_of c.args.held.now in
-    let has = subst (AreSpansOf (holds_in airport state)) (sym c.spans.ensures) c.requires.ready.has_spans.spans in
+    let has = subst (AreSpansOf (holds_in airport state)) (sym c.spans.ensures) (spans-alone _ _ _ c.requires.ready.has_spans) in
     let choice = c.requires.choice.0 in
     let node = c.requires.choice.1 in
     let others = c.requires.choice.2 in
@@ -100,14 +101,14 @@ pub take_route-requires-clause-ready : goal.take_route-requires-clause-ready
 take_route-requires-clause-ready c =
     let airport = c.args.airport.now in
     let state = state_of c.args.held.now in
-    let has = subst (AreSpansOf (holds_in airport state)) (sym c.spans.ensures) c.requires.ready.has_spans.spans in
+    let has = subst (AreSpansOf (holds_in airport state)) (sym c.spans.ensures) (spans-alone _ _ _ c.requires.ready.has_spans) in
     record { is_sound = c.requires.ready.is_sound; has_spans = c.requires.ready.has_spans; can_go_on = c.requires.ready.can_go_on; are_known = own-known airport state c.spans.result.now has c.check_told_any.new.known c.check_told_any.ensures.known }
 
 pub take_route-requires-clause-met : goal.take_route-requires-clause-met
 take_route-requires-clause-met c =
     let airport = c.args.airport.now in
     let state = state_of c.args.held.now in
-    let has = subst (AreSpansOf (holds_in airport state)) (sym c.spans.ensures) c.requires.ready.has_spans.spans in
+    let has = subst (AreSpansOf (holds_in airport state)) (sym c.spans.ensures) (spans-alone _ _ _ c.requires.ready.has_spans) in
     let choice = c.requires.choice.0 in
     let node = c.requires.choice.1 in
     let others = c.requires.choice.2 in
@@ -129,7 +130,7 @@ pub take_route-requires-clause-sought : goal.take_route-requires-clause-sought
 take_route-requires-clause-sought c =
     let airport = c.args.airport.now in
     let state = state_of c.args.held.now in
-    let has = subst (AreSpansOf (holds_in airport state)) (sym c.spans.ensures) c.requires.ready.has_spans.spans in
+    let has = subst (AreSpansOf (holds_in airport state)) (sym c.spans.ensures) (spans-alone _ _ _ c.requires.ready.has_spans) in
     let choice = c.requires.choice.0 in
     let node = c.requires.choice.1 in
     let others = c.requires.choice.2 in
@@ -150,7 +151,7 @@ pub returns-in_ok-take_route-clause-told : goal.returns-in_ok-take_route-clause-
 returns-in_ok-take_route-clause-told c choice node others asks are =
     let airport = c.args.airport.now in
     let state = state_of c.args.held.now in
-    let has = subst (AreSpansOf (holds_in airport state)) (sym c.spans.ensures) c.requires.ready.has_spans.spans in
+    let has = subst (AreSpansOf (holds_in airport state)) (sym c.spans.ensures) (spans-alone _ _ _ c.requires.ready.has_spans) in
     let s = sought_any airport state c.args.name.now c.args.class choice node others in
     let form = says-yes _ c.if-not-is_told.false (c.is_told.ensures s refl refl) in
     let conditions = sym (same-conditions airport c.args.class c.spans.result.now (holds_in airport state) has) in
@@ -168,7 +169,7 @@ pub returns-in_default-clause-told : goal.returns-in_default-clause-told
 returns-in_default-clause-told c choice node others asks are =
     let airport = c.args.airport.now in
     let state = state_of c.args.held.now in
-    let has = subst (AreSpansOf (holds_in airport state)) (sym c.spans.ensures) c.requires.ready.has_spans.spans in
+    let has = subst (AreSpansOf (holds_in airport state)) (sym c.spans.ensures) (spans-alone _ _ _ c.requires.ready.has_spans) in
     let s = sought_any airport state c.args.name.now c.args.class choice node others in
     let form = says-yes _ c.if-not-is_told.false (c.is_told.ensures s refl refl) in
     let conditions = sym (same-conditions airport c.args.class c.spans.result.now (holds_in airport state) has) in
@@ -181,5 +182,5 @@ pub returns-in_default-clause-ready : goal.returns-in_default-clause-ready
 returns-in_default-clause-ready c =
     let airport = c.args.airport.now in
     let state = state_of c.args.held.now in
-    let has = subst (AreSpansOf (holds_in airport state)) (sym c.spans.ensures) c.requires.ready.has_spans.spans in
+    let has = subst (AreSpansOf (holds_in airport state)) (sym c.spans.ensures) (spans-alone _ _ _ c.requires.ready.has_spans) in
     record { is_sound = c.requires.ready.is_sound; has_spans = c.requires.ready.has_spans; can_go_on = c.requires.ready.can_go_on; are_known = own-known airport state c.spans.result.now has c.check_told_any.new.known c.check_told_any.ensures.known }

@@ -3,6 +3,7 @@ use Rattle.taxi_base.specs.State.{holds_in}
 use Rattle.check_rows.proofs.LoopLaws.{says-no, says-yes}
 use Rattle.held_spans.specs.Spans.{AreSpansOf}
 use Rattle.checked_state.specs.Flights.{state_of}
+use Rattle.checked_state.proofs.FlightLaws.{spans-alone}
 use Rattle.due_refusals.proofs.HeldLaws.{same-conditions}
 use Rattle.certificate.specs.Sought.{sought_new}
 use Rattle.due_refusals.proofs.HeldLaws.{known-own, own-known}
@@ -20,21 +21,21 @@ pub check_told-requires-clause-known : goal.check_told-requires-clause-known
 check_told-requires-clause-known c =
     let airport = c.args.airport.now in
     let state = state_of c.args.held.now in
-    let has = subst (AreSpansOf (holds_in airport state)) (sym c.spans.ensures) c.requires.ready.has_spans.spans in
+    let has = subst (AreSpansOf (holds_in airport state)) (sym c.spans.ensures) (spans-alone _ _ _ c.requires.ready.has_spans) in
     known-own airport state c.spans.result.now has c.args.known.now c.requires.ready.are_known
 
 pub returns-in_err-broken-clause-ready : goal.returns-in_err-broken-clause-ready
 returns-in_err-broken-clause-ready c =
     let airport = c.args.airport.now in
     let state = state_of c.args.held.now in
-    let has = subst (AreSpansOf (holds_in airport state)) (sym c.spans.ensures) c.requires.ready.has_spans.spans in
+    let has = subst (AreSpansOf (holds_in airport state)) (sym c.spans.ensures) (spans-alone _ _ _ c.requires.ready.has_spans) in
     record { is_sound = c.requires.ready.is_sound; has_spans = c.requires.ready.has_spans; can_go_on = c.requires.ready.can_go_on; are_known = own-known airport state c.spans.result.now has c.check_told.new.known c.check_told.ensures.known }
 
 pub returns-then-is_some-clause-told : goal.returns-then-is_some-clause-told
 returns-then-is_some-clause-told c =
     let airport = c.args.airport.now in
     let state = state_of c.args.held.now in
-    let has = subst (AreSpansOf (holds_in airport state)) (sym c.spans.ensures) c.requires.ready.has_spans.spans in
+    let has = subst (AreSpansOf (holds_in airport state)) (sym c.spans.ensures) (spans-alone _ _ _ c.requires.ready.has_spans) in
     let s = sought_new airport state c.args.name.now c.args.class c.args.request in
     let form = says-yes _ c.if-not-is_told.false (c.is_told.ensures s refl refl) in
     let conditions = sym (same-conditions airport c.args.class c.spans.result.now (holds_in airport state) has) in
@@ -45,21 +46,21 @@ pub returns-then-is_some-clause-ready : goal.returns-then-is_some-clause-ready
 returns-then-is_some-clause-ready c =
     let airport = c.args.airport.now in
     let state = state_of c.args.held.now in
-    let has = subst (AreSpansOf (holds_in airport state)) (sym c.spans.ensures) c.requires.ready.has_spans.spans in
+    let has = subst (AreSpansOf (holds_in airport state)) (sym c.spans.ensures) (spans-alone _ _ _ c.requires.ready.has_spans) in
     record { is_sound = c.requires.ready.is_sound; has_spans = c.requires.ready.has_spans; can_go_on = c.requires.ready.can_go_on; are_known = own-known airport state c.spans.result.now has c.check_told.new.known c.check_told.ensures.known }
 
 pub take_route-requires-clause-ready : goal.take_route-requires-clause-ready
 take_route-requires-clause-ready c =
     let airport = c.args.airport.now in
     let state = state_of c.args.held.now in
-    let has = subst (AreSpansOf (holds_in airport state)) (sym c.spans.ensures) c.requires.ready.has_spans.spans in
+    let has = subst (AreSpansOf (holds_in airport state)) (sym c.spans.ensures) (spans-alone _ _ _ c.requires.ready.has_spans) in
     record { is_sound = c.requires.ready.is_sound; has_spans = c.requires.ready.has_spans; can_go_on = c.requires.ready.can_go_on; are_known = own-known airport state c.spans.result.now has c.check_told.new.known c.check_told.ensures.known }
 
 pub take_route-requires-clause-met : goal.take_route-requires-clause-met
 take_route-requires-clause-met c =
     let airport = c.args.airport.now in
     let state = state_of c.args.held.now in
-    let has = subst (AreSpansOf (holds_in airport state)) (sym c.spans.ensures) c.requires.ready.has_spans.spans in
+    let has = subst (AreSpansOf (holds_in airport state)) (sym c.spans.ensures) (spans-alone _ _ _ c.requires.ready.has_spans) in
     let s = sought_new airport state c.args.name.now c.args.class c.args.request in
     let form = says-yes _ c.if-not-is_told.false (c.is_told.ensures s refl refl) in
     let conditions = sym (same-conditions airport c.args.class c.spans.result.now (holds_in airport state) has) in
@@ -71,7 +72,7 @@ pub returns-in_ok-take_route-clause-told : goal.returns-in_ok-take_route-clause-
 returns-in_ok-take_route-clause-told c =
     let airport = c.args.airport.now in
     let state = state_of c.args.held.now in
-    let has = subst (AreSpansOf (holds_in airport state)) (sym c.spans.ensures) c.requires.ready.has_spans.spans in
+    let has = subst (AreSpansOf (holds_in airport state)) (sym c.spans.ensures) (spans-alone _ _ _ c.requires.ready.has_spans) in
     let s = sought_new airport state c.args.name.now c.args.class c.args.request in
     let form = says-yes _ c.if-not-is_told.false (c.is_told.ensures s refl refl) in
     let conditions = sym (same-conditions airport c.args.class c.spans.result.now (holds_in airport state) has) in
@@ -84,7 +85,7 @@ pub returns-in_default : goal.returns-in_default
 returns-in_default c =
     let airport = c.args.airport.now in
     let state = state_of c.args.held.now in
-    let has = subst (AreSpansOf (holds_in airport state)) (sym c.spans.ensures) c.requires.ready.has_spans.spans in
+    let has = subst (AreSpansOf (holds_in airport state)) (sym c.spans.ensures) (spans-alone _ _ _ c.requires.ready.has_spans) in
     let s = sought_new airport state c.args.name.now c.args.class c.args.request in
     let form = says-yes _ c.if-not-is_told.false (c.is_told.ensures s refl refl) in
     let conditions = sym (same-conditions airport c.args.class c.spans.result.now (holds_in airport state) has) in

@@ -25,5 +25,5 @@ returns c =
     let spans = c.spans-spans.result.now in
     let segments = c.of-other-items.result.now in
     let are = subst (AreHeldBy (named_in airport state)) (sym c.spans-spans.ensures) c.requires.spans.holders in
-    holder-found airport state c.requires.ordered spans are c.args.segment segments (rw c.conflicts.ensures at c.of-other-items.ensures.all) c.args.second c.loop-other.first
+    holder-found airport state (c.args.held.now.flights.ordered, c.args.held.now.parties.ordered) spans are c.args.segment segments (rw c.conflicts.ensures at c.of-other-items.ensures.all) c.args.second c.loop-other.first
     (subst (λ (some : List Segment). IsFirstOf (IsHolderIn (flat_map (rows_at spans) some) c.args.second) c.loop-other.first) (take_all c.loop-other.other-index segments c.loop-other-test.false) c.loop-other.invariant)
