@@ -94,7 +94,7 @@ departure-one c from to others time queue steps met =
     IsRoute-OneOf c (LeavesNode (layout_of c.airport) from) (λ n. ReachesNodeWithin (layout_of c.airport) n (time - queue) time) (to ∷ others) one.0 one.1 steps one.2
 
 -- the node that is reached is the one that was asked for
-reached-is : (layout : Layout) (to : Node) (steps : List Step) → AtLast (ReachesNode layout to) steps → node_reached layout steps ≡ Some to
+pub reached-is : (layout : Layout) (to : Node) (steps : List Step) → AtLast (ReachesNode layout to) steps → node_reached layout steps ≡ Some to
 reached-is layout to [] ends = absurd ends
 reached-is layout to (s ∷ []) ends = ends
 reached-is layout to (s ∷ t ∷ steps) ends = reached-is layout to (t ∷ steps) ends

@@ -13,7 +13,7 @@ use Rattle.taxi_base.proofs.WalkLaws.{at-last}
 use Rattle.certificate.specs.Asked.{Choice, arrival_any, departure_any, nodes_of, request_for, nodes_named}
 use Rattle.certificate.specs.CarriedOut.{routed_flight}
 use Rattle.certificate.specs.Sought.{MeetsOneOf, node_reached, sought_any, sought_choice}
-use Rattle.certificate.proofs.ChoiceNames.{nodes_named-are, one-met, met-reaches}
+use Rattle.certificate.proofs.ChoiceNames.{nodes_named-are, one-met, met-reaches, reached-is}
 use Rattle.check_walks.specs.Choice.{IsAmong}
 
 -- what asks for the first of the nodes asks for one of them
@@ -45,11 +45,6 @@ module _ (c : Conditions) (choice : Choice) (node : Node) (others : List Node) (
 -- the flight with the node that its route reaches
 pub reached-request : (choice : Choice) (node reached : Node) (request : Request) → request ≡ request_for choice node → retargeted request reached ≡ request_for choice reached
 reached-request choice node reached request asks = ap (λ r. retargeted r reached) asks ∙ choice-to choice node reached
-
-reached-is : (layout : Layout) (to : Node) (steps : List Leg) → AtLast (ReachesNode layout to) steps → node_reached layout steps ≡ Some to
-reached-is layout to [] ends = absurd ends
-reached-is layout to (s ∷ []) ends = ends
-reached-is layout to (s ∷ t ∷ steps) ends = reached-is layout to (t ∷ steps) ends
 
 -- the head of the last arc is the node that is reached
 pub head-reached : (layout : Layout) (to : Node) (steps : List Leg) (d : Leg) → 0 < length steps → head layout (get_or steps (length steps - 1) d).arc ≡ Some to → node_reached layout steps ≡ Some to
