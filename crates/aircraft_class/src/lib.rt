@@ -115,25 +115,3 @@ fn time_in(times: &[Option<Time>], segment: Segment) -> Option<Time>
 }
 
 const MOST_CLASSES: usize = 32;
-
-#[cfg(test)]
-mod tests {
-    use super::*;
-    use std::test::Fail;
-
-    #[test]
-    fn times_are_kept_by_class_and_segment(rt: HostRuntime) -> Result<(), Fail> {
-        let mut classes = Classes::new(rt.alloc(), 4)?;
-        let medium = classes.class()?;
-        assert_eq!(rt; classes.seconds(medium, Segment(3)), None);
-        classes.set(medium, Segment(3), 15);
-        assert_eq!(rt; classes.seconds(medium, Segment(3)), Some(15));
-        assert_eq!(rt; classes.seconds(medium, Segment(4)), None);
-        assert_eq!(rt; classes.seconds(Class(1), Segment(3)), None);
-        assert_eq!(rt; classes.clearance(medium), 0);
-        classes.set_clearance(medium, 45);
-        assert_eq!(rt; classes.clearance(medium), 45);
-        assert_eq!(rt; classes.seconds(medium, Segment(3)), Some(15));
-        Ok(())
-    }
-}

@@ -72,25 +72,3 @@ impl Conflicts {
         self.of(s).binary_search(&t).is_ok()
     }
 }
-
-#[cfg(test)]
-mod tests {
-    use super::*;
-    use std::test::Fail;
-
-    #[test]
-    fn members_of_a_set_conflict(rt: HostRuntime) -> Result<(), Fail> {
-        let mut set = List::new(rt.alloc());
-        set.push(Segment(2))?;
-        set.push(Segment(0))?;
-        let conflicts = Conflicts::build(rt.alloc(), 4, &[set])?;
-        assert_eq!(rt;
-            conflicts.of(Segment(0)),
-            [Segment(0), Segment(2)].as_slice()
-        );
-        assert_eq!(rt; conflicts.of(Segment(1)), [Segment(1)].as_slice());
-        assert!(rt; conflicts.conflict(Segment(2), Segment(0)));
-        assert!(rt; !conflicts.conflict(Segment(2), Segment(3)));
-        Ok(())
-    }
-}

@@ -8,8 +8,6 @@ mod list;
 mod loose;
 mod node;
 mod nodes;
-#[cfg(test)]
-mod tests;
 mod window;
 
 pub use iter::{Windows, WindowsBack};

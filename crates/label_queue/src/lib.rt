@@ -6,7 +6,5 @@
 mod heap;
 mod place;
 mod queue;
-#[cfg(test)]
-mod tests;
 
 pub use queue::LabelQueue;

@@ -84,18 +84,3 @@ fn start_of(ends: &[usize], at: usize) -> usize
         _ => ends[at - 1],
     }
 }
-
-#[cfg(test)]
-mod tests {
-    use super::*;
-    use std::test::Fail;
-
-    #[test]
-    fn rows_come_back_as_they_were_added(rt: HostRuntime) -> Result<(), Fail> {
-        let mut rows = PackedRows::new(rt.alloc());
-        rows.push_row(&[7u32, 9])?;
-        rows.push_row(&[8])?;
-        assert_eq!(rt; rows.row(1), [8].as_slice());
-        Ok(())
-    }
-}

@@ -26,8 +26,3 @@ pub use steady_shelf::SteadyShelf;
 pub use steady_sink::SteadySink;
 pub use trouble::{ReadRefused, Trouble};
 pub use writing::write_all;
-
-#[cfg(test)]
-mod tests;
-#[cfg(test)]
-mod uses;

@@ -22,6 +22,3 @@ pub use line_reader::LineReader;
 pub use reader::read_command;
 pub use texts::{ShortText, push_bytes, push_number};
 pub use word::{WordSlices, words};
-
-#[cfg(test)]
-mod tests;

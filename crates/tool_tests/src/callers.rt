@@ -5,11 +5,11 @@ ghost use Rattle.taxi_io.specs.Files.{Files, IsFile, BeganMore, file_of};
 ghost use Rattle.taxi_io.specs.SteadyFiles.{HasFile};
 ghost use Rattle.taxi_io.specs.Written.{Grew};
 
-use crate::{ReadRefused, Shelf, Sink, SteadyShelf, Trouble, read_all, write_all};
 use std::alloc::Global;
+use taxi_io::{ReadRefused, Shelf, Sink, SteadyShelf, Trouble, read_all, write_all};
 
 /// With the file told and no fault counted the limit decides, but for want of memory.
-fn read_told<S: Shelf>(
+pub fn read_told<S: Shelf>(
     alloc: Global,
     shelf: &mut S,
     name: &str,
@@ -29,7 +29,7 @@ fn read_told<S: Shelf>(
 }
 
 /// Two files, one after the other.
-fn read_both<S: Shelf>(
+pub fn read_both<S: Shelf>(
     alloc: Global,
     shelf: &mut S,
     first: &str,
@@ -47,7 +47,7 @@ fn read_both<S: Shelf>(
 }
 
 /// Two pieces one after the other.
-fn write_both<K: Sink>(sink: &mut K, first: &[u8], second: &[u8]) -> Result<(), Trouble>
+pub fn write_both<K: Sink>(sink: &mut K, first: &[u8], second: &[u8]) -> Result<(), Trouble>
     ensures ok { OnOk result (Grew (K.written sink.old) (K.written sink.new) (first.now ++ second.now)) }
     ensures failed { IsErrOf result Trouble.Failed → Rose (K.faults sink.old) (K.faults sink.new) }
 {
@@ -56,7 +56,11 @@ fn write_both<K: Sink>(sink: &mut K, first: &[u8], second: &[u8]) -> Result<(), 
 }
 
 /// A file of a shelf that never fails is read whole, but for want of memory.
-fn read_steady(alloc: Global, shelf: &mut SteadyShelf, name: &str) -> Result<Vec<u8>, ReadRefused>
+pub fn read_steady(
+    alloc: Global,
+    shelf: &mut SteadyShelf,
+    name: &str,
+) -> Result<Vec<u8>, ReadRefused>
     requires known { HasFile shelf.old name.now }
     ensures whole { (file : List ℕ) → file_of shelf.old.files name.now ≡ Some file → length file ≤ 100 →
         MatchResult result (λ bytes. bytes.items ≡ file) (λ e. e ≡ ReadRefused.Memory) }
