@@ -1,10 +1,11 @@
 -- Lists that are changed at one place: their length, their elements, and what `map` makes of them.
-use Rattle.std.proofs.Common.{◌≡◌, ℕ, zero, suc, ◌+◌, ◌<◌, ◌≤◌, List, [], ◌∷◌, ◌++◌, length, map, take, drop, refl, ap, ◌∙◌, arith}
+use Rattle.std.proofs.Common.{◌≡◌, ℕ, zero, suc, ◌+◌, ◌<◌, ◌≤◌, List, [], ◌∷◌, ◌++◌, length, map, take, drop, refl, sym, ap, ◌∙◌, arith}
 use Rattle.std.specs.Prelude.{reverse}
 use Rattle.std.proofs.lemmas.List.{reverse-append}
 use Rattle.interval_list.specs.Edits.{inserted, removed, replaced, item}
-use denote.RawPtr.{null_ptr}
-use Rattle.interval_list.specs.Cells.{Cell, places, windows_of, place_of, node_of}
+use denote.RawPtr.{Ptr, null_ptr}
+use Rattle.interval_list.specs.declared.node.Node.{Node}
+use Rattle.interval_list.specs.Cells.{Cell, IsAt, no_cell, places, windows_of, place_of, node_of, with_node}
 
 module _ {X : Type 0} where
   pub length-inserted : (xs : List X) (i : ℕ) (x : X) → length (inserted xs i x) ≡ length xs + 1
@@ -98,6 +99,22 @@ length-windows_of (c ∷ cs) = ap suc (length-windows_of cs)
 pub windows_of-first : (cs : List Cell) → 0 < length cs → windows_of cs ≡ (node_of cs 0).window ∷ removed (windows_of cs) 0
 windows_of-first [] some = absurd (omega arith)
 windows_of-first (c ∷ cs) some = refl
+
+pub places-first : (cs : List Cell) → 0 < length cs → places cs ≡ place_of cs 0 ∷ removed (places cs) 0
+places-first [] some = absurd (omega arith)
+places-first (c ∷ cs) some = refl
+
+-- the node that came as number i, and another in its place
+pub is_at-inserted : (cs : List Cell) (i : ℕ) (at : Ptr) (m : Node) → i ≤ length cs → IsAt (inserted cs i (at, m)) at i
+is_at-inserted cs i at m within = (omega (arith, length-inserted cs i (at, m), within), sym (ap (λ (c : Cell). c.0) (item-inserted no_cell cs i (at, m) within)))
+
+with_node-inserted : (cs : List Cell) (i : ℕ) (at : Ptr) (m n : Node) → i ≤ length cs → with_node (inserted cs i (at, m)) i n ≡ inserted cs i (at, n)
+with_node-inserted cs zero at m n within = refl
+with_node-inserted [] (suc i) at m n within = absurd (omega (arith, within))
+with_node-inserted (c ∷ cs) (suc i) at m n within = ap (λ ds. c ∷ ds) (with_node-inserted cs i at m n (omega (arith, within)))
+
+pub put_and_set : (cs ys zs : List Cell) (i : ℕ) (at : Ptr) (m n : Node) → i ≤ length cs → ys ≡ inserted cs i (at, m) → zs ≡ with_node ys i n → zs ≡ inserted cs i (at, n)
+put_and_set cs ys zs i at m n within put wrote = wrote ∙ ap (λ ds. with_node ds i n) put ∙ with_node-inserted cs i at m n within
 
 module _ {X : Type 0} where
   pub replaced-split : (xs : List X) (i : ℕ) (x : X) → i < length xs → replaced xs i x ≡ take i xs ++ x ∷ drop (suc i) xs

@@ -1,20 +1,15 @@
 -- A `&` to the nodes of a chain is made where one to each node is. Assumes `Logic`.
 use Rattle.std.proofs.Common.{List, [], ◌∷◌}
-use base.Fraction.{full_share}
 use base.Fml.{Lft, ftrue}
 use seplogic.Ra.Ura.{Ura}
 use types.Logic.{Logic}
 use contract.BorrowLft.{⊑_static}
-use denote.RawPtr.{lies_at}
 use denote.Sharing.{ShrLaws}
 use denote.SharingLaws.{beside_shr_laws, nothing_shr_laws}
 use denote.Shares.{Shares-less}
-use denote.Struct.Lending.{lent_at, lent_at_shr_laws, Lends-lies, Lends-first, Lends, Lends-both, Lends-nothing}
-use denote.Memory.{lone}
-use mir.Raw.{raw as bare}
-use Rattle.std.specs.contracts.impls.GlobalAllocator.TheImpl.{ghosts}
+use denote.Struct.Lending.{lent_at, lent_at_shr_laws, Lends-lies, Lends, Lends-both, Lends-nothing}
 use Rattle.interval_list.specs.Cells.{Cell}
-use Rattle.interval_list.specs.Ownership.{heap, nodes_own, nodes_lent}
+use Rattle.interval_list.specs.Ownership.{nodes_own, nodes_lent}
 use Rattle.interval_list.specs.contracts.node.Node as node
 use Rattle.interval_list.proofs.node.Node.TheLaws as node_laws
 
@@ -27,6 +22,5 @@ module _ {M : Type 1} {𝓤 : Ura M} (𝓛 : Logic 𝓤) (l : Lft) where
   Lends-nodes [] = Lends-nothing 𝓛 ftrue l
   Lends-nodes (c ∷ cs) =
       Lends-both 𝓛 _ (nodes_own cs) (lent_at node.the_row c.0 c.1) (nodes_lent cs) l
-      (Lends-first 𝓛 (lies_at node.the_row full_share c.0 c.1) (ghosts.dealloc_token heap (bare (lone node.the_row.mir)) c.0) (lent_at node.the_row c.0 c.1) l
-      (Lends-lies 𝓛 node.the_row l c.0 c.1 (Shares-less 𝓛 node.the_row [] l (⊑_static l) (node_laws.the_row_laws.shares 𝓛) c.1)))
+      (Lends-lies 𝓛 node.the_row l c.0 c.1 (Shares-less 𝓛 node.the_row [] l (⊑_static l) (node_laws.the_row_laws.shares 𝓛) c.1))
       (Lends-nodes cs)

@@ -1,6 +1,7 @@
 mod Beginnings
 mod Cuts
 mod Edited
+mod Handed
 mod Lent
 mod Linked
 mod LooseValues
@@ -9,6 +10,7 @@ pub mod Owning
 mod Progress
 mod Relinked
 mod Results
+mod Rows
 pub mod Seconds
 mod Spots
 mod Values

@@ -5,8 +5,8 @@ use Rattle.interval_list.specs.declared.node.Node.{Node}
 use Rattle.interval_list.specs.declared.node.Place.{Place}
 use Rattle.interval_list.specs.declared.window.Window.{Window}
 use Rattle.interval_list.specs.Edits.{inserted, removed}
-use Rattle.interval_list.specs.Cells.{Cell, places, windows_of, no_cell, place_of, node_of, IsGap, AreLinked, first_leading, cells_leading, last_leading, cells_leading_back}
-use Rattle.interval_list.proofs.Edited.{length-inserted, length-removed, length-replaced, map-inserted, map-removed, item-inserted_before, item-inserted_after, item-removed_before, item-removed_after}
+use Rattle.interval_list.specs.Cells.{Cell, places, windows_of, no_cell, place_of, node_of, with_node, IsGap, AreLinked, first_leading, cells_leading, last_leading, cells_leading_back}
+use Rattle.interval_list.proofs.Edited.{put_and_set, length-inserted, length-removed, length-replaced, map-inserted, map-removed, item-inserted_before, item-inserted_after, item-removed_before, item-removed_after}
 use Rattle.interval_list.proofs.Linked.{next_is, prev_is, forward-with_node, forward-inserted, back-inserted, forward-removed, back-removed, back-led, last_leading-led, length-led, place_of-led, places-led, windows_of-led, places-with_node, windows_of-with_links}
 
 -- what stands after the links round place i are written: forward to p, and back from node j to q
@@ -68,16 +68,16 @@ module _ (cs : List Cell) (i : ℕ) (first last : Ptr) (linked : AreLinked first
   )
 
 -- the chain once a node came, by what each step made of it: it is linked, and has the window and the place in their place
-pub put-result : (cs now ys zs ws : List Cell) (i len : ℕ) (at first last first' last' : Ptr) (m : Node) (prev next : Place) (w : Window)
-    → cs ≡ now → IsGap now i prev.at next.at → (len ≡ length cs) × AreLinked first last cs → ys ≡ inserted cs i (at, m) → m ≡ record { next = next; prev = prev; window = w }
+pub put-result : (cs now xs ys zs ws : List Cell) (i len : ℕ) (at first last first' last' : Ptr) (m : Node) (prev next : Place) (w : Window)
+    → cs ≡ now → IsGap now i prev.at next.at → (len ≡ length cs) × AreLinked first last cs → xs ≡ inserted cs i (at, m) → ys ≡ with_node xs i (record { next = next; prev = prev; window = w })
     → first' ≡ first_leading first i at → zs ≡ cells_leading ys i at → last' ≡ last_leading zs last (i + 1) at → ws ≡ cells_leading_back zs (i + 1) at
     → ((len + 1 ≡ length ws) × AreLinked first' last' ws) × (windows_of ws ≡ inserted (windows_of now) i w) × (places ws ≡ inserted (places now) i at)
-put-result cs now ys zs ws i len at first last first' last' m prev next w view gap linked came made firsts led lasts wrote =
+put-result cs now xs ys zs ws i len at first last first' last' m prev next w view gap linked put set firsts led lasts wrote =
     let n : Node = record { next = next; prev = prev; window = w } in
     let more : List Cell = inserted cs i (at, n) in
     let gap' : IsGap cs i prev.at next.at = subst (λ (ds : List Cell). IsGap ds i prev.at next.at) (sym view) gap in
-    let came' : ys ≡ more = came ∙ ap (λ (k : Node). inserted cs i (at, k)) made in
-    let led' : zs ≡ cells_leading more i at = led ∙ ap (λ (ds : List Cell). cells_leading ds i at) came' in
+    let came : ys ≡ more = put_and_set cs xs ys i at m n gap'.0 put set in
+    let led' : zs ≡ cells_leading more i at = led ∙ ap (λ (ds : List Cell). cells_leading ds i at) came in
     let lasts' : last' ≡ last_leading (cells_leading more i at) last (i + 1) at = lasts ∙ ap (λ (ds : List Cell). last_leading ds last (i + 1) at) led' in
     let wrote' : ws ≡ written more i (i + 1) at at = wrote ∙ ap (λ (ds : List Cell). cells_leading_back ds (i + 1) at) led' in
     let whole : AreLinked (first_leading first i at) (last_leading (cells_leading more i at) last (i + 1) at) (written more i (i + 1) at at) = put-linked cs i at n gap' first last linked.1 in (

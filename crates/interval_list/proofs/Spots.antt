@@ -37,7 +37,7 @@ module _ (cs ds es : List Cell) (i : ℕ) where
       let on : i + 1 ≡ suc i = omega arith in
       rw on (place_of-places ds i ∙ ap (λ ps. item null_ptr ps i) went ∙ item-removed_after null_ptr (places cs) i i (omega arith) ∙ sym (place_of-places cs (suc i)))
 
-length-places : (cs : List Cell) → length (places cs) ≡ length cs
+pub length-places : (cs : List Cell) → length (places cs) ≡ length cs
 length-places [] = refl
 length-places (c ∷ cs) = ap suc (length-places cs)
 

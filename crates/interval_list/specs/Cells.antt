@@ -1,5 +1,5 @@
 -- The nodes of a chain in order, each with the place where it lies, and how they point to one another.
-use Rattle.std.specs.Prelude.{◌≡◌, ℕ, zero, suc, ◌-◌, ◌<◌, ◌≤◌, ⊤, List, [], ◌∷◌, length, map}
+use Rattle.std.specs.Prelude.{◌≡◌, ℕ, zero, suc, ◌-◌, ◌<◌, ◌≤◌, ⊤, List, [], ◌∷◌, ◌++◌, length, map, IsPermutation}
 use denote.RawPtr.{Ptr, null_ptr}
 use Rattle.interval_list.specs.declared.node.Node.{Node}
 use Rattle.interval_list.specs.declared.window.Window.{Window}
@@ -79,3 +79,7 @@ last_leading (c ∷ cs) last (suc i) p = last_leading cs last i p
 -- the nodes, once what led back from node i leads back to p
 abbrev pub cells_leading_back : List Cell → ℕ → Ptr → List Cell
 cells_leading_back cs i p = with_node cs i (record (node_of cs i) { prev = record { at = p } })
+
+-- the windows and the spares of two chains lie in the same nodes as before
+abbrev pub SameNodes : List Cell → List Cell → List Cell → List Cell → Type 0
+SameNodes windows spares windows' spares' = IsPermutation (places windows ++ places spares) (places windows' ++ places spares')

@@ -1,14 +1,13 @@
 //! A doubly linked list of windows over nodes. The links lie in the nodes.
-//! It is seen as its nodes in order, each with its place. It frees no node but by the caller's hand.
+//! It is seen as its nodes in order, each with its place. It frees no node.
 ghost use Rattle.std.specs.Prelude.{◌≡◌, ◌+◌, ◌-◌, ◌^◌, ◌<◌, ◌≤◌, [], ◌∷◌, length};
 ghost use Rattle.interval_list.specs.Cells.{IsAt, IsGap, places, place_of, node_of, windows_of, first_leading, cells_leading, last_leading, cells_leading_back};
 ghost use Rattle.interval_list.specs.Edits.{inserted, removed, replaced};
 
 use crate::Window;
-use crate::loose::Loose;
+use crate::lone::LoneNode;
 use crate::node::{Node, Place};
 use crate::nodes::Nodes;
-use std::alloc::Global;
 use std::marker::Model;
 use std::ptr::null_mut;
 
@@ -110,17 +109,17 @@ impl Chain {
         i: usize,
         prev: Place,
         next: Place,
-        node: Box<Node>,
+        lone: LoneNode,
         window: Window,
     ) -> Place
         requires room { length self.old + 1 < 2 ^ 64 }
         requires gap { IsGap self.old i prev.at next.at }
+        ensures place { result.at ≡ lone.at }
         ensures windows { windows_of self.new ≡ inserted (windows_of self.old) i window }
         ensures places { places self.new ≡ inserted (places self.old) i result.at }
     {
-        let mut node = node;
-        *node = Node { next, prev, window };
-        let place = self.nodes.put(i, Loose::of(node));
+        let place = self.nodes.put(i, lone);
+        self.nodes.set(place, i, Node { next, prev, window });
         self.len += 1;
         lead(&mut self.nodes, &mut self.first, i, prev, place);
         lead_back(
@@ -135,53 +134,67 @@ impl Chain {
     }
 
     /// Links node `i` out.
-    pub(crate) fn take(&mut self, alloc: Global, place: Place, i: usize) -> Box<Node>
+    pub(crate) fn take(&mut self, place: Place, i: usize) -> LoneNode
         requires { IsAt self.old place.at i }
-        ensures window { result.value.window ≡ (node_of self.old i).window }
+        ensures place { result.at ≡ place.at }
         ensures windows { windows_of self.new ≡ removed (windows_of self.old) i }
         ensures places { places self.new ≡ removed (places self.old) i }
     {
-        let node = self.nodes.take(alloc, place, i).into_box();
-        let prev = node.prev;
-        let next = node.next;
+        let node = *self.nodes.node(place, i);
+        let lone = self.nodes.take(place, i);
         self.len -= 1;
-        lead(&mut self.nodes, &mut self.first, i, prev, next);
-        lead_back(&mut self.nodes, &mut self.last, self.len, i, next, prev);
-        node
+        lead(&mut self.nodes, &mut self.first, i, node.prev, node.next);
+        lead_back(
+            &mut self.nodes,
+            &mut self.last,
+            self.len,
+            i,
+            node.next,
+            node.prev,
+        );
+        lone
     }
 
-    /// Links the node in as the first.
-    pub(crate) fn push(&mut self, node: Box<Node>)
+    /// The window of the first node.
+    pub(crate) fn top(&self) -> Window
+        requires { 0 < length self.now }
+        ensures { result ≡ (node_of self.now 0).window }
+    {
+        self.window(self.first, 0)
+    }
+
+    /// Links the node in as the first, with a window. Says where it lies.
+    pub(crate) fn push(&mut self, lone: LoneNode, window: Window) -> Place
         requires { length self.old + 1 < 2 ^ 64 }
-        ensures { windows_of self.new ≡ node.value.window ∷ windows_of self.old }
+        ensures place { result.at ≡ lone.at }
+        ensures windows { windows_of self.new ≡ window ∷ windows_of self.old }
+        ensures places { places self.new ≡ lone.at ∷ places self.old }
     {
         let first = self.first();
-        let window = node.window;
-        self.put(0, first, first, node, window);
+        self.put(0, first, first, lone, window)
     }
 
     /// Links the first node out.
-    pub(crate) fn pop(&mut self, alloc: Global) -> Box<Node>
+    pub(crate) fn pop(&mut self) -> LoneNode
         requires { 0 < length self.old }
-        ensures { windows_of self.old ≡ result.value.window ∷ windows_of self.new }
+        ensures windows { windows_of self.old ≡ (node_of self.old 0).window ∷ windows_of self.new }
+        ensures places { places self.old ≡ result.at ∷ places self.new }
     {
         let first = self.first();
-        self.take(alloc, first, 0)
+        self.take(first, 0)
     }
 
-    /// Frees all nodes.
-    pub(crate) fn free(self, alloc: Global) {
-        let mut chain = self;
-        while chain.len() > 0 {
-            let _node = chain.pop(alloc);
-        }
+    /// Its nodes, no longer linked.
+    pub(crate) fn into_nodes(self) -> Nodes
+        ensures { result.cells ≡ self }
+    {
         let Chain {
             nodes,
             first: _,
             last: _,
             len: _,
-        } = chain;
-        drop(nodes);
+        } = self;
+        nodes
     }
 }
 

@@ -1,7 +1,7 @@
 //! Seconds are taken out of a chain of windows and given back, in nodes that are there.
 ghost use Rattle.std.specs.Prelude.{◌≡◌, ◌+◌, ◌-◌, ◌^◌, ◌<◌, ◌≤◌, ◌++◌, length, take, drop};
 ghost use Rattle.taxi_base.specs.Windows.{AreApart};
-ghost use Rattle.interval_list.specs.Cells.{IsAt, IsGap, place_of, node_of, windows_of};
+ghost use Rattle.interval_list.specs.Cells.{IsAt, IsGap, SameNodes, place_of, node_of, windows_of};
 ghost use Rattle.interval_list.specs.Edits.{inserted};
 ghost use Rattle.interval_list.specs.Intervals.{span, spans_of, ids_of};
 ghost use Rattle.interval_list.specs.Steps.{window, top, below_top, cut_window, cut_spare, cut, merged, HasRoomToCut, HasRoomToMerge};
@@ -9,23 +9,17 @@ ghost use Rattle.interval_list.specs.Steps.{window, top, below_top, cut_window, 
 use crate::Window;
 use crate::chain::Chain;
 use crate::node::Place;
-use std::alloc::Global;
 use taxi_base::Time;
 
 /// Takes the seconds from `from` up to `until` out of the windows.
-pub(crate) fn take_out(
-    windows: &mut Chain,
-    spares: &mut Chain,
-    alloc: Global,
-    from: Time,
-    until: Time,
-)
+pub(crate) fn take_out(windows: &mut Chain, spares: &mut Chain, from: Time, until: Time)
     requires some { from < until }
     requires apart { AreApart 0 (spans_of (windows_of windows.old)) }
     requires room { HasRoomToCut (span from until) (windows_of windows.old) (ids_of (windows_of spares.old)) }
     requires small { length windows.old + length spares.old < 2 ^ 64 }
     ensures windows { windows_of windows.new ≡ (cut (span from until) (windows_of windows.old) (ids_of (windows_of spares.old))).0 }
     ensures spares { ids_of (windows_of spares.new) ≡ (cut (span from until) (windows_of windows.old) (ids_of (windows_of spares.old))).1 }
+    ensures nodes { SameNodes windows.old spares.old windows.new spares.new }
 {
     let start = first_beyond(windows, from);
     let mut place = start.place;
@@ -36,7 +30,7 @@ pub(crate) fn take_out(
             return;
         }
         let next = windows.next(place, i);
-        i += cut_at(windows, spares, alloc, place, i, from, until);
+        i += cut_at(windows, spares, place, i, from, until);
         place = next;
     }
 }
@@ -90,39 +84,28 @@ struct Gap {
 }
 
 /// Gives the seconds from `from` up to `until` back to the windows.
-pub(crate) fn give_back(
-    windows: &mut Chain,
-    spares: &mut Chain,
-    alloc: Global,
-    from: Time,
-    until: Time,
-)
+pub(crate) fn give_back(windows: &mut Chain, spares: &mut Chain, from: Time, until: Time)
     requires some { from < until }
     requires apart { AreApart 0 (spans_of (windows_of windows.old)) }
     requires room { HasRoomToMerge (span from until) (windows_of windows.old) (ids_of (windows_of spares.old)) }
     requires small { length windows.old + length spares.old < 2 ^ 64 }
     ensures windows { windows_of windows.new ≡ (merged (span from until) (windows_of windows.old) (ids_of (windows_of spares.old))).0 }
     ensures spares { ids_of (windows_of spares.new) ≡ (merged (span from until) (windows_of windows.old) (ids_of (windows_of spares.old))).1 }
+    ensures nodes { SameNodes windows.old spares.old windows.new spares.new }
 {
-    let gap = clear(windows, spares, alloc, from, until);
-    let spare = spares.pop(alloc);
-    let id = spare.window.id;
-    windows.put(
-        gap.index,
-        gap.prev,
-        gap.next,
-        spare,
-        Window {
-            from: gap.from,
-            until: gap.until,
-            id,
-        },
-    );
+    let gap = clear(windows, spares, from, until);
+    let window = Window {
+        from: gap.from,
+        until: gap.until,
+        id: spares.top().id,
+    };
+    let spare = spares.pop();
+    windows.put(gap.index, gap.prev, gap.next, spare, window);
 }
 
 /// Takes out each window that the seconds meet or touch, and finds the gap for the one that has them all. A window that ends
 /// where the seconds begin reaches beyond the second before them.
-fn clear(windows: &mut Chain, spares: &mut Chain, alloc: Global, from: Time, until: Time) -> Gap
+fn clear(windows: &mut Chain, spares: &mut Chain, from: Time, until: Time) -> Gap
     requires some { from < until }
     requires apart { AreApart 0 (spans_of (windows_of windows.old)) }
     requires room { HasRoomToMerge (span from until) (windows_of windows.old) (ids_of (windows_of spares.old)) }
@@ -132,6 +115,7 @@ fn clear(windows: &mut Chain, spares: &mut Chain, alloc: Global, from: Time, unt
     ensures spares { (merged (span from until) (windows_of windows.old) (ids_of (windows_of spares.old))).1 ≡ below_top (ids_of (windows_of spares.new)) }
     ensures some { 0 < length spares.new }
     ensures same { length windows.new + length spares.new ≡ length windows.old + length spares.old }
+    ensures nodes { SameNodes windows.old spares.old windows.new spares.new }
 {
     let mut from = from;
     let mut until = until;
@@ -157,8 +141,8 @@ fn clear(windows: &mut Chain, spares: &mut Chain, alloc: Global, from: Time, unt
         } else {
             from = from.min(window.from);
             until = until.max(window.until);
-            let joined = windows.take(alloc, next, index);
-            spares.push(joined);
+            let joined = windows.take(next, index);
+            spares.push(joined, window);
         }
         next = behind;
     }
@@ -175,7 +159,6 @@ fn clear(windows: &mut Chain, spares: &mut Chain, alloc: Global, from: Time, unt
 fn cut_at(
     windows: &mut Chain,
     spares: &mut Chain,
-    alloc: Global,
     place: Place,
     i: usize,
     from: Time,
@@ -188,6 +171,7 @@ fn cut_at(
     ensures spares { ids_of (windows_of spares.new) ≡ cut_spare (span from until) (node_of windows.old i).window (ids_of (windows_of spares.old)) }
     ensures stands { result ≡ length (cut_window (span from until) (node_of windows.old i).window (ids_of (windows_of spares.old))) }
     ensures next { place_of windows.new (i + result) ≡ place_of windows.old (i + 1) }
+    ensures nodes { SameNodes windows.old spares.old windows.new spares.new }
 {
     let whole = windows.window(place, i);
     let left = Window {
@@ -204,13 +188,13 @@ fn cut_at(
         windows.set(place, i, left);
         if until < whole.until {
             let next = windows.next(place, i);
-            let node = spares.pop(alloc);
-            let id = node.window.id;
+            let id = spares.top().id;
+            let spare = spares.pop();
             windows.put(
                 i + 1,
                 place,
                 next,
-                node,
+                spare,
                 Window {
                     from: right.from,
                     until: right.until,
@@ -225,7 +209,7 @@ fn cut_at(
         windows.set(place, i, right);
         return 1;
     }
-    let node = windows.take(alloc, place, i);
-    spares.push(node);
+    let node = windows.take(place, i);
+    spares.push(node, whole);
     0
 }

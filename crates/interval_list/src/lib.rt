@@ -1,13 +1,16 @@
 //! A segment's free windows in a doubly linked list whose links lie in the nodes.
 #![tactic(auto)]
 
+mod blocks;
 mod chain;
 mod edits;
 mod iter;
 mod list;
+mod lone;
 mod loose;
 mod node;
 mod nodes;
+mod stock;
 mod window;
 
 pub use iter::{Windows, WindowsBack};

@@ -7,41 +7,41 @@ ghost use Rattle.interval_list.specs.Intervals.{Intervals, span, spans_of, owned
 use crate::chain::Chain;
 use crate::edits::{give_back, take_out};
 use crate::iter::{Windows, WindowsBack};
-use crate::node::{Node, Place};
+use crate::stock::Stock;
 use crate::{Ids, Window};
 use std::alloc::Global;
 use std::marker::Model;
-use std::ptr::null_mut;
 use taxi_base::{Memory, Time};
 
-/// Windows and spare nodes. It is seen as its windows in order and the ids of its spare nodes.
+/// Windows and spare nodes, and the stock that nodes are drawn from. It is seen as its windows in order and the ids of its
+/// spare nodes.
 pub struct IntervalList {
-    alloc: Global,
     windows: Chain,
     spares: Chain,
+    stock: Stock,
 }
 
 impl Model for IntervalList {
-    ghost use Rattle.std.specs.Prelude.{◌+◌, ◌^◌, ◌<◌, length};
-    ghost use Rattle.interval_list.specs.Cells.{windows_of};
+    ghost use Rattle.std.specs.Prelude.{◌+◌, ◌^◌, ◌<◌, ◌++◌, length};
+    ghost use Rattle.interval_list.specs.Blocks.{AreOut};
+    ghost use Rattle.interval_list.specs.Cells.{windows_of, places};
     ghost use Rattle.interval_list.specs.Intervals.{Intervals, ids_of, IsNormal};
 
     ghost Value = { Intervals };
 
     ghost view = { λ l. record { windows = windows_of l.windows; spare = ids_of (windows_of l.spares) } };
 
-    ghost invariant = { λ l. IsNormal (record { windows = windows_of l.windows; spare = ids_of (windows_of l.spares) }) × (length l.windows + length l.spares < 2 ^ 64) };
+    ghost invariant = { λ l. IsNormal (record { windows = windows_of l.windows; spare = ids_of (windows_of l.spares) }) × (length l.windows + length l.spares < 2 ^ 64) × AreOut (places l.windows ++ places l.spares) l.stock };
 }
 
 impl Drop for IntervalList {
     fn drop(self) {
         let IntervalList {
-            alloc,
             windows,
             spares,
+            stock,
         } = self;
-        windows.free(alloc);
-        spares.free(alloc);
+        stock.free(windows.into_nodes(), spares.into_nodes());
     }
 }
 
@@ -51,9 +51,9 @@ impl IntervalList {
         ensures { result ≡ record { windows = []; spare = [] } }
     {
         IntervalList {
-            alloc,
             windows: Chain::new(),
             spares: Chain::new(),
+            stock: Stock::new(alloc),
         }
     }
 
@@ -124,7 +124,7 @@ impl IntervalList {
         ensures ids { OwnsSame self.old self.new }
         ensures number { length self.new.windows + length self.new.spare ≡ length self.old.windows + length self.old.spare }
     {
-        take_out(&mut self.windows, &mut self.spares, self.alloc, from, until);
+        take_out(&mut self.windows, &mut self.spares, from, until);
     }
 
     /// Gives the seconds from `from` up to `until` back, in one window with those that they meet or touch.
@@ -139,7 +139,7 @@ impl IntervalList {
         ensures ids { OwnsSame self.old self.new }
         ensures number { length self.new.windows + length self.new.spare ≡ length self.old.windows + length self.old.spare }
     {
-        give_back(&mut self.windows, &mut self.spares, self.alloc, from, until);
+        give_back(&mut self.windows, &mut self.spares, from, until);
     }
 
     /// Makes one spare node, with the next id.
@@ -155,22 +155,14 @@ impl IntervalList {
         if self.windows.len() >= usize::MAX - self.spares.len() {
             return Err(Memory);
         }
+        let node = self.stock.draw()?;
         let window = Window {
             from: 0,
             until: 0,
             id: ids.next,
         };
-        let nowhere = Place { at: null_mut() };
-        let node = Box::new(
-            self.alloc,
-            Node {
-                next: nowhere,
-                prev: nowhere,
-                window,
-            },
-        )?;
         ids.next += 1;
-        self.spares.push(node);
+        self.spares.push(node, window);
         Ok(())
     }
 }

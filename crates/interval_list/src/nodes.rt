@@ -1,13 +1,12 @@
-//! The nodes of a chain, each in a block of its own, owned in the order of the chain.
+//! The nodes of a chain, owned in the order of the chain, without the right to free their blocks.
 //! A node is reached by its place and by the number of nodes before it, which only the proof needs.
-ghost use Rattle.std.specs.Prelude.{◌≡◌, List, []};
+ghost use Rattle.std.specs.Prelude.{◌≡◌, List, [], ◌++◌};
 ghost use Rattle.interval_list.specs.Cells.{Cell, IsAt, node_of, with_node};
 ghost use Rattle.interval_list.specs.Edits.{inserted, removed};
 ghost use Rattle.interval_list.specs.Ownership.{nodes_own, nodes_lent};
 
-use crate::loose::Loose;
+use crate::lone::LoneNode;
 use crate::node::{Node, Place};
-use std::alloc::Global;
 use std::marker::Model;
 
 pub(crate) struct Nodes {
@@ -20,7 +19,7 @@ impl Model for Nodes {
     ghost also_shares = { λ n _ κ. nodes_lent n.cells κ };
 }
 
-// Each node is taken out before, so nothing is left to free.
+// Each node is taken out before, so none is left whose block is never freed.
 impl Drop for Nodes {
     fn drop(self)
         requires { self.cells ≡ [] }
@@ -37,20 +36,20 @@ impl Nodes {
     }
 
     /// Takes the node in as number `i`.
-    pub(crate) fn put(&mut self, i: usize, node: Loose<Node, Global>) -> Place
-        ensures { self.new.cells ≡ inserted self.old.cells i (result.at, node.value) }
+    pub(crate) fn put(&mut self, i: usize, lone: LoneNode) -> Place
+        ensures { (self.new.cells ≡ inserted self.old.cells i (result.at, lone.node)) × (result.at ≡ lone.at) }
     {
-        let Loose { at, alloc: _ } = node;
+        let LoneNode { at } = lone;
         Place { at }
     }
 
     /// Gives node `i` back.
-    pub(crate) fn take(&mut self, alloc: Global, place: Place, i: usize) -> Loose<Node, Global>
+    pub(crate) fn take(&mut self, place: Place, i: usize) -> LoneNode
         requires { IsAt self.old.cells place.at i }
-        ensures { (result.value ≡ node_of self.old.cells i) × (self.new.cells ≡ removed self.old.cells i) }
+        ensures { (result.at ≡ place.at) × (self.new.cells ≡ removed self.old.cells i) }
     {
         let at = place.at;
-        Loose { at, alloc }
+        LoneNode { at }
     }
 
     pub(crate) fn node(&self, place: Place, i: usize) -> &Node
@@ -67,5 +66,12 @@ impl Nodes {
     {
         let at = place.at;
         unsafe { *at = node }
+    }
+
+    /// Takes all nodes of another chain in, before its own.
+    pub(crate) fn join(&mut self, others: Nodes)
+        ensures { self.new.cells ≡ others.cells ++ self.old.cells }
+    {
+        let Nodes {} = others;
     }
 }

@@ -9,6 +9,7 @@ use Rattle.interval_list.proofs.Beginnings.{merge-begins}
 use Rattle.interval_list.proofs.Edited.{item-map, length-windows_of}
 use Rattle.interval_list.proofs.Owning.{length-ids_of}
 use Rattle.interval_list.proofs.Progress.{merge-past, merge-join, merge-stops, merge-ends}
+use Rattle.interval_list.proofs.Handed.{same-refl, same-take, same-trans}
 use Rattle.interval_list.proofs.Spots.{place-taken, place-before, length-taken}
 use Rattle.interval_list.proofs.edits.clear.Goals as goal
 
@@ -21,6 +22,7 @@ loop-index-init c =
     let cells = c.args.windows.now in let start = c.first_beyond-start in (
       (start.ensures.inside, start.ensures.prev, start.ensures.place),
       refl,
+      same-refl cells c.args.spares.now,
       merge-begins (span c.args.from c.args.until) c.requires.some 0 (windows_of cells) (ids_of (windows_of c.args.spares.now)) start.result.index c.requires.apart c.requires.room
           (omega (arith, start.ensures.inside, length-windows_of cells)) (λ n e. (
           let at : start.result.index - 1 ≡ n = omega (arith, e) in
@@ -35,14 +37,14 @@ returns-then-until-window-clause-windows c =
     let now = c.loop-index in let cells = now.windows in let i = now.index in let ws₀ = windows_of c.args.windows.now in let ss₀ = ids_of (windows_of c.args.spares.now) in
     let within : i < length (windows_of cells) = omega (arith, c.loop-index-test.true, c.len.ensures, length-windows_of cells) in
     let stop = subst (λ (w : Window). now.until < w.from) (c.window-window.ensures ∙ sym (read cells i)) c.if-until-window.true in
-    (merge-stops ws₀ ss₀ (merged (span c.args.from c.args.until) ws₀ ss₀) (span now.from now.until) (windows_of cells) (ids_of (windows_of now.spares)) i now.invariant.2 within stop).0
+    (merge-stops ws₀ ss₀ (merged (span c.args.from c.args.until) ws₀ ss₀) (span now.from now.until) (windows_of cells) (ids_of (windows_of now.spares)) i now.invariant.3 within stop).0
 
 pub returns-then-until-window-clause-spares : goal.returns-then-until-window-clause-spares
 returns-then-until-window-clause-spares c =
     let now = c.loop-index in let cells = now.windows in let i = now.index in let ws₀ = windows_of c.args.windows.now in let ss₀ = ids_of (windows_of c.args.spares.now) in
     let within : i < length (windows_of cells) = omega (arith, c.loop-index-test.true, c.len.ensures, length-windows_of cells) in
     let stop = subst (λ (w : Window). now.until < w.from) (c.window-window.ensures ∙ sym (read cells i)) c.if-until-window.true in
-    (merge-stops ws₀ ss₀ (merged (span c.args.from c.args.until) ws₀ ss₀) (span now.from now.until) (windows_of cells) (ids_of (windows_of now.spares)) i now.invariant.2 within stop).1
+    (merge-stops ws₀ ss₀ (merged (span c.args.from c.args.until) ws₀ ss₀) (span now.from now.until) (windows_of cells) (ids_of (windows_of now.spares)) i now.invariant.3 within stop).1
 
 pub returns-then-until-window-clause-some : goal.returns-then-until-window-clause-some
 returns-then-until-window-clause-some c =
@@ -53,7 +55,7 @@ returns-then-until-window-clause-some c =
       arith,
       length-ids_of (windows_of now.spares),
       length-windows_of now.spares,
-      (merge-stops ws₀ ss₀ (merged (span c.args.from c.args.until) ws₀ ss₀) (span now.from now.until) (windows_of cells) (ids_of (windows_of now.spares)) i now.invariant.2 within stop).2,
+      (merge-stops ws₀ ss₀ (merged (span c.args.from c.args.until) ws₀ ss₀) (span now.from now.until) (windows_of cells) (ids_of (windows_of now.spares)) i now.invariant.3 within stop).2,
     )
 
 pub loop-index-preserved-then-window-from : goal.loop-index-preserved-then-window-from
@@ -66,7 +68,8 @@ loop-index-preserved-then-window-from c =
     let back : i + 1 - 1 ≡ i = omega arith in (
       (omega (arith, within, length-windows_of cells), (λ some. rw back (now.invariant.0.2 (omega (arith, within, length-windows_of cells)))), c.next-behind.ensures),
       now.invariant.1,
-      merge-past ws₀ ss₀ (merged (span c.args.from c.args.until) ws₀ ss₀) (span now.from now.until) (windows_of cells) (ids_of (windows_of now.spares)) i now.invariant.2 within near past,
+      now.invariant.2,
+      merge-past ws₀ ss₀ (merged (span c.args.from c.args.until) ws₀ ss₀) (span now.from now.until) (windows_of cells) (ids_of (windows_of now.spares)) i now.invariant.3 within near past,
     )
 
 pub loop-index-smaller : goal.loop-index-smaller
@@ -86,15 +89,17 @@ loop-index-preserved c =
     let left = c.take-joined.new.self in let ss = ids_of (windows_of now.spares) in
     let fewer = length-taken cells left i inside c.take-joined.ensures.places in
     let here = item no_window (windows_of cells) i in
-    let used : ids_of (windows_of c.push.new.self) ≡ here.id ∷ ss = ap ids_of c.push.ensures ∙ ap (λ (w : Window). w.id ∷ ss) (c.take-joined.ensures.window ∙ sym (read cells i)) in
+    let used : ids_of (windows_of c.push.new.self) ≡ here.id ∷ ss = ap ids_of c.push.ensures.windows ∙ ap (λ (w : Window). w.id ∷ ss) is in
     let hulls : span c.min-from.result c.max-until.result ≡ hull (span now.from now.until) (span_of here) = (λ k. span ((c.min-from.ensures ∙ ap (λ (w : Window). min now.from w.from) is) k) ((c.max-until.ensures ∙ ap (λ (w : Window). max now.until w.until) is) k)) in (
       (
         omega (arith, fewer, inside),
         (λ some. now.invariant.0.1 some ∙ sym (place-before cells left i (i - 1) (omega (arith, some)) c.take-joined.ensures.places)),
         (λ more. c.next-behind.ensures (omega (arith, fewer, more)) ∙ sym (place-taken cells left left i c.take-joined.ensures.places)),
       ),
-      omega (arith, now.invariant.1, fewer, ap length c.push.ensures, length-windows_of c.push.new.self, length-windows_of now.spares),
-      merge-join ws₀ ss₀ (merged (span c.args.from c.args.until) ws₀ ss₀) (span now.from now.until) (windows_of cells) ss i now.invariant.2
+      omega (arith, now.invariant.1, fewer, ap length c.push.ensures.windows, length-windows_of c.push.new.self, length-windows_of now.spares),
+      same-trans c.args.windows.now c.args.spares.now cells now.spares left c.push.new.self now.invariant.2
+          (same-take cells now.spares left c.push.new.self i now.next.at c.take-joined.result.at inside (now.invariant.0.2 inside) c.take-joined.ensures.place c.take-joined.ensures.places c.push.ensures.places),
+      merge-join ws₀ ss₀ (merged (span c.args.from c.args.until) ws₀ ss₀) (span now.from now.until) (windows_of cells) ss i now.invariant.3
           (span c.min-from.result c.max-until.result) (windows_of left) (ids_of (windows_of c.push.new.self)) within near low hulls c.take-joined.ensures.windows used,
     )
 
@@ -102,4 +107,10 @@ pub returns-clause-windows : goal.returns-clause-windows
 returns-clause-windows c =
     let now = c.loop-index in let cells = now.windows in let i = now.index in let ws₀ = windows_of c.args.windows.now in let ss₀ = ids_of (windows_of c.args.spares.now) in
     let past : i ≡ length (windows_of cells) = omega (arith, c.loop-index-test.false, c.len.ensures, length-windows_of cells, now.invariant.0.0) in
-    (merge-ends ws₀ ss₀ (merged (span c.args.from c.args.until) ws₀ ss₀) (span now.from now.until) (windows_of cells) (ids_of (windows_of now.spares)) i now.invariant.2 past).0
+    (merge-ends ws₀ ss₀ (merged (span c.args.from c.args.until) ws₀ ss₀) (span now.from now.until) (windows_of cells) (ids_of (windows_of now.spares)) i now.invariant.3 past).0
+
+pub returns-then-until-window-clause-nodes : goal.returns-then-until-window-clause-nodes
+returns-then-until-window-clause-nodes c = c.loop-index.invariant.2
+
+pub returns-clause-nodes : goal.returns-clause-nodes
+returns-clause-nodes c = c.loop-index.invariant.2

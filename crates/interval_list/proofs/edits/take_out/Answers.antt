@@ -9,6 +9,7 @@ use Rattle.interval_list.proofs.Beginnings.{cut-begins}
 use Rattle.interval_list.proofs.Edited.{item-map, length-windows_of}
 use Rattle.interval_list.proofs.Owning.{length-ids_of}
 use Rattle.interval_list.proofs.Progress.{cut-spare, cut-on, cut-stops, cut-lengths}
+use Rattle.interval_list.proofs.Handed.{same-refl, same-trans}
 use Rattle.interval_list.proofs.edits.take_out.Goals as goal
 
 -- the window at a place, among the windows
@@ -21,6 +22,7 @@ loop-i-init c =
       start.ensures.inside,
       start.ensures.place,
       refl,
+      same-refl cells c.args.spares.now,
       cut-begins (span c.args.from c.args.until) c.requires.some 0 (windows_of cells) (ids_of (windows_of c.args.spares.now)) start.result.index c.requires.apart c.requires.room
           (omega (arith, start.ensures.inside, length-windows_of cells)) (λ n e. (
           let at : start.result.index - 1 ≡ n = omega (arith, e) in
@@ -34,7 +36,7 @@ returns-then-until-window-clause-windows c =
     let within : i < length (windows_of cells) = omega (arith, c.loop-i-test.true, c.len.ensures, length-windows_of cells) in
     let past = subst (λ (w : Window). c.args.until ≤ w.from) (c.window-window.ensures ∙ sym (read cells i)) c.if-until-window.true in
     (cut-stops (span c.args.from c.args.until) (windows_of c.args.windows.now) (ids_of (windows_of c.args.spares.now)) (windows_of cells) (ids_of (windows_of c.loop-i.spares)) i
-    c.requires.some c.loop-i.invariant.3 within past).0
+    c.requires.some c.loop-i.invariant.4 within past).0
 
 pub returns-then-until-window-clause-spares : goal.returns-then-until-window-clause-spares
 returns-then-until-window-clause-spares c =
@@ -42,7 +44,13 @@ returns-then-until-window-clause-spares c =
     let within : i < length (windows_of cells) = omega (arith, c.loop-i-test.true, c.len.ensures, length-windows_of cells) in
     let past = subst (λ (w : Window). c.args.until ≤ w.from) (c.window-window.ensures ∙ sym (read cells i)) c.if-until-window.true in
     (cut-stops (span c.args.from c.args.until) (windows_of c.args.windows.now) (ids_of (windows_of c.args.spares.now)) (windows_of cells) (ids_of (windows_of c.loop-i.spares)) i
-    c.requires.some c.loop-i.invariant.3 within past).1
+    c.requires.some c.loop-i.invariant.4 within past).1
+
+pub returns-then-until-window-clause-nodes : goal.returns-then-until-window-clause-nodes
+returns-then-until-window-clause-nodes c = c.loop-i.invariant.3
+
+pub returns-clause-nodes : goal.returns-clause-nodes
+returns-clause-nodes c = c.loop-i.invariant.3
 
 pub cut_at-i-requires-clause-spare : goal.cut_at-i-requires-clause-spare
 cut_at-i-requires-clause-spare c =
@@ -53,7 +61,7 @@ cut_at-i-requires-clause-spare c =
       length-ids_of (windows_of spares),
       length-windows_of spares,
       cut-spare (span c.args.from c.args.until) (windows_of c.args.windows.now) (ids_of (windows_of c.args.spares.now)) (windows_of cells) (ids_of (windows_of spares)) i
-          c.requires.some c.loop-i.invariant.3 within l r,
+          c.requires.some c.loop-i.invariant.4 within l r,
     ))
 
 -- ---- what one step did
@@ -87,7 +95,7 @@ pub overflow_add-i : goal.overflow_add-i
 overflow_add-i c =
     let cells = c.loop-i.windows in let i = c.loop-i.i in
     let counts = cut-lengths (span c.args.from c.args.until) (windows_of c.args.windows.now) (ids_of (windows_of c.args.spares.now)) (windows_of cells) (spare c) i
-    c.requires.some c.loop-i.invariant.3 (windows_of c.cut_at-i.new.windows) (i + c.cut_at-i.result) (inside c) (wrote c) (stands c) in
+    c.requires.some c.loop-i.invariant.4 (windows_of c.cut_at-i.new.windows) (i + c.cut_at-i.result) (inside c) (wrote c) (stands c) in
     record {
       fits = omega (arith, counts.1, counts.2, stands c, c.loop-i.invariant.2, c.requires.small, length-windows_of cells, length-ids_of (windows_of c.loop-i.spares), length-windows_of c.loop-i.spares);
     }
@@ -96,7 +104,7 @@ pub loop-i-preserved : goal.loop-i-preserved
 loop-i-preserved c =
     let cells = c.loop-i.windows in let i = c.loop-i.i in let new = c.cut_at-i.new in let next = i + c.cut_at-i.result in
     let counts = cut-lengths (span c.args.from c.args.until) (windows_of c.args.windows.now) (ids_of (windows_of c.args.spares.now)) (windows_of cells) (spare c) i
-    c.requires.some c.loop-i.invariant.3 (windows_of new.windows) next (inside c) (wrote c) (stands c) in
+    c.requires.some c.loop-i.invariant.4 (windows_of new.windows) next (inside c) (wrote c) (stands c) in
     let was = length-windows_of cells in let is = length-windows_of new.windows in (
       omega (arith, counts.0, is),
       (λ more. c.next-next.ensures (omega (arith, more, counts.0, counts.1, was, is)) ∙ sym c.cut_at-i.ensures.next),
@@ -115,6 +123,7 @@ loop-i-preserved c =
         length-ids_of (windows_of new.spares),
         length-windows_of new.spares,
       ),
-      cut-on (span c.args.from c.args.until) (windows_of c.args.windows.now) (ids_of (windows_of c.args.spares.now)) (windows_of cells) (spare c) i c.requires.some c.loop-i.invariant.3
+      same-trans c.args.windows.now c.args.spares.now cells c.loop-i.spares new.windows new.spares c.loop-i.invariant.3 c.cut_at-i.ensures.nodes,
+      cut-on (span c.args.from c.args.until) (windows_of c.args.windows.now) (ids_of (windows_of c.args.spares.now)) (windows_of cells) (spare c) i c.requires.some c.loop-i.invariant.4
           (windows_of new.windows) (ids_of (windows_of new.spares)) next (inside c) (wrote c) (used c) (stands c),
     )

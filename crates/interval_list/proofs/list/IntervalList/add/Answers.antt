@@ -4,6 +4,7 @@ use Rattle.interval_list.specs.Intervals.{Intervals, span, ids_of, IsNormal}
 use Rattle.interval_list.specs.Steps.{merged, HasRoomToMerge}
 use Rattle.interval_list.proofs.Edited.{length-windows_of}
 use Rattle.interval_list.proofs.Owning.{length-ids_of}
+use Rattle.interval_list.proofs.Handed.{out-same}
 use Rattle.interval_list.proofs.Results.{IsGivenBack, given_back}
 use Rattle.interval_list.proofs.list.IntervalList.add.Goals as goal
 
@@ -36,6 +37,7 @@ invariant_of-self c =
         length-windows_of list.windows,
         length-windows_of list.spares,
       ),
+      out-same list.stock list.windows list.spares new.windows new.spares c.give_back.ensures.nodes c.self.invariant.2,
     )
 
 pub returns-clause-seconds : goal.returns-clause-seconds

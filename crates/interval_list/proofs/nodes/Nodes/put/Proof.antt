@@ -1,5 +1,5 @@
--- `put` takes what the pointer owns into the list. Assumes `Logic`.
-use Rattle.std.proofs.Common.{List, [], ◌∷◌, ◌++◌, refl, w64}
+-- `put` takes what the node owns into the list. Assumes `Logic`.
+use Rattle.std.proofs.Common.{List, [], ◌∷◌, ◌++◌, refl, sym, w64}
 use mir.Syntax.{Fn, named}
 use mir.Val.{Val, vptr, vint}
 use base.Logic.{SProp}
@@ -19,15 +19,10 @@ use denote.Steps.{nothing, opens, closes}
 use denote.Triple.Walked.{Stays, stay_dropped, stay_ref, walk_of, Goes-dropped, Goes-ref, says, ends_at}
 use Rattle.std.proofs.alloc.Calls.{Goes-blank}
 use Rattle.std.proofs.raw_atomic.Walks.{proved_at}
-use Rattle.std.specs.contracts.alloc.Global as global
-use Rattle.std.proofs.alloc.Global.TheLaws as global_laws
-use Rattle.std.specs.contracts.impls.GlobalAllocator.TheImpl.{ghosts}
-use Rattle.interval_list.proofs.LooseValues.{both, loose_good, loose_out}
 use Rattle.interval_list.proofs.Owned.{put_in}
-use Rattle.interval_list.proofs.Values.{N, L, word, place_made}
+use Rattle.interval_list.proofs.Values.{N, L, word, word_good, lone_had, place_made}
 use Rattle.interval_list.specs.Edits.{inserted}
 use Rattle.interval_list.specs.Ownership.{nodes_own}
-use Rattle.interval_list.specs.contracts.node.Node as node
 use Rattle.interval_list.specs.contracts.nodes.Nodes.put as f
 use Rattle.interval_list.proofs.nodes.Nodes.put.Statement.{statement}
 use Rattle.interval_list.proofs.nodes.Nodes.put.Code as code
@@ -45,18 +40,19 @@ put_spec 𝓤 𝓛 𝓜 𝓡 wired =
     let self = z.0.3.0 in let d = self.now in let b = self.ref_ptr.0 in let o = self.ref_ptr.1 in let i = z.0.3.1.0 in let v = z.0.3.1.1.0 in
     qed 𝓛 (((‵ (flft κ q) ⊛ ‵ ftrue) ⊛ ‵ (fsep ((MutRef (named 0) κ N).own_val self z.0.4.0) (fsep (usize.own_val i z.0.4.1.0) (fsep (L.own_val v z.0.4.1.1.0) ftrue)))) ∷ ‵ ftrue ∷ []) ∵
     split ! $ split ! $ move ! (2 ∷ []) $ fsplit3 ! $ fsplit3 ! $ feq_l ! (λ e. move ! (3 ∷ []) $ fsplit ! $
-    loose_out node.the_row global.the_row global_laws.the_row_laws ghosts ! v z.0.4.1.1.0 (λ lb lo h at ws fits.
+    lone_had ! v z.0.4.1.1.0 (λ lb lo at ws.
     regoal ! (λ (us : List Val). prop (WpFn 𝓤 H 𝓣.C 𝓣.Λ fn us Post)) (λ j. e j ++ (are.1.0.0 j ++ (ws j ++ []))) refl $
-    -- [the node; the handle; nothing; self, in two parts; the number; the token]
-    keep ! (0 ∷ 3 ∷ 4 ∷ 6 ∷ []) $
-    enter ! 𝓣.C 𝓣.Λ fn (vptr b o ∷ vint w64 i ∷ both (vptr lb lo) h ∷ []) Post $
-    alloc_all ! (λ l. pass_all ! refl ((tt, tt), ((tt, record { fits = are.1.0.1 }), (loose_good node.the_row global.the_row global_laws.the_row_laws ghosts lb lo h fits, tt))) $
+    -- [the node; nothing; self, in two parts; the number; the token]
+    keep ! (0 ∷ 2 ∷ 3 ∷ 5 ∷ []) $
+    let here : Ptr = block_ptr lb lo in
+    enter ! 𝓣.C 𝓣.Λ fn (vptr b o ∷ vint w64 i ∷ word here ∷ []) Post $
+    alloc_all ! (λ l. pass_all ! refl ((tt, tt), ((tt, record { fits = are.1.0.1 }), (word_good here, tt))) $
     sets ! (of_opd ! (get_in ! (fld ! refl (stop !)) (sub ! 0 refl (whole !)))) refl (tt, tt) $
     sets ! (agg ! (and_then ! (get ! refl) (no_more !))) refl (tt, (tt, tt)) $
     move ! (1 ∷ 2 ∷ 3 ∷ []) $ opens ! tt N b o (λ us. move ! (1 ∷ []) $ fsplit ! $ move ! (6 ∷ 1 ∷ []) $
-    let here : Ptr = block_ptr lb lo in let new : N.Denot = record { cells = inserted d.cells i (here, v.value) } in
-    use2 𝓛 (‵ (nodes_own (inserted d.cells i (here, v.value)))) (put_in 𝓛 d.cells i (here, v.value)) $ move ! (1 ∷ 0 ∷ []) $ fjoin ! $ move ! (1 ∷ []) $ closes ! tt N new us b o $
+    let new : N.Denot = record { cells = inserted d.cells i (here, v.node) } in
+    use2 𝓛 (‵ (nodes_own (inserted d.cells i (here, v.node)))) (put_in 𝓛 d.cells i (here, v.node)) $ move ! (1 ∷ 0 ∷ []) $ fjoin ! $ move ! (1 ∷ []) $ closes ! tt N new us b o $
     returns ! (look_at ! 0 refl) $ free_all ! refl $ keep ! (0 ∷ 1 ∷ 2 ∷ []) $
     feq_i ! (List Val) z.0.4.0 (vptr b o ∷ []) e $ fjoin3 ! $ nothing ! $ nothing ! $ fjoin ! $ nothing ! $ fjoin ! $ move ! (1 ∷ 0 ∷ []) $ fjoin ! $
-    suffices ! _ (ends_at 𝓛 f.ended stayed c z (word here) (record { at = here }) (new, (tt, (tt, tt))) (tt, (tt, (tt, tt)))) $ says ! refl $
+    suffices ! _ (ends_at 𝓛 f.ended stayed c z (word here) (record { at = here }) (new, (tt, (tt, tt))) (tt, (tt, (tt, tt)))) $ says ! (refl, sym at) $
     place_made ! here $ move ! (1 ∷ 0 ∷ []) $ join ! $ nothing ! $ move ! (2 ∷ 0 ∷ []) $ join ! $ join ! $ done !)))))

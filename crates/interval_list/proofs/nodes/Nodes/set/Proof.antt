@@ -2,9 +2,7 @@
 use Rattle.std.proofs.Common.{◌≡◌, ◌<◌, List, [], ◌∷◌, ◌++◌, length, refl, sym, ap, ◌∙◌, w64}
 use mir.Syntax.{Fn, named, impl, tnil, dnil}
 use mir.Val.{Val, vunit, vptr, vint}
-use base.Logic.{SProp, never, fst∗}
-use mir.Raw.{raw as bare}
-use types.Logic.{sem}
+use base.Logic.{SProp, id⊢}
 use base.Fraction.{full_share}
 use base.Fml.{ftrue, fsep, fat, flft}
 use contract.Monad.{fact}
@@ -16,8 +14,8 @@ use types.Run.{stop, fld, store, unit_lit, of_opd, assigns_last, first, blocks, 
 use types.ByLocal.{alloc_all, pass_all, free_all, look_at, get, get_in, through, sets, is, env}
 use denote.Builtin.{usize}
 use denote.Exit.{yes}
-use denote.Memory.{lone, part_at}
-use denote.RawPtr.{Ptr, null_ptr, ptr_val, in_a_block}
+use denote.Memory.{part_at}
+use denote.RawPtr.{Ptr, ptr_val, in_a_block}
 use denote.Ref.{MutRef}
 use denote.Signature.{plain}
 use denote.Steps.{nothing, heard, opens, closes}
@@ -27,12 +25,11 @@ use Rattle.std.proofs.alloc.Shapes.{after}
 use borrow.Table.OneValue.{part_out, part_in}
 use denote.Param.{layout}
 use Rattle.std.proofs.raw_atomic.Walks.{proved_at}
-use Rattle.std.specs.contracts.impls.GlobalAllocator.TheImpl.{ghosts}
 use Rattle.interval_list.proofs.Owned.{one, taken_out, set_in}
 use Rattle.interval_list.proofs.Values.{N, P, word, word_good, place_had}
 use Rattle.interval_list.specs.Cells.{Cell, place_of, node_of, with_node}
 use Rattle.interval_list.specs.Edits.{removed}
-use Rattle.interval_list.specs.Ownership.{heap, nodes_own}
+use Rattle.interval_list.specs.Ownership.{nodes_own}
 use Rattle.interval_list.specs.declared.node.Node.{Node}
 use Rattle.interval_list.specs.contracts.node.Node as node
 use Rattle.interval_list.proofs.node.Node.TheLaws as node_laws
@@ -67,14 +64,14 @@ set_spec 𝓤 𝓛 𝓜 𝓡 wired =
     move ! (1 ∷ 2 ∷ 3 ∷ []) $ opens ! tt N b o (λ us. move ! (1 ∷ []) $ fsplit ! $ move ! (1 ∷ []) $
     let old : Node = node_of d.cells i in let rest : List Cell = removed d.cells i in let new : N.Denot = record { cells = with_node d.cells i n } in
     use1 𝓛 (‵ (one (place_of d.cells i) old) ⊛ ‵ (nodes_own rest)) (taken_out 𝓛 d.cells i asked.0) $ split ! $
-    in_a_block ! (place_of d.cells i) (λ p. one p old) (fst∗ 𝓤 (never 𝓤) (sem 𝓛 (ghosts.dealloc_token heap (bare (lone node.the_row.mir)) null_ptr))) (λ nb no there. fsplit ! $
+    in_a_block ! (place_of d.cells i) (λ p. one p old) (id⊢ 𝓤 _) (λ nb no there.
     use1 𝓛 (some (λ (w : Val). ‵ (fat full_share (layout node.the_row) nb no w) ⊛ ‵ (node.the_row.own_val old (w ∷ [])))) (part_out 𝓛 node.the_row refl full_share old nb no) $ pick ! (λ w. split ! $
-    -- [the node's cell; what it owned; the right to free it; the others; the fields; the cell; the open borrow, in three entries; the new node]
+    -- [the node's cell; what it owned; the others; the fields; the cell; the open borrow, in three entries; the new node]
     sets ! (is ! (of_opd ! (get_in ! (fld ! refl (stop !)) (sub ! 0 refl (whole !)))) (ap ptr_val (asked.1 ∙ there))) refl (tt, tt) $
     first ! $ blocks ! $ assigns_last ! (of_opd ! (get ! refl)) (through ! refl (stop !)) (store ! 0 refl good) $
     exec ! 𝓣.C 𝓣.Λ (env fn.locals l) (after 2 fn.body) (at_ret _ Post) $ sets ! (of_opd ! (unit_lit !)) refl (tt, tt) $
-    move ! (0 ∷ 9 ∷ []) $ use2 𝓛 (‵ (part_at node.the_row full_share n nb no)) (part_in 𝓛 node.the_row refl full_share n nb no v) $
-    move ! (0 ∷ 2 ∷ []) $ fjoin ! $ rewrite ! 0 (λ (p : Ptr). ‵ (one p n)) (sym there) refl $
+    move ! (0 ∷ 8 ∷ []) $ use2 𝓛 (‵ (part_at node.the_row full_share n nb no)) (part_in 𝓛 node.the_row refl full_share n nb no v) $
+    rewrite ! 0 (λ (p : Ptr). ‵ (one p n)) (sym there) refl $
     move ! (0 ∷ 2 ∷ []) $ use2 𝓛 (‵ (nodes_own (with_node d.cells i n))) (set_in 𝓛 d.cells i n asked.0) $
     move ! (2 ∷ 0 ∷ []) $ fjoin ! $ move ! (2 ∷ 0 ∷ 3 ∷ 4 ∷ 5 ∷ []) $ closes ! tt N new us b o $
     returns ! (look_at ! 0 refl) $ free_all ! refl $ keep ! (0 ∷ 1 ∷ 2 ∷ []) $
