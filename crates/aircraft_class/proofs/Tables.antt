@@ -1,12 +1,12 @@
 -- The times and clearances of a table that is kept as a list of rows of any kind.
-use Rattle.std.proofs.Common.{◌≡◌, ℕ, ◌<◌, ◌≤◌, List, [], length, map, get_or, set, Option, Some, None, sym, ◌∙◌, ap, subst, inl, inr}
+use Rattle.std.proofs.Common.{◌≡◌, ℕ, ◌<◌, ◌≤◌, List, [], length, map, get_or, set, Option, Some, None, sym, ◌∙◌, ap, subst}
 use Rattle.std.specs.Prelude.{All, IfSome}
-use Rattle.std.proofs.lemmas.Bool.{cases_lt}
 use Rattle.std.proofs.lemmas.List.{get_or_past, get_or-map, map-set, length-set, length-map}
 use Rattle.std.proofs.lemmas.List.Elements.{All-nil, All-set}
 use Rattle.taxi_base.specs.declared.numbers.Class.{Class}
 use Rattle.taxi_base.specs.declared.numbers.Segment.{Segment}
 use Rattle.taxi_base.specs.Airport.{seconds_in}
+use Rattle.taxi_base.proofs.ListLaws.{All-at}
 use Rattle.aircraft_class.specs.Times.{Times, AreTimes, IsTime}
 
 -- the row that is kept at a place
@@ -24,11 +24,6 @@ unfolding seconds_in
 seconds_in-past f rows class segment past =
     let beyond : length (map f rows) ≤ class.0 = rw (length-map rows f) past in
     ap (λ r. get_or r segment.0 None) (get_or_past (map f rows) class.0 [] beyond)
-
--- what holds of each element and of the default holds at each index
-All-at : {X : Type 0} (P : X → Type 0) (xs : List X) (k : ℕ) (d : X) → P d → All P xs → P (get_or xs k d)
-All-at P xs k d default all =
-    elim (cases_lt k (length xs)) [ inl low ↦ all k d low | inr past ↦ subst P (sym (get_or_past xs k d past)) default ]
 
 abbrev IsPlace : Option ℕ → Type 0
 IsPlace place = IfSome place IsTime

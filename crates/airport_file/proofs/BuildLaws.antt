@@ -1,12 +1,14 @@
 -- A sound plan may be laid out segment by segment and turn by turn.
-use Rattle.std.proofs.Common.{◌≡◌, ℕ, ◌<◌, ◌≤◌, ◌+◌, ◌/◌, Bool, true, false, List, [], ◌∷◌, ◌++◌, length, map, take, get_or, Option, Some, None, refl, sym, ap, subst, arith, ◌∙◌}
-use Rattle.std.specs.Prelude.{◌&&◌, not, ◌==◌, is_some, option_map}
+use Rattle.std.proofs.Common.{◌≡◌, ℕ, ◌<◌, ◌≤◌, ◌+◌, ◌/◌, true, List, [], ◌∷◌, ◌++◌, length, map, take, get_or, refl, sym, ap, subst, arith, ◌∙◌}
+use Rattle.std.proofs.lemmas.Bool.{and_parts}
+use Rattle.std.specs.Prelude.{not, ◌==◌}
 use Rattle.std.proofs.lemmas.List.{take_more, length-map}
 use Rattle.std.proofs.Math.ListN.{get_or-map}
 use Rattle.std.proofs.lemmas.List.Sums.{sum_by-take-le}
 use Rattle.taxi_base.specs.declared.numbers.Node.{Node}
 use Rattle.taxi_base.specs.declared.numbers.Arc.{Arc}
-use Rattle.taxi_base.specs.Airport.{Link, Layout, Ends, ends, arc_exists, head, tail, meet, own_ends, link_ends}
+use Rattle.taxi_base.specs.Airport.{Link, Layout, ends, arc_exists, head, tail, meet, own_ends, link_ends}
+use Rattle.taxi_base.proofs.AirportLaws.{meet-exist}
 use Rattle.airport_rules.specs.declared.rows.Taxiway.{Taxiway}
 use Rattle.airport_rules.specs.Plan.{Plan}
 use Rattle.airport_rules.specs.Rules.{goes_on}
@@ -43,18 +45,9 @@ few-ways plan ways i s e low =
 
 -- ---- turns
 
-both_true : (a b : Bool) → (a && b) ≡ true → (a ≡ true) × (b ≡ true)
-both_true true b h = (refl, h)
-both_true false b h = absurd (cc h)
-
-exist-by : (x y : Option Ends) → meet (option_map (λ e. e.head) x) (option_map (λ e. e.tail) y) ≡ true → (is_some x ≡ true) × (is_some y ≡ true)
-exist-by (Some a) (Some b) h = (refl, refl)
-exist-by (Some a) None h = absurd (cc h)
-exist-by None y h = absurd (cc h)
-
 -- a turn that goes on is between two arcs that there are
 pub arcs-exist : (layout : Layout) (x y : Arc) → goes_on layout x y ≡ true → (arc_exists layout x ≡ true) × (arc_exists layout y ≡ true)
-arcs-exist layout x y h = exist-by (ends layout x) (ends layout y) ((both_true (meet (head layout x) (tail layout y)) (not (x.0 / 2 == y.0 / 2)) h).0)
+arcs-exist layout x y h = meet-exist (ends layout x) (ends layout y) ((and_parts (meet (head layout x) (tail layout y)) (not (x.0 / 2 == y.0 / 2)) h).0)
 
 -- arcs depend on the links alone
 pub arc_exists-links : (a b : Layout) (x : Arc) → a.links ≡ b.links → arc_exists a x ≡ arc_exists b x

@@ -1,7 +1,7 @@
 -- What is known of a graph's ends, turns and degrees holds with one more segment.
-use Rattle.std.proofs.Common.{◌≡◌, ℕ, ◌<◌, ◌≤◌, ◌+◌, ◌/◌, ◌%◌, zero, suc, Bool, true, false, List, [], ◌∷◌, ◌++◌, Option, Some, None, refl, subst, arith, ◌∙◌, inl, inr}
-use Rattle.std.specs.Prelude.{◌==◌, ◌&&◌, not, slice_get, option_map, option_and_then}
-use Rattle.std.proofs.lemmas.Bool.{cases_Bool, eqb-true}
+use Rattle.std.proofs.Common.{◌≡◌, ℕ, ◌≤◌, ◌/◌, ◌%◌, zero, suc, true, false, List, [], ◌∷◌, ◌++◌, Option, Some, None, refl, subst, arith, inl, inr}
+use Rattle.std.specs.Prelude.{◌==◌, not, slice_get, option_map, option_and_then}
+use Rattle.std.proofs.lemmas.Bool.{cases_Bool, eqb-true, and_parts}
 use Rattle.std.proofs.lemmas.Bool.Decides.{nat_tests}
 use Rattle.taxi_base.specs.declared.numbers.Node.{Node}
 use Rattle.taxi_base.specs.declared.numbers.Arc.{Arc}
@@ -29,10 +29,6 @@ ends-more links l a b arc e old new found = rw new (go (slice_get links (arc.0 /
     go (Some k) is h = rw (slice_get-more links l k (arc.0 / 2) is) h
     go None is h = absurd (cc h)
 
-pub both_true : (a b : Bool) → (a && b) ≡ true → (a ≡ true) × (b ≡ true)
-both_true true b h = (refl, h)
-both_true false b h = absurd (cc h)
-
 meet-more : (a b c d : Option Ends) → ((e : Ends) → a ≡ Some e → c ≡ Some e) → ((e : Ends) → b ≡ Some e → d ≡ Some e)
     → meet (option_map (λ e. e.head) a) (option_map (λ e. e.tail) b) ≡ true → meet (option_map (λ e. e.head) c) (option_map (λ e. e.tail) d) ≡ true
 meet-more (Some a) (Some b) c d f g h = rw (f a refl, g b refl) h
@@ -41,7 +37,7 @@ meet-more None b c d f g h = absurd (cc h)
 
 pub goes_on-more : (links : List Link) (l : Link) (a b : Layout) (x y : Arc) → a.links ≡ links → b.links ≡ links ++ l ∷ [] → goes_on a x y ≡ true → goes_on b x y ≡ true
 goes_on-more links l a b x y old new h =
-    let parts = both_true (meet (head a x) (tail a y)) (not (x.0 / 2 == y.0 / 2)) h in
+    let parts = and_parts (meet (head a x) (tail a y)) (not (x.0 / 2 == y.0 / 2)) h in
     let joined = meet-more (ends a x) (ends a y) (ends b x) (ends b y) (λ e. ends-more links l a b x e old new) (λ e. ends-more links l a b y e old new) parts.0 in
     rw (joined, parts.1) refl
 

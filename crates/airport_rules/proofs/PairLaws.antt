@@ -1,5 +1,6 @@
 -- Pairs of numbers in order, as a set keeps them, and the pairs of arcs that they are.
-use Rattle.std.proofs.Common.{◌≡◌, ◌<◌, ◌+◌, ◌*◌, ℕ, Bool, true, false, List, [], ◌∷◌, ◌++◌, map, refl, sym, ap, arith, ◌∙◌}
+use Rattle.std.proofs.Common.{◌≡◌, ◌<◌, ◌+◌, ◌*◌, ℕ, true, false, List, [], ◌∷◌, ◌++◌, map, refl, sym, ap, arith, ◌∙◌}
+use Rattle.std.proofs.lemmas.Bool.{or_parts}
 use Rattle.std.specs.Prelude.{◌==◌, ◌&&◌, ◌||◌, nat_lt, nat_eq}
 use Rattle.std.specs.List.{list_any}
 use Rattle.std.specs.Ordering.{is_eq, is_lt, match_ordering}
@@ -25,10 +26,6 @@ pub contains-arcs : (x y : ℕ) (keys : List (ℕ × ℕ)) → list_any (is_at (
 contains-arcs x y [] = refl
 contains-arcs x y (k ∷ keys) = rw (pair-equal x y k.0 k.1, contains-arcs x y keys) refl
 
-both_false : (a b : Bool) → (a || b) ≡ false → (a ≡ false) × (b ≡ false)
-both_false true b e = absurd (cc e)
-both_false false b e = (refl, e)
-
 insert-arcs_by : (x y : ℕ) (k : ℕ × ℕ) (keys : List (ℕ × ℕ)) (o : Ordering) → pair_cmp (x, y) k ≡ o → is_eq o ≡ false
     → map arcs_of_pair (insert_key pair_cmp keys (x, y)) ≡ with_pair (arcs_of_pair (x, y)) (map arcs_of_pair keys)
     → map arcs_of_pair (match_ordering o ((x, y) ∷ k ∷ keys) (k ∷ keys) (k ∷ insert_key pair_cmp keys (x, y))) ≡ with_pair (arcs_of_pair (x, y)) (arcs_of_pair k ∷ map arcs_of_pair keys)
@@ -44,7 +41,7 @@ pub insert-arcs : (x y : ℕ) (keys : List (ℕ × ℕ)) → is_forbidden (map a
     → map arcs_of_pair (insert_key pair_cmp keys (x, y)) ≡ with_pair (record { 0 = x }, record { 0 = y }) (map arcs_of_pair keys)
 insert-arcs x y [] none = refl
 insert-arcs x y (k ∷ keys) none =
-    let parts = both_false (k.0 == x && k.1 == y) (is_forbidden (map arcs_of_pair keys) (record { 0 = x }) (record { 0 = y })) none in
+    let parts = or_parts (k.0 == x && k.1 == y) (is_forbidden (map arcs_of_pair keys) (record { 0 = x }) (record { 0 = y })) none in
     insert-arcs_by x y k keys (pair_cmp (x, y) k) refl (pair-equal x y k.0 k.1 ∙ parts.0) (insert-arcs x y keys parts.1)
 
 -- two keys are equal where their segments and classes are

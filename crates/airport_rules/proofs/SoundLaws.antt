@@ -1,14 +1,13 @@
 -- The rules let only sound plans through.
-use Rattle.std.proofs.Common.{◌≡◌, ◌≢◌, ℕ, ◌<◌, ◌≤◌, ◌+◌, ◌/◌, ◌%◌, zero, suc, Bool, true, false, List, [], ◌∷◌, ◌++◌, length, length-append, Option, Some, None, Ok, Err, refl, ap, subst, arith, ◌∙◌, inl, inr, lit≤}
-use Rattle.std.specs.Prelude.{Result, All, AllPairs, IsTrue, ◌==◌, ◌&&◌, ◌||◌, not, nat_le, is_some, bytes_eq, codes, if◌then◌else◌}
+use Rattle.std.proofs.Common.{◌≡◌, ◌≢◌, ℕ, ◌<◌, ◌≤◌, ◌+◌, Bool, true, false, List, [], ◌∷◌, ◌++◌, length, length-append, Option, Some, None, Ok, Err, refl, ap, subst, arith, ◌∙◌, lit≤}
+use Rattle.std.specs.Prelude.{Result, All, AllPairs, IsTrue, ◌==◌, ◌&&◌, not, nat_le, is_some, bytes_eq, codes, if◌then◌else◌}
 use Rattle.std.specs.List.{list_all}
-use Rattle.std.proofs.lemmas.Bool.{cases_Bool, eqb-true}
+use Rattle.std.proofs.lemmas.Bool.{and_parts, or_parts}
 use Rattle.std.proofs.lemmas.Bool.Decides.{nat_tests}
 use Rattle.std.proofs.lemmas.List.Elements.{All-push, All-weaker, All-nil, All-cons, All-head, All-tail}
 use Rattle.std.proofs.lemmas.List.Kept.{AllPairs-cons}
 use Rattle.taxi_base.proofs.ListLaws.{AllPairs-first, AllPairs-rest}
 use Rattle.std.proofs.lemmas.List.Quantifiers.{all_pairs_push}
-use Rattle.taxi_base.specs.declared.numbers.Node.{Node}
 use Rattle.taxi_base.specs.declared.numbers.Segment.{Segment}
 use Rattle.taxi_base.specs.declared.numbers.Arc.{Arc}
 use Rattle.taxi_base.specs.Words.{is_name}
@@ -23,7 +22,7 @@ use Rattle.airport_rules.specs.Plan.{Plan, empty_plan, layout_of_plan}
 use Rattle.airport_rules.specs.Rules.{◌>>=◌, kind_of, both_of, refused, some_or, is_given, is_crowded, judge, judge_horizon, judge_node, judge_class, judge_link, judge_segment, judge_seconds, judge_clearance, judge_turn, judge_forbid, judge_members, judge_conflict, judge_horizon_row, judge_node_row, judge_class_row, judge_segment_row, judge_seconds_row, judge_clearance_row, judge_forbid_row, judge_conflict_row, members_of, repeats, number_within, within, is_timed, has_clearance, goes_on, with_pair, in_order}
 use Rattle.airport_rules.specs.declared.faults.AirportFault.TheVariants.{FieldCount}
 use Rattle.airport_rules.proofs.ConflictLaws.{order-in_order, length-in_order, All-in_order, members-of}
-use Rattle.airport_rules.proofs.LinkLaws.{both_true, goes_on-links, goes_on-more, degree-more}
+use Rattle.airport_rules.proofs.LinkLaws.{goes_on-links, goes_on-more, degree-more}
 use Rattle.airport_rules.proofs.AirportViews.{place-within}
 use Rattle.name_list.proofs.PlaceLaws.{not_found-differs}
 use Rattle.airport_rules.specs.Sound.{IsSound, IsSoundTime, IsSoundClearance}
@@ -258,10 +257,6 @@ IsSound-clearance plan new class number h e =
 
 -- ---- one more forbidden turn
 
-both_false : (a b : Bool) → (a || b) ≡ false → (a ≡ false) × (b ≡ false)
-both_false true b e = absurd (cc e)
-both_false false b e = (refl, e)
-
 length-with_pair_by : (b : Bool) (pair p : Arc × Arc) (pairs : List (Arc × Arc)) → length (with_pair pair pairs) ≡ length pairs + 1
     → length (if b then pair ∷ p ∷ pairs else p ∷ with_pair pair pairs) ≡ length (p ∷ pairs) + 1
 length-with_pair_by true pair p pairs e = omega arith
@@ -303,7 +298,7 @@ order-with_pair_by false pair p pairs e other order rest =
 order-with_pair : (pair : Arc × Arc) (pairs : List (Arc × Arc)) → is_forbidden pairs pair.0 pair.1 ≡ false → AllPairs Precedes pairs → AllPairs Precedes (with_pair pair pairs)
 order-with_pair pair [] none order = λ i j d low high. absurd (omega (arith, low, high))
 order-with_pair pair (p ∷ pairs) none order =
-    let parts = both_false (p.0.0 == pair.0.0 && p.1.0 == pair.1.0) (is_forbidden pairs pair.0 pair.1) none in
+    let parts = or_parts (p.0.0 == pair.0.0 && p.1.0 == pair.1.0) (is_forbidden pairs pair.0 pair.1) none in
     order-with_pair_by (pair_precedes pair p) pair p pairs refl parts.0 order (order-with_pair pair pairs parts.1 (AllPairs-rest Precedes p pairs order))
 
 not_false : (b : Bool) → not b ≡ false → b ≡ true
@@ -429,7 +424,7 @@ conflict-row : (plan new : Plan) (names : List (List ℕ)) → IsSound plan → 
 conflict-row plan new names h e = go (nat_le 2 (length names) && nat_le (length names) 16) refl e
   where
     go : (b : Bool) → (nat_le 2 (length names) && nat_le (length names) 16) ≡ b → (if b then judge_conflict plan names else Err FieldCount) ≡ Ok new → IsSound new
-    go true is f = let parts = both_true (nat_le 2 (length names)) (nat_le (length names) 16) is in IsSound-conflict plan new names h (grind (arith, nat_tests, parts.0)) (grind (arith, nat_tests, parts.1)) f
+    go true is f = let parts = and_parts (nat_le 2 (length names)) (nat_le (length names) 16) is in IsSound-conflict plan new names h (grind (arith, nat_tests, parts.0)) (grind (arith, nat_tests, parts.1)) f
     go false is f = absurd (cc f)
 
 either-row : (new : Plan) (b : Bool) (x y : Result Plan AirportFault) → (x ≡ Ok new → IsSound new) → (y ≡ Ok new → IsSound new) → (if b then x else y) ≡ Ok new → IsSound new

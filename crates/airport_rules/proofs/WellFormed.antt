@@ -1,6 +1,7 @@
 -- The airport of a sound plan keeps the rules of an airport.
-use Rattle.std.proofs.Common.{◌≡◌, ◌≢◌, ℕ, ◌<◌, ◌≤◌, ◌+◌, ◌/◌, Bool, true, false, List, [], ◌∷◌, length, map, replicate, get_or, set, Option, Some, None, refl, sym, ap, subst, arith, ◌∙◌, length-set}
-use Rattle.std.specs.Prelude.{All, IfSome, IsTrue, ◌==◌, ◌&&◌, not, fold, if◌then◌else◌}
+use Rattle.std.proofs.Common.{◌≡◌, ◌≢◌, ℕ, ◌<◌, ◌≤◌, ◌+◌, ◌/◌, true, List, [], ◌∷◌, length, map, replicate, get_or, set, Option, Some, None, refl, sym, ap, subst, arith, ◌∙◌, length-set}
+use Rattle.std.proofs.lemmas.Bool.{and_parts}
+use Rattle.std.specs.Prelude.{All, IfSome, IsTrue, ◌==◌, not, fold, if◌then◌else◌}
 use Rattle.std.proofs.lemmas.Bool.Decides.{nat_tests}
 use Rattle.std.proofs.lemmas.List.{length-replicate}
 use Rattle.std.proofs.lemmas.List.Elements.{All-weaker, All-nil, All-cons, All-head, All-tail, All-set, All-replicate}
@@ -68,10 +69,6 @@ short-clearances plan h =
 
 -- ---- the airport
 
-both_true : (a b : Bool) → (a && b) ≡ true → (a ≡ true) × (b ≡ true)
-both_true true b h = (refl, h)
-both_true false b h = absurd (cc h)
-
 apart : (a b : ℕ) → not (a == b) ≡ true → a ≢ b
 apart a b e same = absurd (grind (arith, nat_tests, e, same))
 
@@ -101,7 +98,7 @@ IsWellFormed-plan h plan given s =
       few_forbidden = s.few_forbidden;
       forbidden = subst (λ (l : Layout). All (λ (p : Arc × Arc). IsTrue (meet (head l p.0) (tail l p.1)) × (p.0.0 / 2 ≢ p.1.0 / 2)) plan.forbidden) (sym layout)
           (All-weaker (λ (p : Arc × Arc). IsTrue (goes_on (layout_of_plan plan) p.0 p.1)) (λ (p : Arc × Arc). IsTrue (meet (head (layout_of_plan plan) p.0) (tail (layout_of_plan plan) p.1)) × (p.0.0 / 2 ≢ p.1.0 / 2))
-          (λ p g. let parts = both_true (meet (head (layout_of_plan plan) p.0) (tail (layout_of_plan plan) p.1)) (not (p.0.0 / 2 == p.1.0 / 2)) g in (parts.0, apart (p.0.0 / 2) (p.1.0 / 2) parts.1)) plan.forbidden s.forbidden);
+          (λ p g. let parts = and_parts (meet (head (layout_of_plan plan) p.0) (tail (layout_of_plan plan) p.1)) (not (p.0.0 / 2 == p.1.0 / 2)) g in (parts.0, apart (p.0.0 / 2) (p.1.0 / 2) parts.1)) plan.forbidden s.forbidden);
       forbidden_order = s.forbidden_order;
       few_conflicts = s.few_conflicts;
       conflicts = subst (λ n. All (IsConflictSet n) plan.conflicts) (sym segments) s.conflicts;

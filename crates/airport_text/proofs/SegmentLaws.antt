@@ -7,7 +7,7 @@ use Rattle.taxi_base.specs.declared.numbers.Node.{Node}
 use Rattle.taxi_base.specs.declared.numbers.Segment.{Segment}
 use Rattle.taxi_base.specs.Airport.{Airport, SegmentRow, Layout, Ends, IsWellFormed, link_of, layout_of, ends, ends_of_link, arc_exists, head, tail, meet, segment_name, node_name, node_word}
 use Rattle.airport_text.specs.Canonical.{direction_word, segment_record}
-use Rattle.taxi_base.proofs.AirportLaws.{arc_exists-segment}
+use Rattle.taxi_base.proofs.AirportLaws.{arc_exists-segment, meet-exist}
 
 -- ---- the two arcs of a segment
 
@@ -44,11 +44,6 @@ forward-exists airport s low = elim (slice_get_cases airport.segments s).1 [
 
 -- ---- the arcs of a forbidden turn
 
-exist-by : (x y : Option Ends) → meet (option_map (λ e. e.head) x) (option_map (λ e. e.tail) y) ≡ true → (is_some x ≡ true) × (is_some y ≡ true)
-exist-by (Some a) (Some b) h = (refl, refl)
-exist-by (Some a) None h = absurd (cc h)
-exist-by None y h = absurd (cc h)
-
 pub turn-segments : (airport : Airport) (turns : List (Arc × Arc)) (i : ℕ) (d : Arc × Arc) → IsWellFormed airport → turns ≡ airport.forbidden → i < length turns
     → ((get_or turns i d).0.0 / 2 < length airport.segments) × ((get_or turns i d).1.0 / 2 < length airport.segments)
 turn-segments airport turns i d well same low =
@@ -56,7 +51,7 @@ turn-segments airport turns i d well same low =
     let rule : IsTrue (meet (head (layout_of airport) turn.0) (tail (layout_of airport) turn.1)) =
     subst (λ ts. IsTrue (meet (head (layout_of airport) (get_or ts i d).0) (tail (layout_of airport) (get_or ts i d).1))) (sym same)
     (well.forbidden i d (subst (λ ts. i < length ts) same low)).0 in
-    let exist = exist-by (ends (layout_of airport) turn.0) (ends (layout_of airport) turn.1) rule in
+    let exist = meet-exist (ends (layout_of airport) turn.0) (ends (layout_of airport) turn.1) rule in
     (arc_exists-segment airport turn.0 exist.0, arc_exists-segment airport turn.1 exist.1)
 
 -- ---- the words of a segment's row

@@ -7,7 +7,7 @@ use Rattle.std.proofs.lemmas.List.{get_or_append_left}
 use Rattle.std.proofs.lemmas.List.Elements.{All-head, All-tail}
 use Rattle.taxi_base.specs.declared.numbers.Arc.{Arc}
 use Rattle.taxi_base.specs.Airport.{Airport, Layout, Ends, ends, link_of, layout_of, segment_of, arc_of, meet, head, tail, pair_precedes, is_forbidden}
-use Rattle.taxi_base.proofs.AirportLaws.{arc_exists-segment}
+use Rattle.taxi_base.proofs.AirportLaws.{arc_exists-segment, meet-exist}
 use Rattle.taxi_text.specs.Fields.{arc_word_of}
 use Rattle.taxi_text.proofs.ArcWords.{arc_word-again}
 use Rattle.airport_file.specs.Words.{segment_word, word_of_arc}
@@ -54,11 +54,6 @@ goes_on-links : (a b : Layout) (x y : Arc) → a.links ≡ b.links → goes_on a
 unfolding ends
 goes_on-links a b x y e = rw e refl
 
-exist-by : (x y : Option Ends) → meet (option_map (λ e. e.head) x) (option_map (λ e. e.tail) y) ≡ true → (is_some x ≡ true) × (is_some y ≡ true)
-exist-by (Some a) (Some b) h = (refl, refl)
-exist-by (Some a) None h = absurd (cc h)
-exist-by None y h = absurd (cc h)
-
 -- an arc by its segment and its direction
 arc-again : (arc : Arc) → arc_of (segment_of arc) (arc.0 % 2 == 0) ≡ arc
 arc-again arc = ap (λ n. record { 0 = n }) (go (arc.0 % 2 == 0) refl)
@@ -96,7 +91,7 @@ turn-taken : (airport : Airport) (plan : Plan) (turn : Arc × Arc) → IsNamed a
     → judge Two plan (forbid_record airport turn) ≡ Ok (with_forbidden plan (plan.forbidden ++ turn ∷ []))
 unfolding judge
 turn-taken airport plan turn named links is above room =
-    let there = exist-by (ends (layout_of airport) turn.0) (ends (layout_of airport) turn.1) is.meets in
+    let there = meet-exist (ends (layout_of airport) turn.0) (ends (layout_of airport) turn.1) is.meets in
     let first : IsFound (segment_word airport (segment_of turn.0)) plan.segments (segment_of turn.0).0 =
     segment-found airport plan (segment_of turn.0) named (arc_exists-segment airport turn.0 there.0) in
     let second : IsFound (segment_word airport (segment_of turn.1)) plan.segments (segment_of turn.1).0 =

@@ -25,6 +25,7 @@ use Rattle.taxi_base.proofs.ReportLaws.{AreHeldRows-same}
 use Rattle.taxi_base.proofs.LabelLaws.{HasOneFirstStep, HasOneFirstStep-leaves, HasOneFirstStep-resumes, IsPickedArrival-same, IsPickedDeparture-same, IsTable-same}
 use Rattle.taxi_base.specs.declared.answers.Chosen.{Chosen}
 use Rattle.taxi_base.proofs.ChoiceLaws.{AreNodes, AnswersArrivalChoice-same, AnswersDepartureChoice-same}
+use Rattle.taxi_base.proofs.AnswerLaws.{AnswersArrival-same, AnswersDeparture-same}
 use Rattle.taxi_text.specs.declared.command.Command.{Command}
 use Rattle.taxi_text.specs.declared.command.Command.TheVariants as command
 use Rattle.taxi_text.specs.Commands.{command_of}
@@ -40,30 +41,6 @@ one-some : {X : Type 0} (o : Option X) (x y : X) → o ≡ Some x → o ≡ Some
 one-some o x y a b = same x y (sym a ∙ b) where
   same : {X : Type 0} (x y : X) → ◌≡◌ {A = Option X} (Some x) (Some y) → x ≡ y
   same x y e = cc
-
--- ---- what a search finds is one answer
-
-AnswersArrival-same : (c : Conditions) (Begins : Step → Type 0) (to : Node) → HasOneFirstStep c Begins → (f g : Found)
-    → AnswersArrival c Begins to f → AnswersArrival c Begins to g → f ≡ g
-AnswersArrival-same c Begins to one (found.Route steps labels) (found.Route others rows) a b =
-    let same : steps ≡ others = IsPickedArrival-same c Begins to one steps others a.1 b.1 in
-    let tables : labels ≡ rows =
-    IsTable-same (IsExitBefore c Begins (Some (end_of steps))) labels rows a.2 (subst (λ s. IsTable (IsExitBefore c Begins (Some (end_of s))) rows) (sym same) b.2) in
-    λ i. found.Route (same i) (tables i)
-AnswersArrival-same c Begins to one (found.Route steps labels) (found.NoRoute rows) a b = absurd (b.0 steps a.0.one)
-AnswersArrival-same c Begins to one (found.NoRoute labels) (found.Route others rows) a b = absurd (a.0 others b.0.one)
-AnswersArrival-same c Begins to one (found.NoRoute labels) (found.NoRoute rows) a b = ap found.NoRoute (IsTable-same (IsExitBefore c Begins None) labels rows a.1 b.1)
-
-AnswersDeparture-same : (c : Conditions) (from : Node) (Ends : Step → Type 0) (f g : Found)
-    → AnswersDeparture c from Ends f → AnswersDeparture c from Ends g → f ≡ g
-AnswersDeparture-same c from Ends (found.Route steps labels) (found.Route others rows) a b =
-    let same : steps ≡ others = IsPickedDeparture-same c Ends from steps others a.1 b.1 in
-    let tables : labels ≡ rows =
-    IsTable-same (IsEntryAfter c Ends (Some (begin_of steps))) labels rows a.2 (subst (λ s. IsTable (IsEntryAfter c Ends (Some (begin_of s))) rows) (sym same) b.2) in
-    λ i. found.Route (same i) (tables i)
-AnswersDeparture-same c from Ends (found.Route steps labels) (found.NoRoute rows) a b = absurd (b.0 steps a.0.one)
-AnswersDeparture-same c from Ends (found.NoRoute labels) (found.Route others rows) a b = absurd (a.0 others b.0.one)
-AnswersDeparture-same c from Ends (found.NoRoute labels) (found.NoRoute rows) a b = ap found.NoRoute (IsTable-same (IsEntryAfter c Ends None) labels rows a.1 b.1)
 
 -- no second from the horizon on is free
 free_among-past : (airport : Airport) (holds : List Hold) (s : Segment) (t : ℕ) → airport.horizon ≤ t → IsFalse (free_among airport holds s t)

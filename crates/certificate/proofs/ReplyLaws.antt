@@ -283,19 +283,3 @@ reply-is_there airport state line = go (command_of line) refl where
     by_due (Some (command.WorkDone name)) e needs =
         let due = work_done-due airport state name in
         (due.0, as_due due.0.block due.0.after (due-command airport state line (command.WorkDone name) due.0.block due.0.after e due.1))
-
--- a line that ends in a list is none that needs no memory
-pub EndsInList-memory : (c : Command) → EndsInList c → NeedsNoMemory (Some c) → ⊥
-EndsInList-memory (command.File flight class start steps) file needs = needs
-EndsInList-memory (command.Arrival flight class from to time hold) file needs = file
-EndsInList-memory (command.Departure flight class from to time queue) file needs = file
-EndsInList-memory (command.Cancel flight) file needs = file
-EndsInList-memory (command.Reroute flight time) file needs = file
-EndsInList-memory (command.Divert flight time node) file needs = file
-EndsInList-memory (command.Windows segment) file needs = file
-EndsInList-memory (command.Occupancy segment) file needs = file
-EndsInList-memory command.Timetable file needs = file
-EndsInList-memory (command.Work name segment from until) file needs = file
-EndsInList-memory (command.WorkDone name) file needs = file
-EndsInList-memory (command.ArrivalAny flight class from time hold stands) file needs = needs
-EndsInList-memory (command.DepartureAny flight class from time queue nodes) file needs = needs

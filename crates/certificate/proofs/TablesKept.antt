@@ -21,11 +21,12 @@ use Rattle.walk_labels.specs.Rules.{IsStartBy, PassesForward, PassesArrival}
 use Rattle.walk_labels.specs.BackwardRules.{IsFinishAt, PassesBackward}
 use Rattle.walk_labels.proofs.CheckedArrivals.{begun_table_passes, begun_answer_passes, begun_none_sooner, begun_none_at_all, resumed_none_sooner, resumed_none_at_all}
 use Rattle.walk_labels.proofs.CheckedDepartures.{ended_table_passes, node_answer_passes, ended_none_later, ended_none_at_all}
-use Rattle.walk_labels.proofs.FrozenWalks.{end_of-after, step_begun_made, begun_leaves}
+use Rattle.walk_labels.proofs.FrozenWalks.{step_begun_made, begun_leaves}
 use Rattle.taxi_base.specs.declared.answers.Chosen.{Chosen}
 use Rattle.taxi_base.specs.declared.answers.Chosen.TheVariants as chosen
 use Rattle.taxi_base.specs.Choices.{AnswersArrivalChoice, AnswersDepartureChoice}
 use Rattle.taxi_base.proofs.ChoiceLaws.{chosen-earliest, chosen-latest}
+use Rattle.taxi_base.proofs.AgainLaws.{end_of-back}
 use Rattle.certificate.specs.Asked.{AnswersRequest, Choice, arrival_any, departure_any, nodes_of, request_for, AnswersChoice}
 use Rattle.certificate.specs.CarriedOut.{second_of}
 use Rattle.certificate.specs.Sought.{UnderWay, Search, onward, backward, search_of, MeetsOneOf, IsWalkOnFor}
@@ -145,7 +146,7 @@ module _ (c : Conditions) (fit : AreFit c) where
               → KeepsTable c (onward (resuming begun time) (target ∷ [])) (bound_of (request.Arrival from target asked hold) (after_steps (steps_done time old) rest)) (labels_of (after_steps (steps_done time old) rest))
           go (found.Route [] labels) answers passes = absurd answers.0.one.walk
           go (found.Route (t ∷ steps) labels) answers passes =
-              subst (λ n. KeepsTable c (onward (resuming begun time) (target ∷ [])) (Some n) labels) (sym (end_of-after (steps_done time old) t steps))
+              subst (λ n. KeepsTable c (onward (resuming begun time) (target ∷ [])) (Some n) labels) (sym (end_of-back (steps_done time old) t steps))
               (from_forward c (resuming begun time) (target ∷ []) (Some (end_of (t ∷ steps))) labels passes)
           go (found.NoRoute labels) answers passes = from_forward c (resuming begun time) (target ∷ []) None labels passes
 

@@ -11,6 +11,7 @@ use Rattle.taxi_base.specs.Walks.{Conditions}
 use Rattle.walk_labels.specs.Rules.{IsStartAtNode}
 use Rattle.walk_labels.specs.BackwardRules.{IsFinishAt}
 use Rattle.taxi_base.proofs.OneOfLaws.{OneOf-found, OneOf-member}
+use Rattle.taxi_base.proofs.AirportLaws.{permits-exist}
 use Rattle.segment_graph.specs.Graphs.{AreLeaving, AreEntering}
 use Rattle.check_rows.specs.declared.reach.Way.{Way}
 use Rattle.check_rows.specs.declared.reach.Way.TheVariants.{Forward, Backward}
@@ -20,15 +21,6 @@ use Rattle.check_rows.specs.Reached.{IsReachedBy, IsReachedAt, reach_of, AreNeig
 use Rattle.check_rows.proofs.EachLaws.{each-by_parts}
 
 -- ---- arcs of a turn
-
-meet-both : (x y : Option Ends) → IsTrue (meet (option_map (λ e. e.head) x) (option_map (λ e. e.tail) y)) → IsTrue (is_some x) × IsTrue (is_some y)
-meet-both (Some a) (Some b) h = (refl, refl)
-meet-both (Some a) None h = absurd (cc h)
-meet-both None y h = absurd (cc h)
-
-permits-exist : (layout : Layout) (x y : Arc) → IsTrue (permits layout x y) → IsTrue (arc_exists layout x) × IsTrue (arc_exists layout y)
-unfolding permits
-permits-exist layout x y h = meet-both (ends layout x) (ends layout y) (and_parts _ _ (and_parts _ _ h).0).0
 
 listed : {Has : Arc → Type 0} (arcs : List Arc) → AreAll (λ a. a.0) Has arcs → (k : ℕ) (d : Arc) → k < length arcs → Has (get_or arcs k d)
 listed arcs all k d on = (all.each (get_or arcs k d)).0 (k, on, get_or_default arcs k (get_or arcs k d) d on)

@@ -15,6 +15,7 @@ use Rattle.taxi_base.specs.Airport.{Airport, Layout, layout_of, link_of, segment
 use Rattle.taxi_base.specs.Windows.{Hold, span_has, blocks, is_free, AreWindows}
 use Rattle.taxi_base.specs.Walks.{free_among}
 use Rattle.taxi_base.proofs.ListLaws.{Contains-first, list_any-true, list_any-member}
+use Rattle.taxi_base.proofs.HoldLaws.{conflict-turned}
 use Rattle.conflict_sets.specs.Conflicts.{AreConflicts}
 use Rattle.check_rows.specs.declared.known.KnownWindows.{KnownWindows}
 use Rattle.check_rows.specs.declared.known.SegmentWindows.{SegmentWindows}
@@ -92,45 +93,6 @@ known-on known s h = let found = known-list known s h in slice_get_within known.
 
 -- ---- some are forgotten
 
-pub AreLeft-none : (lists : List SegmentWindows) → AreLeft [] lists lists
-AreLeft-none lists = record { count = refl; each = λ s list is made. (is, λ on. omega (arith, on.1)) }
-
--- one more segment's list is unmade, or there is no such list
-pub AreLeft-unmade : (segments : List Segment) (i : ℕ) (d : Segment) (old now : List SegmentWindows) (list : SegmentWindows) → i < length segments → (get_or segments i d).0 < length now → IsFalse list.is_made
-    → AreLeft (take i segments) old now → AreLeft (take (i + 1) segments) old (set now (get_or segments i d).0 list)
-AreLeft-unmade segments i d old now list on there unmade are = record {
-  count = length-set now (get_or segments i d).0 list ∙ are.count;
-  each = λ s found is made. elim (set-cases now (get_or segments i d).0 s.0 found list there is) [
-    | inl same ↦ absurd (both_ways found.is_made (subst (λ (l : SegmentWindows). IsFalse l.is_made) same.1 unmade) made)
-    | inr before ↦ (let was = are.each s found before made in (
-      was.0,
-      λ h. elim (Contains-push_cases (take i segments) (get_or segments i d) s (subst (λ (l : List Segment). Contains l s) (take_more segments i d on) h)) [
-        | inl earlier ↦ was.1 earlier
-        | inr e ↦ again s found e is made
-      ],
-    ))
-  ];
-}
-  where
-    again : (s : Segment) (found : SegmentWindows) → get_or segments i d ≡ s → slice_get (set now (get_or segments i d).0 list) s.0 ≡ Some found → IsTrue found.is_made → ⊥
-    again s found e is made =
-        let at = subst (λ (n : ℕ). slice_get (set now (get_or segments i d).0 list) n ≡ Some found) (ap (λ (q : Segment). q.0) (sym e)) is in
-        let is_list : list ≡ found = sym (get_or-set_same now (get_or segments i d).0 list list there) ∙ (get-at (set now (get_or segments i d).0 list) (get_or segments i d).0 found list at).1 in
-        both_ways found.is_made (subst (λ (l : SegmentWindows). IsFalse l.is_made) is_list unmade) made
-
-pub AreLeft-past : (segments : List Segment) (i : ℕ) (d : Segment) (old now : List SegmentWindows) → i < length segments → length now ≤ (get_or segments i d).0
-    → AreLeft (take i segments) old now → AreLeft (take (i + 1) segments) old now
-AreLeft-past segments i d old now on past are = record {
-  count = are.count;
-  each = λ s found is made. (let was = are.each s found is made in (
-    was.0,
-    λ h. elim (Contains-push_cases (take i segments) (get_or segments i d) s (subst (λ (l : List Segment). Contains l s) (take_more segments i d on) h)) [
-      | inl earlier ↦ was.1 earlier
-      | inr e ↦ omega (arith, slice_get_within now s.0 found is, ap (λ (q : Segment). q.0) e)
-    ],
-  ));
-}
-
 pub AreStill-none : (sets : List (List Segment)) (lists : List SegmentWindows) → AreStill sets [] lists lists
 AreStill-none sets lists = record { count = refl; each = λ s list is made. (is, λ k d on. absurd (omega arith)) }
 
@@ -151,18 +113,6 @@ AreStill-more sets steps i d old now new segments on all are left = record {
 
 -- ---- windows of segments away from where the holds change
 
-pub conflict-other_way : (sets : List (List Segment)) (s r : Segment) → IsTrue (conflict sets s r) → IsTrue (conflict sets r s)
-unfolding conflict
-conflict-other_way sets s r h =
-    elim (or_cases (eqb s.0 r.0) (list_any (λ set. has_member set s && has_member set r) sets) h) [
-      | inl same ↦ or_left (eqb r.0 s.0) (list_any (λ set. has_member set r && has_member set s) sets) (eq-eqb r.0 s.0 (sym (eqb-true s.0 r.0 same)))
-      | inr some ↦
-          let found = list_any-true (λ set. has_member set s && has_member set r) sets some in
-          let parts = and_parts (has_member found.0 s) (has_member found.0 r) found.2 in
-          or_right (eqb r.0 s.0) (list_any (λ set. has_member set r && has_member set s) sets)
-          (list_any-member (λ set. has_member set r && has_member set s) sets found.0 found.1 (and_from (has_member found.0 r) (has_member found.0 s) parts.1 parts.0))
-    ]
-
 module _ (sets : List (List Segment)) (steps : List Step) (s : Segment) (away : All (λ step. IsFalse (conflict sets (segment_of step.arc) s)) steps) where
   -- a segment in conflict is none of the steps'
   none_of_steps : (r : Segment) → IsTrue (conflict sets s r) → Contains (map (λ step. segment_of step.arc) steps) r → ⊥
@@ -171,7 +121,7 @@ module _ (sets : List (List Segment)) (steps : List Step) (s : Segment) (away : 
       let in_steps : at < length steps = omega (arith, on.1, length-map steps (λ (step : Step). segment_of step.arc)) in
       let step : Step = get_or steps at no_step in
       let is : segment_of step.arc ≡ r = sym (get_or-map (λ (step : Step). segment_of step.arc) steps at no_step (segment_of no_step.arc) in_steps) ∙ get_or_default (map (λ (step : Step). segment_of step.arc) steps) at (segment_of no_step.arc) r on.1 ∙ on.2 in
-      both_ways (conflict sets (segment_of step.arc) s) (away at no_step in_steps) (subst (λ (q : Segment). IsTrue (conflict sets q s)) (sym is) (conflict-other_way sets s r h))
+      both_ways (conflict sets (segment_of step.arc) s) (away at no_step in_steps) (subst (λ (q : Segment). IsTrue (conflict sets q s)) (sym is) (conflict-turned sets s r h))
     where
       no_step : Step
       no_step = record { arc = record { 0 = 0 }; enter = 0; leave = 0 }

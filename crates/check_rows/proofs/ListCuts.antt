@@ -13,6 +13,7 @@ use Rattle.taxi_base.specs.declared.rows.Span.{Span}
 use Rattle.taxi_base.specs.Airport.{Airport, conflict}
 use Rattle.taxi_base.specs.Windows.{Hold, span_has, covers, blocks}
 use Rattle.taxi_base.specs.Walks.{free_among}
+use Rattle.taxi_base.proofs.HoldLaws.{conflict-turned}
 use Rattle.conflict_sets.specs.Conflicts.{AreConflicts}
 use Rattle.held_spans.specs.Holds.{held_at}
 use Rattle.check_rows.specs.declared.known.KnownWindows.{KnownWindows}
@@ -20,7 +21,7 @@ use Rattle.check_rows.specs.declared.known.SegmentWindows.{SegmentWindows}
 use Rattle.check_rows.specs.Known.{AreKnown}
 use Rattle.segment_windows.specs.Cuts.{AreCut}
 use Rattle.check_rows.specs.Cuts.{IsApart, IsListCut, is_among, AreListsCut}
-use Rattle.check_rows.proofs.KnownLaws.{get-at, set-cases, conflict-other_way, still-known, AreStill-none}
+use Rattle.check_rows.proofs.KnownLaws.{get-at, set-cases, still-known, AreStill-none}
 
 -- ---- list by list
 
@@ -132,8 +133,8 @@ module _ (airport : Airport) (segment : Segment) (span : Span) (segments : List 
       (λ yes.
       let row = list_any-true (λ (r : Segment). eqb r.0 s.0) segments yes in
       let same : row.0 ≡ s = ap (λ n. record { 0 = n }) (eqb-true row.0.0 s.0 row.2) in
-      conflict-other_way airport.conflicts segment s (subst (λ (r : Segment). IsTrue (conflict airport.conflicts segment r)) same ((all.each row.0).0 row.1)))
-      (λ yes. list_any-member (λ (r : Segment). eqb r.0 s.0) segments s ((all.each s).1 (conflict-other_way airport.conflicts s segment yes)) (eq-eqb s.0 s.0 refl))
+      conflict-turned airport.conflicts segment s (subst (λ (r : Segment). IsTrue (conflict airport.conflicts segment r)) same ((all.each row.0).0 row.1)))
+      (λ yes. list_any-member (λ (r : Segment). eqb r.0 s.0) segments s ((all.each s).1 (conflict-turned airport.conflicts s segment yes)) (eq-eqb s.0 s.0 refl))
 
   with_hold : (a b x k : Bool) → ((a && (b && not x)) && not k) ≡ (a && (b && not (x || (k || false))))
   with_hold true true true true = refl

@@ -213,9 +213,6 @@ module _ (lists : List StepList) (k : ℕ) (low : k < length lists) where
 
 -- ---- room gained step by step
 
-pub gains-none : (lists : List StepList) → GainsHoldRoom lists lists
-gains-none lists = record { lists = refl; steps = refl; capacity = λ s. omega arith }
-
 pub gains-more : (old now new : List StepList) → GainsHoldRoom old now → GainsHoldRoom now new → GainsHoldRoom old new
 gains-more old now new first second = record {
   lists = second.lists ∙ first.lists;

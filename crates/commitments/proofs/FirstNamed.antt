@@ -1,9 +1,8 @@
 -- The first name of the holders of steps that pass a test: in two lists, in all where it is known of those since a second, and in all
 -- where it is known of the lists of the segments in conflict.
 use Rattle.std.proofs.Common.{◌≡◌, ℕ, ◌+◌, ◌<◌, ◌≤◌, Bool, List, [], ◌∷◌, ◌++◌, length, get_or, take, drop, IsTrue, IsFalse, Option, Some, None, refl, sym, ap, ◌∙◌, inl, inr, subst, arith, ◌⊎◌}
-use Rattle.std.specs.Prelude.{All, flat_map, bytes_eq}
-use Rattle.std.specs.Cmp.Lexicographic.{bytes_decides}
-use Rattle.std.proofs.lemmas.Bool.{cases_Bool, and_parts, and_from, both_ways, false_from_ne_true}
+use Rattle.std.specs.Prelude.{All, flat_map}
+use Rattle.std.proofs.lemmas.Bool.{and_parts, and_from, both_ways, false_from_ne_true}
 use Rattle.std.proofs.lemmas.List.{append-nil, take-append-drop, take_more, get_or-drop, get_or_default, length-drop}
 use Rattle.std.proofs.lemmas.List.Elements.{All-contains, All-cons, All-nil, Contains-append_cases, Contains-append_left, Contains-append_right}
 use Rattle.std.proofs.lemmas.List.Concat.{flat_map-append}
@@ -13,8 +12,9 @@ use Rattle.taxi_base.specs.Windows.{span_has}
 use Rattle.taxi_base.specs.State.{name_precedes}
 use Rattle.taxi_base.specs.Faults.{first_name}
 use Rattle.taxi_base.proofs.ListLaws.{Contains-first, Contains-cons_cases, Contains-flat_map, flat_map-Contains}
-use Rattle.taxi_base.proofs.NameLaws.{name_precedes-trans, name_precedes-turned, name_precedes-one_way, name_precedes-not_itself}
+use Rattle.taxi_base.proofs.NameLaws.{name_precedes-not_itself}
 use Rattle.taxi_base.proofs.WindowLaws.{span_has-true}
+use Rattle.taxi_base.proofs.HolderLaws.{IsFirstOf-same, first_name-first}
 use Rattle.conflict_sets.specs.Conflicts.{AreConflicts}
 use Rattle.commitments.specs.declared.segment_holds.HeldStep.{HeldStep}
 use Rattle.commitments.specs.Held.{StepList, list_of, all_steps, hold_by, AreBySegment, AreSince}
@@ -22,23 +22,9 @@ use Rattle.commitments.specs.Taken.{has_second, takes, IsNamed, IsFirstNamed}
 use Rattle.commitments.proofs.Conflicts.{in_list, in_its_list}
 use Rattle.commitments.proofs.OneSegment.{clearance-short}
 
--- of two names, neither of which has one of the kind before it
-not_before : (a b m : List ℕ) → IsFalse (name_precedes b a) → IsFalse (name_precedes m b) → IsFalse (name_precedes m a)
-not_before a b m ba mb = false_from_ne_true _ (λ ma.
-    elim (cases_Bool (bytes_eq b m)) [
-      | inl e ↦ both_ways _ ba (subst (λ n. IsTrue (name_precedes n a)) (sym ((bytes_decides b m).0 e)) ma)
-      | inr differ ↦ both_ways _ ba (name_precedes-trans b m a (name_precedes-turned m b mb differ) ma)
-    ])
-
 pub name-alone : (r : Option (List ℕ)) → first_name r None ≡ r
 name-alone None = refl
 name-alone (Some name) = refl
-
--- the same names in other steps, or by another test
-pub first-same : (p q : HeldStep → Bool) (xs ys : List HeldStep) → ((name : List ℕ) → IsNamed p xs name → IsNamed q ys name) → ((name : List ℕ) → IsNamed q ys name → IsNamed p xs name)
-    → (r : Option (List ℕ)) → IsFirstNamed p xs r → IsFirstNamed q ys r
-first-same p q xs ys into back None first = λ name h. first name (back name h)
-first-same p q xs ys into back (Some name) first = (into name first.0, λ other h. first.1 other (back other h))
 
 module _ (test : HeldStep → Bool) where
   -- ---- in two lists
@@ -57,26 +43,10 @@ module _ (test : HeldStep → Bool) where
     in_either name h = elim (Contains-append_cases xs ys h.0 h.1) [ inl first ↦ inl (h.0, first, h.2, h.3) | inr second ↦ inr (h.0, second, h.2, h.3) ]
 
     pub first-both : (a b : Option (List ℕ)) → IsFirstNamed test xs a → IsFirstNamed test ys b → IsFirstNamed test (xs ++ ys) (first_name a b)
-    first-both None None fa fb = λ name h. elim (in_either name h) [ inl first ↦ fa name first | inr second ↦ fb name second ]
-    first-both None (Some b) fa fb = (in_second b fb.0, λ m h. elim (in_either m h) [ inl first ↦ absurd (fa m first) | inr second ↦ fb.1 m second ])
-    first-both (Some a) None fa fb = (in_first a fa.0, λ m h. elim (in_either m h) [ inl first ↦ fa.1 m first | inr second ↦ absurd (fb m second) ])
-    first-both (Some a) (Some b) fa fb =
-        elim (cases_Bool (name_precedes b a)) [
-          | inl before ↦ rw before (
-            in_second b fb.0,
-            λ m h. elim (in_either m h) [
-              | inl first ↦ not_before b a m (name_precedes-one_way b a before) (fa.1 m first)
-              | inr second ↦ fb.1 m second
-            ],
-          )
-          | inr after ↦ rw after (
-            in_first a fa.0,
-            λ m h. elim (in_either m h) [
-              | inl first ↦ fa.1 m first
-              | inr second ↦ not_before a b m after (fb.1 m second)
-            ],
-          )
-        ]
+    first-both a b fa fb =
+        IsFirstOf-same (λ name. IsNamed test xs name ⊎ IsNamed test ys name) (IsNamed test (xs ++ ys))
+        (λ name h. elim h [ inl first ↦ in_first name first | inr second ↦ in_second name second ]) in_either (first_name a b)
+        (first_name-first (IsNamed test xs) (IsNamed test ys) a b fa fb)
 
     -- steps of which none passes change nothing
     pub first-beside : (r : Option (List ℕ)) → IsFirstNamed test xs r → All (λ held. IsFalse (test held)) ys → IsFirstNamed test (xs ++ ys) r
@@ -163,4 +133,4 @@ module _ (airport : Airport) (lists : List StepList) (by_segment : AreBySegment 
       (h.0, Contains-flat_map steps_on segments own h.0 ((are.each own).1 both.0) (in_its_list airport lists by_segment airport.conflicts s segments are h.0 h.1), h.2, both.1)
 
   pub named-lists : (r : Option (List ℕ)) → IsFirstNamed (has_second airport t) (flat_map steps_on segments) r → IsFirstNamed (takes airport s t) (all_steps lists) r
-  named-lists r first = first-same (has_second airport t) (takes airport s t) (flat_map steps_on segments) (all_steps lists) from_lists to_lists r first
+  named-lists r first = IsFirstOf-same (IsNamed (has_second airport t) (flat_map steps_on segments)) (IsNamed (takes airport s t) (all_steps lists)) from_lists to_lists r first

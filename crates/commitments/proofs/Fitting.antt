@@ -125,16 +125,13 @@ walk-at airport state feasible place x found =
     subst (λ (f : Flight). IsFeasibleWalk (conditions_of airport state f) f.steps) (get_or_from_slice_get state.flights place x x found)
     (feasible.walks place x (slice_get_within state.flights place x found))
 
--- where no holder has a name, no flight and no party has it
+-- where no holder has a name, no flight has it
 none-is : {X : Type 0} (o : Option X) → IsFalse (is_some o) → o ≡ None
 none-is None h = refl
 none-is (Some x) h = absurd (cc h)
 
 pub no-flight : (name : List ℕ) (state : State) → has_holder name state ≡ false → flight_named name state.flights ≡ None
 no-flight name state none = none-is (flight_named name state.flights) (or_parts _ _ none).1
-
-pub no-party : (name : List ℕ) (state : State) → has_holder name state ≡ false → party_named name state.parties ≡ None
-no-party name state none = none-is (party_named name state.parties) (or_parts _ _ none).0
 
 -- ---- after a call
 

@@ -12,11 +12,11 @@ use Rattle.taxi_base.specs.declared.numbers.Segment.{Segment}
 use Rattle.taxi_base.specs.declared.rows.Step.{Step}
 use Rattle.taxi_base.specs.Airport.{Airport, conflict, segment_of, has_member}
 use Rattle.taxi_base.specs.Windows.{Hold, blocks, holds_of}
+use Rattle.taxi_base.proofs.HoldLaws.{conflict-turned}
 use Rattle.window_store.specs.Store.{Store}
 use Rattle.window_store.specs.Stands.{StandsFor, HasRoomFor, conflicting, conflicting_steps}
 use Rattle.window_store.specs.Kept.{DrawsWhatIsLacking}
 use Rattle.window_store.proofs.Standing.{StandsFor-same, conflicting-le}
-use Rattle.window_store.proofs.Changes.{conflict-turned}
 use Rattle.commitments.specs.declared.segment_holds.HeldStep.{HeldStep}
 use Rattle.commitments.specs.declared.segment_holds.Holder.{Holder}
 use Rattle.commitments.specs.Held.{StepList, no_step, list_of, all_steps, hold_by, clearance_after, steps_with, AreAsMany, AreBySegment, GainsHoldRoom, HasRoomInConflict, HaveRoomForSteps, HasHoldRoom}

@@ -1,17 +1,16 @@
 -- The holders of a state as routes: what they hold, what one of them is, and what is left without it.
-use Rattle.std.proofs.Common.{◌≡◌, ◌≢◌, ℕ, zero, suc, ◌+◌, ◌-◌, ◌<◌, ◌≤◌, List, [], ◌∷◌, ◌++◌, length, map, get_or, Option, Some, None, true, IsFalse, refl, sym, ap, ◌∙◌, subst, arith}
+use Rattle.std.proofs.Common.{◌≡◌, ◌≢◌, ℕ, zero, suc, ◌+◌, ◌-◌, ◌<◌, ◌≤◌, List, [], ◌∷◌, ◌++◌, length, map, get_or, Some, true, IsFalse, refl, sym, ap, ◌∙◌, subst, arith}
 use Rattle.std.specs.Prelude.{All, bytes_eq, option_map, remove, slice_get}
 use Rattle.std.specs.List.Sorted.{IsPermutation}
 use Rattle.std.specs.Cmp.Lexicographic.{bytes_decides}
 use Rattle.std.proofs.lemmas.Bool.{both_ways}
-use Rattle.std.proofs.lemmas.List.{length-append, length-map}
+use Rattle.std.proofs.lemmas.List.{length-map}
 use Rattle.std.proofs.lemmas.List.Concat.{flat_map-append}
 use Rattle.std.proofs.lemmas.List.Edits.{remove-append_left, remove-append_right}
 use Rattle.std.proofs.lemmas.List.Elements.{All-weaker}
 use Rattle.std.proofs.lemmas.List.Folds.{flat_map-map}
 use Rattle.std.proofs.lemmas.Option.{get_or_from_slice_get, slice_get-map, slice_get_within}
 use Rattle.taxi_base.specs.declared.numbers.Segment.{Segment}
-use Rattle.taxi_base.specs.declared.rows.Step.{Step}
 use Rattle.taxi_base.specs.declared.answers.Flight.{Flight}
 use Rattle.taxi_base.specs.declared.answers.Party.{Party}
 use Rattle.taxi_base.specs.Airport.{Airport, arc_of}
@@ -19,12 +18,12 @@ use Rattle.taxi_base.specs.Windows.{Hold, HeldRoute, holds_of}
 use Rattle.taxi_base.specs.State.{State, without, flights_without, parties_without, party_hold, party_step, holds_in, IsFeasibleHold, IsFeasibleState}
 use Rattle.taxi_base.proofs.NamedLists.{absent-without}
 use Rattle.taxi_base.proofs.StateLaws.{party_step-holds, IsFeasibleState-without}
+use Rattle.taxi_base.proofs.ListLaws.{remove-map}
 use Rattle.window_store.specs.Store.{Store}
 use Rattle.window_store.specs.Stands.{HasRoomFor, route_holds}
 use Rattle.window_store.specs.Kept.{IsClearOf, KeepsWindows}
 use Rattle.commitments.specs.Book.{route_of, party_route, routes_of}
 use Rattle.holder_lists.specs.Places.{IsFlightPlace, IsPartyPlace}
-use Rattle.holder_lists.proofs.Inserted.{remove-map}
 use Rattle.commitments.proofs.SameHolds.{remove-holds}
 
 -- ---- lists
@@ -48,19 +47,7 @@ slice_get-right (x ∷ xs) ys (suc k) low =
 
 -- ---- one holder
 
--- a route by its steps and its clearance
-pub route-is : (o : Option HeldRoute) (steps : List Step) (clearance : ℕ) → option_map (λ r. r.steps) o ≡ Some steps → option_map (λ r. r.clearance) o ≡ Some clearance
-    → o ≡ Some (record { steps = steps; clearance = clearance })
-route-is None steps clearance is_steps is_clearance = absurd (cc is_steps)
-route-is (Some r) steps clearance is_steps is_clearance =
-    let same_steps : r.steps ≡ steps = cc is_steps in
-    let same_clearance : r.clearance ≡ clearance = cc is_clearance in
-    ap Some (λ i. record { steps = same_steps i; clearance = same_clearance i })
-
 module _ (airport : Airport) (state : State) where
-  pub length-routes : length (routes_of airport state) ≡ length state.parties + length state.flights
-  length-routes = omega (arith, length-append (map party_route state.parties) (map (route_of airport) state.flights), length-map state.parties party_route, length-map state.flights (route_of airport))
-
   -- a party comes first, a flight behind all parties
   pub party-route : (number : ℕ) → number < length state.parties
       → (p : Party) × (slice_get state.parties number ≡ Some p) × (slice_get (routes_of airport state) number ≡ Some (party_route p))

@@ -11,12 +11,12 @@ use Rattle.taxi_base.specs.declared.answers.Party.{Party}
 use Rattle.taxi_base.specs.Airport.{Airport}
 use Rattle.taxi_base.specs.Windows.{Hold, HeldRoute, holds_of}
 use Rattle.taxi_base.specs.State.{State, with_flight, with_party, holds_in}
+use Rattle.taxi_base.proofs.ListLaws.{remove-map}
 use Rattle.window_store.specs.Store.{Store}
 use Rattle.window_store.specs.Stands.{StandsFor, route_holds}
 use Rattle.commitments.specs.declared.segment_holds.HeldStep.{HeldStep}
 use Rattle.commitments.specs.Book.{route_of, party_route, routes_of}
 use Rattle.commitments.specs.Held.{hold_by, flight_holder, party_steps, flight_steps, steps_of_each, joined, steps_in, AreAsMany}
-use Rattle.holder_lists.proofs.Inserted.{remove-map}
 use Rattle.commitments.proofs.SameHolds.{put_in-holds, remove-holds}
 use Rattle.commitments.proofs.Routes.{AreOver, routes-hold, slice_get-left, slice_get-right}
 use Rattle.commitments.proofs.Arranged.{count-append, permuted}

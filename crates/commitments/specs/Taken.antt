@@ -5,7 +5,7 @@ use Rattle.taxi_base.specs.declared.numbers.Segment.{Segment}
 use Rattle.taxi_base.specs.declared.rows.Span.{Span}
 use Rattle.taxi_base.specs.Airport.{Airport}
 use Rattle.taxi_base.specs.Windows.{blocks, span_has}
-use Rattle.taxi_base.specs.State.{name_precedes}
+use Rattle.taxi_base.specs.Faults.{IsFirstOf}
 use Rattle.commitments.specs.declared.segment_holds.HeldStep.{HeldStep}
 use Rattle.commitments.specs.Held.{hold_by}
 
@@ -22,8 +22,7 @@ IsNamed test steps name = (held : HeldStep) × Contains steps held × (held.hold
 
 -- the first of the names of the holders of steps that pass a test; none where none passes
 abbrev pub IsFirstNamed : (HeldStep → Bool) → List HeldStep → Option (List ℕ) → Type 0
-IsFirstNamed test steps None = (name : List ℕ) → IsNamed test steps name → ⊥
-IsFirstNamed test steps (Some name) = IsNamed test steps name × ((other : List ℕ) → IsNamed test steps other → IsFalse (name_precedes other name))
+IsFirstNamed test steps name = IsFirstOf (IsNamed test steps) name
 
 -- whether one of the steps has a second on a segment in conflict with this one
 abbrev pub is_taken : Airport → Segment → List HeldStep → ℕ → Bool

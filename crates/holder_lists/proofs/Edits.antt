@@ -13,8 +13,9 @@ use Rattle.std.specs.declared.cmp.Ordering.{Ordering}
 use Rattle.holder_lists.specs.Kept.{flights_of, IsKept}
 use Rattle.holder_lists.specs.Places.{IsPlace}
 use Rattle.holder_lists.proofs.Names.{searched, put-in-gap}
-use Rattle.holder_lists.proofs.Inserted.{All-insert, ordered-insert}
 use Rattle.taxi_base.proofs.FlightNames.{Precedes}
+use Rattle.taxi_base.proofs.ListLaws.{All-insert}
+use Rattle.taxi_base.proofs.NamedLists.{ordered-insert}
 use Rattle.holder_lists.proofs.Stored.{AreStored, OrdersFlights, stored_from_keys, view-stored, keys_from_stored, length-stored, get-stored, some_flight, searched-keys, vacant-other, stored-insert, stored-remove}
 
 -- ---- the flights of a ledger

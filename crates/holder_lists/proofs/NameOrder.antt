@@ -1,5 +1,5 @@
 -- The numbers of names compare as the names do; and what they are where a flight comes or goes.
-use Rattle.std.proofs.Common.{◌≡◌, ◌≢◌, ℕ, zero, suc, ◌+◌, ◌-◌, ◌*◌, ◌^◌, ◌<◌, ◌≤◌, ◌&&◌, List, [], ◌∷◌, Bool, true, false, length, get_or, drop, Some, None, refl, sym, ap, subst, ◌∙◌, arith, add-one, ⊎_elim}
+use Rattle.std.proofs.Common.{◌≡◌, ◌≢◌, ℕ, zero, suc, ◌+◌, ◌-◌, ◌*◌, ◌<◌, ◌≤◌, List, [], ◌∷◌, true, length, get_or, drop, Some, None, refl, sym, ap, subst, ◌∙◌, arith, ⊎_elim}
 use Rattle.std.specs.Prelude.{IsTrue, slice_set}
 use Rattle.std.specs.List.{list_all}
 use Rattle.std.specs.Ordering.{nat_cmp, ordering_then}
@@ -7,25 +7,15 @@ use Rattle.std.specs.Cmp.{nat_cmp_is}
 use Rattle.std.specs.Cmp.Lexicographic.{slice_cmp}
 use Rattle.std.specs.declared.cmp.Ordering.{Ordering}
 use Rattle.std.specs.declared.cmp.Ordering.TheVariants.{Less, Equal, Greater}
-use Rattle.std.proofs.lemmas.Bool.{cases_order}
+use Rattle.std.proofs.lemmas.Bool.{cases_order, and_parts}
 use Rattle.std.proofs.lemmas.Cmp.{ranked}
 use Rattle.std.proofs.lemmas.Bool.Decides.{nat_tests}
 use Rattle.std.proofs.lemmas.List.{drop-drop, get_or-drop, get_or-set_same, get_or-set_other}
-use Rattle.std.proofs.Math.Nat.{pow-le-pow_right, pow-suc}
 use Rattle.slab.specs.Slab.{Slab, get, Updates}
 use Rattle.taxi_base.specs.declared.answers.Flight.{Flight}
 use Rattle.taxi_base.specs.Words.{is_name, is_name_byte}
+use Rattle.taxi_base.proofs.NameDigits.{byte-range, name-bytes}
 use Rattle.holder_lists.specs.NameOrder.{order_after, order_of, order_at, AreNumbered}
-
-byte-range : (b : ℕ) → is_name_byte b ≡ true → (1 ≤ b) × (b < 256)
-byte-range b e = (grind (arith, nat_tests), grind (arith, nat_tests))
-
-first-and-rest : (p q : Bool) → (p && q) ≡ true → (p ≡ true) × (q ≡ true)
-first-and-rest true q e = (refl, e)
-first-and-rest false q e = absurd (cc e)
-
-name-bytes : (name : List ℕ) → IsTrue (is_name name) → list_all is_name_byte name ≡ true
-name-bytes name e = grind (arith, nat_tests)
 
 name-short : (name : List ℕ) → IsTrue (is_name name) → length name ≤ 16
 name-short name e = grind (arith, nat_tests)
@@ -38,11 +28,11 @@ below zero n m xs ys each low = low
 below (suc k) n m [] [] each low = below k (n * 256) (m * 256) [] [] each (omega arith)
 below (suc k) n m [] (y ∷ ys) each low = below k (n * 256) (m * 256 + y) [] ys refl (omega arith)
 below (suc k) n m (x ∷ xs) [] each low =
-    let both = first-and-rest (is_name_byte x) (list_all is_name_byte xs) each in
+    let both = and_parts (is_name_byte x) (list_all is_name_byte xs) each in
     let range = byte-range x both.0 in
     below k (n * 256 + x) (m * 256) xs [] both.1 (omega (arith, range))
 below (suc k) n m (x ∷ xs) (y ∷ ys) each low =
-    let both = first-and-rest (is_name_byte x) (list_all is_name_byte xs) each in
+    let both = and_parts (is_name_byte x) (list_all is_name_byte xs) each in
     let range = byte-range x both.0 in
     below k (n * 256 + x) (m * 256 + y) xs ys both.1 (omega (arith, range))
 
@@ -53,17 +43,17 @@ compared zero n [] (y ∷ ys) short_x short_y each_x each_y = absurd (omega arit
 compared zero n (x ∷ xs) ys short_x short_y each_x each_y = absurd (omega arith)
 compared (suc k) n [] [] short_x short_y each_x each_y = sym (nat_cmp_is (order_after k (n * 256) []) (order_after k (n * 256) []) Equal refl)
 compared (suc k) n [] (y ∷ ys) short_x short_y each_x each_y =
-    let range = byte-range y (first-and-rest (is_name_byte y) (list_all is_name_byte ys) each_y).0 in
+    let range = byte-range y (and_parts (is_name_byte y) (list_all is_name_byte ys) each_y).0 in
     sym (nat_cmp_is (order_after k (n * 256) []) (order_after k (n * 256 + y) ys) Less (below k (n * 256) (n * 256 + y) [] ys refl (omega (arith, range))))
 compared (suc k) n (x ∷ xs) [] short_x short_y each_x each_y =
-    let range = byte-range x (first-and-rest (is_name_byte x) (list_all is_name_byte xs) each_x).0 in
+    let range = byte-range x (and_parts (is_name_byte x) (list_all is_name_byte xs) each_x).0 in
     sym (nat_cmp_is (order_after k (n * 256 + x) xs) (order_after k (n * 256) []) Greater (below k (n * 256) (n * 256 + x) [] xs refl (omega (arith, range))))
 compared (suc k) n (x ∷ xs) (y ∷ ys) short_x short_y each_x each_y = by_first (compared k (n * 256 + y) xs ys (omega arith) (omega arith) all_x all_y) (nat_cmp x y) refl where
   all_x : list_all is_name_byte xs ≡ true
-  all_x = (first-and-rest (is_name_byte x) (list_all is_name_byte xs) each_x).1
+  all_x = (and_parts (is_name_byte x) (list_all is_name_byte xs) each_x).1
 
   all_y : list_all is_name_byte ys ≡ true
-  all_y = (first-and-rest (is_name_byte y) (list_all is_name_byte ys) each_y).1
+  all_y = (and_parts (is_name_byte y) (list_all is_name_byte ys) each_y).1
 
   by_first : nat_cmp (order_after k (n * 256 + y) xs) (order_after k (n * 256 + y) ys) ≡ slice_cmp nat_cmp xs ys → (r : Ordering) → r ≡ nat_cmp x y → nat_cmp (order_after k (n * 256 + x) xs) (order_after k (n * 256 + y) ys) ≡ ordering_then (nat_cmp x y) (slice_cmp nat_cmp xs ys)
   by_first rest Less e =
@@ -96,18 +86,6 @@ next-digit place n name low =
     ap (λ places. order_after places n (drop place name)) left ∙ one-more (16 - (place + 1)) n (drop place name)
     ∙ ap (λ d. order_after (16 - (place + 1)) (n * 256 + d) (drop 1 (drop place name))) digit
     ∙ ap (λ (ds : List ℕ). order_after (16 - (place + 1)) (n * 256 + get_or name place 0) ds) rest
-
--- a number of at most fifteen digits has room for one more
-pub order-fits : (n place b : ℕ) → n < 256 ^ place → place < 16 → b < 256 → n * 256 + b < 2 ^ 128
-order-fits n place b low few byte =
-    let short : place ≤ 15 = omega arith in
-    let most : 256 ^ place ≤ 256 ^ 15 = pow-le-pow_right {n = 256} (omega arith) short in
-    omega (arith, most, low)
-
-pub order-grows : (n place b : ℕ) → n < 256 ^ place → b < 256 → n * 256 + b < 256 ^ (place + 1)
-order-grows n place b low byte =
-    let more : 256 ^ (place + 1) ≡ 256 ^ place * 256 = rw add-one (pow-suc 256 place) in
-    omega (arith, more, low, byte)
 
 -- ---- the numbers of flights
 

@@ -6,6 +6,7 @@ use Rattle.std.proofs.lemmas.Bool.{both_ways, cases_lt, cond-true, cond-false, l
 use Rattle.taxi_base.specs.declared.rows.Span.{Span}
 use Rattle.taxi_base.specs.Windows.{span_has, covers, AreApart}
 use Rattle.taxi_base.proofs.WindowLaws.{span_has-true, span_has-from}
+use Rattle.taxi_base.proofs.WindowsMade.{AreApart-lower}
 use Rattle.interval_list.specs.Intervals.{span, before, behind, without_span, hull, with_span}
 
 -- ---- the pieces
@@ -115,10 +116,6 @@ covers-without_span s ws t =
     same_test _ _ (λ h. let r = left_over s ws t h in and_from _ _ r.0 (not_from_false _ r.1))
     (λ h. let parts = and_parts _ _ h in not_taken s ws t parts.0 (not-true _ parts.1))
 
-pub apart-weaker : (low high : ℕ) (ws : List Span) → low ≤ high → AreApart high ws → AreApart low ws
-apart-weaker low high [] le apart = tt
-apart-weaker low high (w ∷ ws) le apart = (omega (arith, apart.0), apart.1, apart.2)
-
 pub apart-without_span : (low : ℕ) (s : Span) (ws : List Span) → s.from < s.until → AreApart low ws → AreApart low (without_span s ws)
 apart-without_span low s [] some apart = tt
 apart-without_span low s (w ∷ ws) some apart =
@@ -126,11 +123,11 @@ apart-without_span low s (w ∷ ws) some apart =
     elim (cases_lt w.from s.from) [
       | inl b ↦ elim (cases_lt s.until w.until) [
         | inl e ↦ rw (before-yes s w b) (rw (behind-yes s w e) (omega (arith, apart.0), omega (arith, apart.1, b), (omega (arith, b, e, some), omega (arith, apart.1, e), rest)))
-        | inr e ↦ rw (before-yes s w b) (rw (behind-no s w e) (omega (arith, apart.0), omega (arith, apart.1, b), apart-weaker _ _ (without_span s ws) (omega arith) rest))
+        | inr e ↦ rw (before-yes s w b) (rw (behind-no s w e) (omega (arith, apart.0), omega (arith, apart.1, b), AreApart-lower _ _ (without_span s ws) (omega arith) rest))
       ]
       | inr b ↦ elim (cases_lt s.until w.until) [
         | inl e ↦ rw (before-no s w b) (rw (behind-yes s w e) (omega (arith, apart.0), omega (arith, apart.1, e), rest))
-        | inr e ↦ rw (before-no s w b) (rw (behind-no s w e) (apart-weaker _ _ (without_span s ws) (omega (arith, apart.0, apart.1)) rest))
+        | inr e ↦ rw (before-no s w b) (rw (behind-no s w e) (AreApart-lower _ _ (without_span s ws) (omega (arith, apart.0, apart.1)) rest))
       ]
     ]
 
@@ -217,7 +214,7 @@ apart-with_span low s (w ∷ ws) above some apart =
       | inr near ↦ elim (cases_lt w.until s.from) [
         | inl past ↦ rw (with_span-past s w ws near past) (apart.0, apart.1, apart-with_span (w.until + 1) s ws (omega (arith, past)) some apart.2)
         | inr low' ↦ rw (with_span-joins s w ws near low')
-            (apart-with_span low (hull s w) ws (omega (arith, above, apart.0)) (omega (arith, some)) (apart-weaker low (w.until + 1) ws (omega (arith, apart.0, apart.1)) apart.2))
+            (apart-with_span low (hull s w) ws (omega (arith, above, apart.0)) (omega (arith, some)) (AreApart-lower low (w.until + 1) ws (omega (arith, apart.0, apart.1)) apart.2))
       ]
     ]
 

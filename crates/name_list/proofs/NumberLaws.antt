@@ -1,30 +1,21 @@
 -- A name is known by its number.
-use Rattle.std.proofs.Common.{◌≡◌, ◌<◌, ◌≤◌, ◌+◌, ◌*◌, ◌/◌, ◌%◌, ◌^◌, ◌++◌, ◌∷◌, ◌∙◌, ◌&&◌, [], ℕ, List, Bool, true, false, refl, sym, ap, arith, append_assoc, append-nil, add-one, length, get_or}
+use Rattle.std.proofs.Common.{◌≡◌, ◌<◌, ◌+◌, ◌*◌, ◌/◌, ◌%◌, ◌++◌, ◌∷◌, ◌∙◌, [], ℕ, List, true, sym, ap, arith, append_assoc, append-nil, length, get_or}
+use Rattle.std.proofs.lemmas.Bool.{and_parts}
 use Rattle.std.specs.Prelude.{IsTrue}
 use Rattle.std.specs.List.{list_all}
 use Rattle.std.specs.Int.Digits.{digits_of, number_from_digits_after}
 use Rattle.std.proofs.lemmas.Bool.Decides.{nat_tests}
 use Rattle.std.proofs.lemmas.Int.Digits.{digits_of_step}
-use Rattle.std.proofs.Math.Nat.{pow-le-pow_right, pow-suc}
 use Rattle.std.proofs.lemmas.List.Sums.{AllPass-from_list_all}
 use Rattle.taxi_base.specs.Words.{is_name, is_name_byte}
+use Rattle.taxi_base.proofs.NameDigits.{byte-range, name-bytes}
 use Rattle.name_list.specs.Places.{number_of}
-
-byte-range : (b : ℕ) → is_name_byte b ≡ true → (1 ≤ b) × (b < 256)
-byte-range b e = (grind (arith, nat_tests), grind (arith, nat_tests))
-
-first-and-rest : (p q : Bool) → (p && q) ≡ true → (p ≡ true) × (q ≡ true)
-first-and-rest true q e = (refl, e)
-first-and-rest false q e = absurd (cc e)
-
-name-bytes : (name : List ℕ) → IsTrue (is_name name) → list_all is_name_byte name ≡ true
-name-bytes name e = grind (arith, nat_tests)
 
 -- the digits of a number with more digits written behind it, none of them 0
 digits-after : (n : ℕ) (bytes : List ℕ) → list_all is_name_byte bytes ≡ true → digits_of 256 (number_from_digits_after 256 n bytes) ≡ digits_of 256 n ++ bytes
 digits-after n [] each = sym (append-nil (digits_of 256 n))
 digits-after n (b ∷ bytes) each =
-    let both = first-and-rest (is_name_byte b) (list_all is_name_byte bytes) each in
+    let both = and_parts (is_name_byte b) (list_all is_name_byte bytes) each in
     let range = byte-range b both.0 in
     let front : (n * 256 + b) / 256 ≡ n = omega (arith, range) in
     let last : (n * 256 + b) % 256 ≡ b = omega (arith, range) in
@@ -36,18 +27,6 @@ pub number_of-same : (p q : List ℕ) → IsTrue (is_name p) → IsTrue (is_name
 unfolding number_of
 number_of-same p q p_name q_name same =
     sym (digits-after 0 p (name-bytes p p_name)) ∙ ap (digits_of 256) same ∙ digits-after 0 q (name-bytes q q_name)
-
--- a number of at most fifteen digits has room for one more
-pub number-fits : (n i b : ℕ) → n < 256 ^ i → i < 16 → b < 256 → n * 256 + b < 2 ^ 128
-number-fits n i b low few byte =
-    let short : i ≤ 15 = omega arith in
-    let most : 256 ^ i ≤ 256 ^ 15 = pow-le-pow_right {n = 256} (omega arith) short in
-    omega (arith, most, low)
-
-pub number-grows : (n i b : ℕ) → n < 256 ^ i → b < 256 → n * 256 + b < 256 ^ (i + 1)
-number-grows n i b low byte =
-    let more : 256 ^ (i + 1) ≡ 256 ^ i * 256 = rw add-one (pow-suc 256 i) in
-    omega (arith, more, low, byte)
 
 -- each place of a name has a byte, and there are at most 16
 pub byte-at : (name : List ℕ) (i : ℕ) → IsTrue (is_name name) → i < length name → (get_or name i 0 < 256) × (i < 16)

@@ -7,15 +7,7 @@ use Rattle.place_cells.specs.Turns.{no_arc}
 use Rattle.place_cells.specs.Ground.{Ground, usable_in}
 use Rattle.place_cells.specs.Tells.{IsBeside}
 
-length-if : {A : Type 0} (t : Bool) (xs : List A) → length (cond t xs []) ≡ cond t (length xs) 0
-length-if true xs = refl
-length-if false xs = refl
-
 module _ (g : Ground) (cell : ℕ) (may : List Arc) (b : Beside) (is : IsBeside g cell may b) where
-  -- as many as the cell has runs
-  pub beside_count : length b.arcs.now ≡ cond (usable_in g cell) (length may) 0
-  beside_count = ap length is.arcs ∙ length-if (usable_in g cell) may
-
-  -- and the same, where it is a cell
+  -- the arcs that a cell may go on to, each by its run
   pub beside_at : usable_in g cell ≡ true → (run : ℕ) → get_or b.arcs.now run no_arc ≡ get_or may run no_arc
   beside_at usable run = ap (λ (arcs : List Arc). get_or arcs run no_arc) (is.arcs ∙ cond-true (usable_in g cell) may [] usable)

@@ -42,18 +42,6 @@ block_at arc (suc n) j d on =
 
 -- ---- block by block
 
-pub none_numbered : AreNumbered [] (0 ∷ [])
-none_numbered = record {
-  rising = λ a b le on. omega (arith, none_first a, none_first b);
-  inside = λ a on. omega (arith, none_first a);
-  block = λ a j on within. absurd (omega (arith, on));
-  own = λ k on. absurd (omega (arith, on));
-}
-  where
-    none_first : (a : ℕ) → first_in (0 ∷ []) a ≡ 0
-    none_first zero = refl
-    none_first (suc a) = refl
-
 module _ (spots : List Spot) (first : List ℕ) (n room : ℕ) (are : AreNumbered spots first) (many : length first ≡ suc n) (last : first_in first n ≡ length spots) where
   abbrev more : List Spot
   more = block (record { 0 = n }) room
@@ -132,9 +120,6 @@ pub record AreNumberedTo (windows : List (List Span)) (n : ℕ) (spots : List Sp
   pub apart : (a : ℕ) → a < n → AreApart 0 (get_or windows (a / 2) [])
 
 module _ (windows : List (List Span)) where
-  pub none_numbered_to : AreNumberedTo windows 0 [] (0 ∷ [])
-  none_numbered_to = record { are = none_numbered; count = refl; last = refl; sized = λ a on. absurd (omega (arith, on)); apart = λ a on. absurd (omega (arith, on)) }
-
   pub numbered_to_more : (n room : ℕ) (spots : List Spot) (first : List ℕ) → AreNumberedTo windows n spots first → 8 * stretches_for (length (get_or windows (n / 2) [])) ≡ room → AreApart 0 (get_or windows (n / 2) [])
       → AreNumberedTo windows (n + 1) (spots ++ block (record { 0 = n }) room) (first ++ length (spots ++ block (record { 0 = n }) room) ∷ [])
   numbered_to_more n room spots first to size apart = record {

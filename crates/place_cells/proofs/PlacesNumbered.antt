@@ -11,9 +11,9 @@ use Rattle.taxi_base.specs.Windows.{AreApart, IsWindow, covers}
 use Rattle.taxi_base.specs.Walks.{conditions_in_windows}
 use Rattle.taxi_base.proofs.AirportLaws.{arc_exists-segment}
 use Rattle.taxi_base.proofs.WindowLaws.{AreWindows-member, AreWindows-whole}
+use Rattle.taxi_base.proofs.ListLaws.{All-at}
 use Rattle.walk_labels.specs.Places.{Place, IsPlace, ArePlaces, no_place, place_at, place_precedes}
 use Rattle.walk_labels.specs.PlacesInWindows.{AreWindowLists, can_use}
-use Rattle.walk_labels.proofs.FitConditions.{All-at}
 use Rattle.label_search.specs.Problem.{IsIn}
 use Rattle.window_store.specs.Rows.{no_span, span_in}
 use Rattle.window_store.proofs.Rows.{apart_in_order}

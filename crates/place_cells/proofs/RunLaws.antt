@@ -7,9 +7,9 @@ use Rattle.std.proofs.lemmas.List.Elements.{All-nil, All-map}
 use Rattle.taxi_base.specs.declared.numbers.Arc.{Arc}
 use Rattle.taxi_base.specs.declared.rows.Span.{Span}
 use Rattle.taxi_base.specs.Windows.{AreApart}
+use Rattle.taxi_base.proofs.ListLaws.{All-at}
 use Rattle.label_search.specs.Problem.{IsIn}
 use Rattle.walk_labels.specs.Places.{Place, no_place, place_at}
-use Rattle.walk_labels.proofs.FitConditions.{All-at}
 use Rattle.window_store.specs.Rows.{no_span, span_in}
 use Rattle.window_store.proofs.Rows.{apart_at}
 use Rattle.place_cells.specs.declared.spots.Spot.{Spot}

@@ -114,6 +114,3 @@ begun-push ss s begun by k d on =
 pub spots_of-none : (ss : List Stretch) → ss ≡ [] → spots_of ss ≡ []
 unfolding spots_after
 spots_of-none ss none = ap spots_of none
-
-pub begun-none : (ss : List Stretch) → ss ≡ [] → AreBegun ss
-begun-none ss none k d on = absurd (omega (arith, on, ap length none))

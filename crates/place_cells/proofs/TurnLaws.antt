@@ -13,6 +13,7 @@ use Rattle.walk_labels.specs.Requests.{leads_to_one_of}
 use Rattle.taxi_base.proofs.OneOfLaws.{OneOf-gives}
 use Rattle.walk_labels.proofs.RequestCells.{meet-same, leads-OneOf}
 use Rattle.taxi_base.proofs.ListLaws.{AllPairs-first, AllPairs-rest, Contains-first, Contains-rest, Contains-cons_cases}
+use Rattle.taxi_base.proofs.AirportLaws.{permits-exist}
 use Rattle.segment_graph.specs.Graphs.{AreArcs, AreNext, ArePrevious, AreLeaving, AreEntering}
 use Rattle.place_cells.specs.Turns.{arcs_below, next_arcs, previous_arcs, leaving_arcs, entering_arcs}
 
@@ -65,15 +66,6 @@ arcs_below-all zero = AreAll-none (λ (a : Arc). a.0) (λ a. a.0 < 0) (λ a h. o
 arcs_below-all (suc n) =
     AreAll-push (λ (a : Arc). a.0) (λ a. a.0 < n) (λ a. a.0 < suc n) (arcs_below n) (record { 0 = n }) (arcs_below-all n) (λ a h. h) (λ a h. omega arith) (omega arith)
     (λ a h. elim (cases_lt a.0 n) [ inl below ↦ inl below | inr last ↦ (let e : n ≡ a.0 = omega arith in inr (λ i. record { 0 = e i })) ])
-
-meet-both : (x y : Option Ends) → IsTrue (meet (option_map (λ e. e.head) x) (option_map (λ e. e.tail) y)) → IsTrue (is_some x) × IsTrue (is_some y)
-meet-both (Some a) (Some b) h = (refl, refl)
-meet-both (Some a) None h = absurd (cc h)
-meet-both None y h = absurd (cc h)
-
-pub permits-exist : (layout : Layout) (x y : Arc) → IsTrue (permits layout x y) → IsTrue (arc_exists layout x) × IsTrue (arc_exists layout y)
-unfolding permits
-permits-exist layout x y h = meet-both (ends layout x) (ends layout y) (and_parts _ _ (and_parts _ _ h).0).0
 
 module _ (layout : Layout) where
   pub exists-below : (arc : Arc) → IsTrue (arc_exists layout arc) → arc.0 < 2 * length layout.links

@@ -9,9 +9,10 @@ use Rattle.std.proofs.lemmas.List.{append_assoc, take-append-drop, take_more, dr
 use Rattle.std.proofs.lemmas.List.Folds.{list_any-append}
 use Rattle.taxi_base.specs.declared.rows.Span.{Span}
 use Rattle.taxi_base.specs.Windows.{span_has, covers, AreApart}
+use Rattle.taxi_base.proofs.WindowsMade.{AreApart-lower}
 use Rattle.segment_windows.specs.Gaps.{gap}
 use Rattle.segment_windows.specs.Cuts.{AreCut, parts_of, cut_out}
-use Rattle.segment_windows.proofs.GapLaws.{AreApart-lower, gap-covers}
+use Rattle.segment_windows.proofs.GapLaws.{gap-covers}
 use Rattle.segment_windows.proofs.ApartLaws.{apart-some, apart-ends_ordered}
 
 -- ---- they lie apart
@@ -113,12 +114,6 @@ module _ (span w : Span) (some : span.from < span.until) (early : w.from < span.
 
   pub parts-before : w.from < span.from → w.until ≤ span.until → parts_of span w ≡ before ∷ []
   parts-before low high = rw (first-is, second-is, gap-some w.from span.from low, gap-none span.until w.until high) refl
-
-  pub parts-after : span.from ≤ w.from → span.until < w.until → parts_of span w ≡ after ∷ []
-  parts-after low high = rw (first-is, second-is, gap-none w.from span.from low, gap-some span.until w.until high) refl
-
-  pub parts-none : span.from ≤ w.from → w.until ≤ span.until → parts_of span w ≡ []
-  parts-none low high = rw (first-is, second-is, gap-none w.from span.from low, gap-none span.until w.until high) refl
 
   -- nothing is left before the span
   pub list-after : span.from ≤ w.from → parts_of span w ≡ gap after.from after.until

@@ -15,6 +15,7 @@ use Rattle.taxi_base.specs.Airport.{conflict}
 use Rattle.taxi_base.specs.Windows.{Hold, span_has, covers, blocks, is_free, AreApart, AreWindows}
 use Rattle.taxi_base.proofs.WindowLaws.{span_has-before}
 use Rattle.taxi_base.proofs.ListLaws.{list_any-true, list_any-member}
+use Rattle.taxi_base.proofs.WindowsMade.{AreApart-lower}
 use Rattle.conflict_sets.specs.Conflicts.{AreConflicts}
 use Rattle.held_spans.specs.Holds.{held_at}
 use Rattle.segment_windows.specs.Gaps.{is_some_time, gap, gaps}
@@ -44,10 +45,6 @@ rising-before low t (s ∷ busy) rising before =
     rw (span_has-before s t (omega arith)) (rising-before s.from t busy rising.2 (omega arith))
 
 -- ---- the gaps lie apart
-
-pub AreApart-lower : (low high : ℕ) (ws : List Span) → low ≤ high → AreApart high ws → AreApart low ws
-AreApart-lower low high [] under apart = tt
-AreApart-lower low high (w ∷ ws) under apart = (omega arith, apart.1, apart.2)
 
 gap-apart : (from until next : ℕ) (ws : List Span) → from ≤ next → until + 1 ≤ next → AreApart next ws → AreApart from (gap from until ++ ws)
 gap-apart from until next ws low high apart =

@@ -20,7 +20,8 @@ use Rattle.taxi_base.proofs.WalkLaws.{IsSomeAnd-value}
 
 -- ---- two parts of a walk
 
-IsFeasibleWalk-back : (c : Conditions) (front : List Step) (t : Step) (back : List Step) → IsFeasibleWalk c (front ++ t ∷ back) → IsFeasibleWalk c (t ∷ back)
+-- the steps of a walk from one on are a walk
+pub IsFeasibleWalk-back : (c : Conditions) (front : List Step) (t : Step) (back : List Step) → IsFeasibleWalk c (front ++ t ∷ back) → IsFeasibleWalk c (t ∷ back)
 IsFeasibleWalk-back c [] t back walk = walk
 IsFeasibleWalk-back c (f ∷ []) t back walk = walk.2
 IsFeasibleWalk-back c (f ∷ g ∷ front) t back walk = IsFeasibleWalk-back c (g ∷ front) t back walk.2
@@ -192,7 +193,7 @@ frozen-meets c old time target (Arrival from to asked hold) steps met frozen = g
 
 -- ---- the old route is one of them
 
-count-entered : (time : ℕ) (s : Step) (steps : List Step) → s.enter ≤ time → entered_count time (s ∷ steps) ≡ 1 + entered_count time steps
+pub count-entered : (time : ℕ) (s : Step) (steps : List Step) → s.enter ≤ time → entered_count time (s ∷ steps) ≡ 1 + entered_count time steps
 count-entered time s steps h = sum_by-cons (λ (s : Step). cond (leb s.enter time) 1 0) s steps ∙ rw (le-leb s.enter time h) refl
 
 count-later : (time : ℕ) (s : Step) (steps : List Step) → time < s.enter → entered_count time (s ∷ steps) ≡ entered_count time steps

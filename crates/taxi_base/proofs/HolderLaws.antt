@@ -11,16 +11,12 @@ use Rattle.taxi_base.specs.declared.answers.Party.{Party}
 use Rattle.taxi_base.specs.Airport.{Airport}
 use Rattle.taxi_base.specs.Windows.{blocks}
 use Rattle.taxi_base.specs.State.{State, IsInOrder, name_precedes, flight_holds, party_hold}
-use Rattle.taxi_base.specs.Faults.{first_name, party_at, flight_at, holder_at, IsHolderAt, IsFirstHolder}
+use Rattle.taxi_base.specs.Faults.{first_name, IsFirstOf, party_at, flight_at, holder_at, IsHolderAt, IsFirstHolder}
 use Rattle.taxi_base.proofs.ListLaws.{Contains-first, Contains-rest, Contains-cons_cases, AllPairs-first, AllPairs-rest}
 use Rattle.taxi_base.proofs.NameLaws.{name_precedes-trans, name_precedes-turned, name_precedes-one_way, name_precedes-not_itself}
 
--- the first, if there is one, of the names of a kind
-abbrev IsFirstOf : (List ℕ → Type 0) → Option (List ℕ) → Type 0
-IsFirstOf Has None = (name : List ℕ) → Has name → ⊥
-IsFirstOf Has (Some name) = Has name × ((other : List ℕ) → Has other → IsFalse (name_precedes other name))
-
-IsFirstOf-same : (Has Too : List ℕ → Type 0) → ((name : List ℕ) → Has name → Too name) → ((name : List ℕ) → Too name → Has name)
+-- the same names, of another kind
+pub IsFirstOf-same : (Has Too : List ℕ → Type 0) → ((name : List ℕ) → Has name → Too name) → ((name : List ℕ) → Too name → Has name)
     → (o : Option (List ℕ)) → IsFirstOf Has o → IsFirstOf Too o
 IsFirstOf-same Has Too into back None none = λ name h. none name (back name h)
 IsFirstOf-same Has Too into back (Some name) first = (into name first.0, λ other h. first.1 other (back other h))
@@ -33,7 +29,8 @@ not_before a b m ba mb = false_from_ne_true _ (λ ma.
       | inr differ ↦ both_ways _ ba (name_precedes-trans b m a (name_precedes-turned m b mb differ) ma)
     ])
 
-first_name-first : (Has Too : List ℕ → Type 0) (a b : Option (List ℕ)) → IsFirstOf Has a → IsFirstOf Too b → IsFirstOf (λ name. Has name ⊎ Too name) (first_name a b)
+-- the first of the names of two kinds
+pub first_name-first : (Has Too : List ℕ → Type 0) (a b : Option (List ℕ)) → IsFirstOf Has a → IsFirstOf Too b → IsFirstOf (λ name. Has name ⊎ Too name) (first_name a b)
 first_name-first Has Too None b none first =
     IsFirstOf-same Too (λ name. Has name ⊎ Too name) (λ name h. inr h) (λ name h. elim h [ inl one ↦ absurd (none name one) | inr other ↦ other ]) b first
 first_name-first Has Too (Some a) None first none =

@@ -1,12 +1,13 @@
 -- Things in the order of their names: what a place among them finds, and what an edit there does.
 use Rattle.std.proofs.Common.{◌≡◌, ◌≢◌, ℕ, zero, suc, ◌<◌, ◌≤◌, List, [], ◌∷◌, length, get_or, insert, IsTrue, IsFalse, Some, None, refl, sym, ap, ◌∙◌, subst, inl, inr, arith}
+use Rattle.std.proofs.lemmas.List.Kept.{AllPairs-cons}
 use Rattle.std.specs.Prelude.{bytes_eq, AllPairs, All}
 use Rattle.std.specs.List.{AllWithin, remove}
 use Rattle.std.specs.Cmp.Lexicographic.{bytes_decides}
 use Rattle.std.proofs.lemmas.Bool.{false_from_ne_true, both_ways, cond_both, cases_lt, cases_Bool}
 use Rattle.taxi_base.specs.State.{name_precedes, named, left_out, put_in}
 use Rattle.taxi_base.proofs.NameLaws.{name_precedes-not_itself, name_precedes-one_way}
-use Rattle.taxi_base.proofs.ListLaws.{AllPairs-first, AllPairs-rest}
+use Rattle.taxi_base.proofs.ListLaws.{AllPairs-first, AllPairs-rest, All-insert}
 
 -- no name stands before itself
 before-other : (a b : List ℕ) → IsTrue (name_precedes a b) → a ≢ b
@@ -87,3 +88,15 @@ module _ {X : Type 0} (name_of : X → List ℕ) where
   insert-gap x (y ∷ ys) (suc place) low before after =
       rw (name_precedes-one_way (name_of y) (name_of x) (before 0 y (omega arith) (omega arith)))
       (ap (λ (zs : List X). y ∷ zs) (insert-gap x ys place (omega arith) (λ k d from until. before (suc k) d (omega arith) (omega arith)) (λ k d from until. after (suc k) d (omega arith) (omega arith))))
+
+-- what is put in where its name stands leaves the names in order
+pub ordered-insert : {X : Type 0} (name_of : X → List ℕ) (x : X) (xs : List X) (place : ℕ) → place ≤ length xs → AllPairs (Precede name_of) xs
+    → AllWithin (λ y. IsTrue (name_precedes (name_of y) (name_of x))) xs 0 place → AllWithin (λ y. IsTrue (name_precedes (name_of x) (name_of y))) xs place (length xs)
+    → AllPairs (Precede name_of) (insert xs place x)
+ordered-insert name_of x xs zero low ordered before after = AllPairs-cons (Precede name_of) x xs (λ k d within. after k d (omega arith) within) ordered
+ordered-insert name_of x [] (suc place) low ordered before after = absurd (omega arith)
+ordered-insert name_of x (y ∷ ys) (suc place) low ordered before after =
+    AllPairs-cons (Precede name_of) y (insert ys place x)
+    (All-insert (Precede name_of y) ys place x (before 0 y (omega arith) (omega arith)) (AllPairs-first (Precede name_of) y ys ordered))
+    (ordered-insert name_of x ys place (omega arith) (AllPairs-rest (Precede name_of) y ys ordered)
+    (λ k d from until. before (suc k) d (omega arith) (omega arith)) (λ k d from until. after (suc k) d (omega arith) (omega arith)))

@@ -5,7 +5,8 @@ use Rattle.std.proofs.lemmas.Bool.Decides.{nat_tests}
 use Rattle.taxi_base.specs.declared.rows.Span.{Span}
 use Rattle.taxi_base.specs.Windows.{span_has, covers, AreApart, AreWindows, with_second, windows_from, windows_before}
 
-AreApart-lower : (low high : ℕ) (ws : List Span) → low ≤ high → AreApart high ws → AreApart low ws
+-- windows apart from a second on are so from an earlier one on
+pub AreApart-lower : (low high : ℕ) (ws : List Span) → low ≤ high → AreApart high ws → AreApart low ws
 AreApart-lower low high [] under apart = tt
 AreApart-lower low high (w ∷ ws) under apart = (omega arith, apart.1, apart.2)
 

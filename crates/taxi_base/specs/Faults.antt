@@ -27,6 +27,11 @@ first_name None b = b
 first_name (Some a) None = Some a
 first_name (Some a) (Some b) = if name_precedes b a then Some b else Some a
 
+-- the first of the names of a kind; none where there is none
+abbrev pub IsFirstOf : (List ℕ → Type 0) → Option (List ℕ) → Type 0
+IsFirstOf IsOne None = (name : List ℕ) → IsOne name → ⊥
+IsFirstOf IsOne (Some name) = IsOne name × ((other : List ℕ) → IsOne other → IsFalse (name_precedes other name))
+
 -- the first name of a party, of a flight, and of a holder of either kind that holds a conflicting segment at a second
 abbrev pub party_at : Airport → State → Segment → ℕ → Option (List ℕ)
 party_at airport state s t = option_map (λ p. p.name) (find (λ p. blocks airport.conflicts s t (party_hold p)) state.parties)

@@ -1,8 +1,8 @@
 -- The conditions of a well-formed airport are fit: among holds, and in windows that end by the horizon.
-use Rattle.std.proofs.Common.{◌≡◌, ℕ, ◌<◌, ◌≤◌, List, [], ◌∷◌, length, get_or, inl, inr, IsFalse, refl, sym, subst, arith}
+use Rattle.std.proofs.Common.{◌≡◌, ℕ, ◌<◌, ◌≤◌, List, [], ◌∷◌, length, get_or, IsFalse, refl, subst, arith}
 use Rattle.std.specs.Prelude.{All}
-use Rattle.std.proofs.lemmas.Bool.{cases_lt, or_from, and_left, le-ltb}
-use Rattle.std.proofs.lemmas.List.{get_or_past, get_or_default}
+use Rattle.std.proofs.lemmas.Bool.{or_from, and_left, le-ltb}
+use Rattle.std.proofs.lemmas.List.{get_or_default}
 use Rattle.std.proofs.lemmas.List.Elements.{All-nil, All-head, All-tail}
 use Rattle.taxi_base.specs.declared.numbers.Segment.{Segment}
 use Rattle.taxi_base.specs.declared.numbers.Class.{Class}
@@ -13,13 +13,9 @@ use Rattle.taxi_base.specs.Walks.{conditions_among, conditions_in_windows}
 use Rattle.taxi_base.proofs.AirportLaws.{seconds-range}
 use Rattle.taxi_base.proofs.WindowLaws.{span_has-after, AreWindows-member, IsWindow-by}
 use Rattle.taxi_base.proofs.WalkLaws.{conditions_among-bounded}
+use Rattle.taxi_base.proofs.ListLaws.{All-at}
 use Rattle.walk_labels.specs.Places.{AreFit}
 use Rattle.walk_labels.specs.PlacesInWindows.{AreWindowLists}
-
--- what holds of each element and of the default holds at each index
-pub All-at : {X : Type 0} (P : X → Type 0) (xs : List X) (k : ℕ) (d : X) → P d → All P xs → P (get_or xs k d)
-All-at P xs k d default all =
-    elim (cases_lt k (length xs)) [ inl low ↦ all k d low | inr past ↦ subst P (sym (get_or_past xs k d past)) default ]
 
 pub covers-past : (stop t : ℕ) (ws : List Span) → All (λ w. w.until ≤ stop) ws → stop ≤ t → IsFalse (covers ws t)
 covers-past stop t [] by past = refl

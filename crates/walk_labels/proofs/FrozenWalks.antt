@@ -1,6 +1,6 @@
 -- A flight under way: the walks that keep its steps done are these steps before the walks that go on with the step begun.
-use Rattle.std.proofs.Common.{◌≡◌, ℕ, zero, suc, ◌+◌, ◌-◌, ◌<◌, ◌≤◌, List, [], ◌∷◌, ◌++◌, take, inl, inr, leb, Option, Some, slice_get, cond, refl, sym, ◌∙◌, ap, subst, arith}
-use Rattle.std.proofs.lemmas.Bool.{cases_lt, cond-true, cond-false, le-leb, lt-leb}
+use Rattle.std.proofs.Common.{◌≡◌, ℕ, suc, ◌+◌, ◌-◌, ◌<◌, ◌≤◌, List, [], ◌∷◌, ◌++◌, take, inl, inr, leb, Option, Some, slice_get, cond, sym, ◌∙◌, ap, subst, arith}
+use Rattle.std.proofs.lemmas.Bool.{cases_lt, cond-false, lt-leb}
 use Rattle.std.proofs.lemmas.List.Sums.{sum_by-cons}
 use Rattle.taxi_base.specs.declared.numbers.Node.{Node}
 use Rattle.taxi_base.specs.declared.rows.Step.{Step}
@@ -8,43 +8,10 @@ use Rattle.taxi_base.specs.Airport.{layout_of}
 use Rattle.taxi_base.specs.Walks.{Conditions, IsFeasibleStep, IsFeasibleWalk, IsRoute, AtFirst, AtLast, ReachesNode, Resumes, end_of}
 use Rattle.taxi_base.specs.State.{entered_count, step_begun, steps_done, IsResumed}
 use Rattle.taxi_base.proofs.WalkLaws.{IsFeasibleStep-takes}
+use Rattle.taxi_base.proofs.AgainLaws.{IsFeasibleWalk-back, end_of-back, begun-parts, count-entered}
 use Rattle.walk_labels.specs.Places.{AreFit}
 
--- ---- lists of steps
-
--- the steps of a walk from one on are a walk
-walk_from : (c : Conditions) (done : List Step) (t : Step) (rest : List Step) → IsFeasibleWalk c (done ++ t ∷ rest) → IsFeasibleWalk c (t ∷ rest)
-walk_from c [] t rest walk = walk
-walk_from c (f ∷ []) t rest walk = walk.2
-walk_from c (f ∷ g ∷ done) t rest walk = walk_from c (g ∷ done) t rest walk.2
-
-pub end_of-after : (done : List Step) (t : Step) (rest : List Step) → end_of (done ++ t ∷ rest) ≡ end_of (t ∷ rest)
-end_of-after [] t rest = refl
-end_of-after (f ∷ []) t rest = refl
-end_of-after (f ∷ g ∷ done) t rest = end_of-after (g ∷ done) t rest
-
 -- ---- the step begun
-
--- the last of the first steps, if there is one, splits the steps
-split_at : (k : ℕ) (steps : List Step) (s : Step) → slice_get (take (suc k) steps) k ≡ Some s → (later : List Step) × (steps ≡ take k steps ++ s ∷ later)
-split_at k [] s e = absurd (cc e)
-split_at zero (t ∷ steps) s e = let same : t ≡ s = cc in (steps, λ i. same i ∷ steps)
-split_at (suc k) (t ∷ steps) s e =
-    let rest = split_at k steps s e in
-    (rest.0, ap (λ (list : List Step). t ∷ list) rest.1)
-
-split_by : (n : ℕ) (steps : List Step) (s : Step) → slice_get (take n steps) (n - 1) ≡ Some s → (later : List Step) × (steps ≡ take (n - 1) steps ++ s ∷ later)
-split_by zero steps s e = absurd (cc e)
-split_by (suc k) steps s e =
-    let less : k ≡ suc k - 1 = omega arith in
-    subst (λ (m : ℕ). slice_get (take (suc k) steps) m ≡ Some s → (later : List Step) × (steps ≡ take m steps ++ s ∷ later)) less (split_at k steps s) e
-
-pub begun_splits : (time : ℕ) (old : List Step) (begun : Step) → step_begun time old ≡ Some begun → (later : List Step) × (old ≡ steps_done time old ++ begun ∷ later)
-begun_splits time old begun e = split_by (entered_count time old) old begun e
-
-count_in : (time : ℕ) (s : Step) (steps : List Step) → s.enter ≤ time → entered_count time (s ∷ steps) ≡ 1 + entered_count time steps
-count_in time s steps by =
-    sum_by-cons (λ (x : Step). cond (leb x.enter time) 1 0) s steps ∙ ap (λ (n : ℕ). n + entered_count time steps) (cond-true (leb s.enter time) 1 0 (le-leb s.enter time by))
 
 count_out : (time : ℕ) (s : Step) (steps : List Step) → time < s.enter → entered_count time (s ∷ steps) ≡ 0 + entered_count time steps
 count_out time s steps past =
@@ -84,7 +51,7 @@ begun_leaves_by c fit time begun s [] walk e before =
     elim (cases_lt time s.enter) [
       | inl past ↦ absurd (begun_none (s ∷ []) begun (subst (λ (n : ℕ). begun_of n (s ∷ []) ≡ Some begun) (none_entered c fit time s [] walk past) e))
       | inr by ↦
-          let is : s ≡ begun = begun_first s [] begun (subst (λ (n : ℕ). begun_of n (s ∷ []) ≡ Some begun) (count_in time s [] by) e) in
+          let is : s ≡ begun = begun_first s [] begun (subst (λ (n : ℕ). begun_of n (s ∷ []) ≡ Some begun) (count-entered time s [] by) e) in
           omega (arith, ap (λ (t : Step). t.leave) is)
     ]
 begun_leaves_by c fit time begun s (t ∷ rest) walk e before =
@@ -92,13 +59,13 @@ begun_leaves_by c fit time begun s (t ∷ rest) walk e before =
       | inl past ↦ absurd (begun_none (s ∷ t ∷ rest) begun (subst (λ (n : ℕ). begun_of n (s ∷ t ∷ rest) ≡ Some begun) (none_entered c fit time s (t ∷ rest) walk past) e))
       | inr by ↦ elim (cases_lt time t.enter) [
         | inl later ↦
-            let one : entered_count time (s ∷ t ∷ rest) ≡ 1 = count_in time s (t ∷ rest) by ∙ ap (λ (n : ℕ). 1 + n) (none_entered c fit time t rest walk.2 later) in
+            let one : entered_count time (s ∷ t ∷ rest) ≡ 1 = count-entered time s (t ∷ rest) by ∙ ap (λ (n : ℕ). 1 + n) (none_entered c fit time t rest walk.2 later) in
             let is : s ≡ begun = begun_first s (t ∷ rest) begun (subst (λ (n : ℕ). begun_of n (s ∷ t ∷ rest) ≡ Some begun) one e) in
             omega (arith, ap (λ (u : Step). u.leave) is, walk.1.at_once)
         | inr also ↦
             let n : ℕ = entered_count time rest in
-            let fewer : entered_count time (t ∷ rest) ≡ suc n = count_in time t rest also ∙ one_more n in
-            let all : entered_count time (s ∷ t ∷ rest) ≡ suc (suc n) = count_in time s (t ∷ rest) by ∙ ap (λ (m : ℕ). 1 + m) fewer ∙ one_more (suc n) in
+            let fewer : entered_count time (t ∷ rest) ≡ suc n = count-entered time t rest also ∙ one_more n in
+            let all : entered_count time (s ∷ t ∷ rest) ≡ suc (suc n) = count-entered time s (t ∷ rest) by ∙ ap (λ (m : ℕ). 1 + m) fewer ∙ one_more (suc n) in
             let there : begun_of (suc n) (t ∷ rest) ≡ Some begun = begun_later n s (t ∷ rest) begun (subst (λ (m : ℕ). begun_of m (s ∷ t ∷ rest) ≡ Some begun) all e) in
             begun_leaves_by c fit time begun t rest walk.2 (subst (λ (m : ℕ). begun_of m (t ∷ rest) ≡ Some begun) (sym fewer) there) before
       ]
@@ -116,7 +83,7 @@ begun_leaves c fit time begun (s ∷ rest) walk e before = begun_leaves_by c fit
 
 module _ (c : Conditions) (done : List Step) (begun : Step) (later : List Step) (old : IsFeasibleWalk c (done ++ begun ∷ later)) (time : ℕ) (target : Node) where
   pub begun_made : IsFeasibleStep c begun
-  begun_made = first later (walk_from c done begun later old)
+  begun_made = first later (IsFeasibleWalk-back c done begun later old)
     where
       first : (rest : List Step) → IsFeasibleWalk c (begun ∷ rest) → IsFeasibleStep c begun
       first [] walk = walk
@@ -133,8 +100,8 @@ module _ (c : Conditions) (done : List Step) (begun : Step) (later : List Step) 
       go (t ∷ rest) joined begins ends = (
         t ∷ rest,
         joined,
-        record { walk = walk_from c done t rest (subst (IsFeasibleWalk c) joined resumed.walk); begins = begins; ends = ends },
-        ap end_of joined ∙ end_of-after done t rest,
+        record { walk = IsFeasibleWalk-back c done t rest (subst (IsFeasibleWalk c) joined resumed.walk); begins = begins; ends = ends },
+        ap end_of joined ∙ end_of-back done t rest,
       )
 
   -- where none goes on none is resumed, and none ends sooner
@@ -149,11 +116,11 @@ module _ (c : Conditions) (done : List Step) (begun : Step) (later : List Step) 
 
 module _ (c : Conditions) (old : List Step) (walk : IsFeasibleWalk c old) (time : ℕ) (begun : Step) (is : step_begun time old ≡ Some begun) where
   later_steps : List Step
-  later_steps = (begun_splits time old begun is).0
+  later_steps = (begun-parts time old begun is).0
 
   whole : IsFeasibleWalk c (steps_done time old ++ begun ∷ later_steps)
   unfolding later_steps
-  whole = subst (IsFeasibleWalk c) (begun_splits time old begun is).1 walk
+  whole = subst (IsFeasibleWalk c) (begun-parts time old begun is).1 walk
 
   pub frozen_none : (target : Node) → ((rest : List Step) → IsRoute c (Resumes begun time) (ReachesNode (layout_of c.airport) target) rest → ⊥)
       → (steps : List Step) → IsResumed c (steps_done time old) begun time target steps → ⊥

@@ -4,27 +4,18 @@ use Rattle.std.specs.Prelude.{All, AllPairs, Contains}
 use Rattle.std.proofs.lemmas.Bool.{cases_lt, and_parts, and_from, lt-ltb, eq-eqb, or_left, or_right}
 use Rattle.std.proofs.lemmas.List.{get_or_append_left, get_or-append-add, get_or-append_right, get_or_default}
 use Rattle.std.proofs.lemmas.List.Kept.{AllPairs-cons}
-use Rattle.std.proofs.lemmas.List.Elements.{All-nil, All-cons, All-head, All-tail, All-append, All-map, All-weaker, Contains-append_left, Contains-append_right}
+use Rattle.std.proofs.lemmas.List.Elements.{All-nil, All-cons, All-append, All-map, All-weaker, Contains-append_left, Contains-append_right}
 use Rattle.taxi_base.specs.declared.numbers.Arc.{Arc}
 use Rattle.taxi_base.specs.declared.numbers.Class.{Class}
 use Rattle.taxi_base.specs.declared.rows.Span.{Span}
 use Rattle.taxi_base.specs.Airport.{Airport, layout_of, segment_of, arc_exists, seconds}
 use Rattle.taxi_base.specs.Windows.{AreApart, IsWindow, covers}
 use Rattle.taxi_base.specs.Walks.{conditions_in_windows}
-use Rattle.taxi_base.proofs.ListLaws.{AllPairs-first, AllPairs-rest, Contains-map}
+use Rattle.taxi_base.proofs.ListLaws.{Contains-map, All-at, AllPairs-append}
 use Rattle.taxi_base.proofs.AirportLaws.{arc_exists-segment}
 use Rattle.taxi_base.proofs.WindowLaws.{AreWindows-member, AreWindows-whole}
 use Rattle.walk_labels.specs.Places.{Place, IsPlace, ArePlaces, no_place, place_at, place_precedes}
 use Rattle.walk_labels.specs.PlacesInWindows.{AreWindowLists, cells_of_arc, cells_before, cells_in, can_use}
-use Rattle.walk_labels.proofs.FitConditions.{All-at}
-
--- ---- lists in order
-
-pub AllPairs-append : {X : Type 0} (R : X → X → Type 0) (xs ys : List X) → AllPairs R xs → AllPairs R ys → All (λ x. All (R x) ys) xs → AllPairs R (xs ++ ys)
-AllPairs-append R [] ys a b across = b
-AllPairs-append R (x ∷ xs) ys a b across =
-    AllPairs-cons R x (xs ++ ys) (All-append (R x) xs ys (AllPairs-first R x xs a) (All-head (λ z. All (R z) ys) x xs across))
-    (AllPairs-append R xs ys (AllPairs-rest R x xs a) b (All-tail (λ z. All (R z) ys) x xs across))
 
 abbrev place_in : Arc → Span → Place
 place_in arc w = record { arc = arc; window = w }

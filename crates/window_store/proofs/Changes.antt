@@ -1,30 +1,15 @@
 -- One list after another is changed, each once, and so just those in conflict with a segment.
 use Rattle.std.proofs.Common.{◌≡◌, ◌≢◌, ℕ, ◌+◌, ◌<◌, ◌≤◌, List, [], ◌∷◌, ◌++◌, length, get_or, set, take, inl, inr, IsTrue, refl, sym, ◌∙◌, ap, subst, arith, length-set}
 use Rattle.std.specs.Prelude.{Contains, All, AllPairs}
-use Rattle.std.proofs.lemmas.Bool.{and_parts, and_from}
 use Rattle.std.proofs.lemmas.List.{take_more, take_all, get_or-set_same, get_or-set_other, get_or-take, get_or_default, length-take-le}
 use Rattle.std.proofs.lemmas.List.Elements.{Contains-push_cases, Contains-push, Contains-append_left, Contains-get_or, All-get_or}
 use Rattle.taxi_base.specs.declared.numbers.Segment.{Segment}
-use Rattle.taxi_base.specs.declared.rows.Span.{Span}
 use Rattle.taxi_base.specs.Airport.{conflict}
-use Rattle.taxi_base.specs.Windows.{Hold}
-use Rattle.taxi_base.proofs.HoldLaws.{clash-turned}
 use Rattle.conflict_sets.specs.Conflicts.{AreConflicts}
 use Rattle.conflict_sets.proofs.Members.{same_segment}
 use Rattle.window_store.specs.Spans.{Listed}
 use Rattle.window_store.specs.Store.{no_list}
 use Rattle.window_store.specs.Edits.{list_in, ChangesEach, ChangesConflicting}
-
--- conflict goes both ways: two holds of one second clash either way
-pub conflict-turned : (sets : List (List Segment)) (s t : Segment) → IsTrue (conflict sets s t) → IsTrue (conflict sets t s)
-conflict-turned sets s t h =
-    let second : Span = record { from = 0; until = 1 } in
-    let a : Hold = record { segment = s; span = second } in
-    let b : Hold = record { segment = t; span = second } in
-    (and_parts (conflict sets t s) _ (clash-turned sets a b (and_from (conflict sets s t) _ h refl))).0
-
-pub apart-turned : (sets : List (List Segment)) (s t : Segment) → (IsTrue (conflict sets s t) → ⊥) → IsTrue (conflict sets t s) → ⊥
-apart-turned sets s t apart h = apart (conflict-turned sets t s h)
 
 -- in a list of rising numbers none stands twice
 pub not_before : (segments : List Segment) (i : ℕ) (d : Segment) → AllPairs (λ (a b : Segment). a.0 < b.0) segments → i < length segments → Contains (take i segments) (get_or segments i d) → ⊥

@@ -1,5 +1,5 @@
 -- How far the seconds of a span have been given back, and what each step of that makes of the list.
-use Rattle.std.proofs.Common.{◌≡◌, ℕ, ◌+◌, ◌<◌, ◌≤◌, List, ◌∷◌, length, inl, inr, refl, sym, ◌∙◌, subst, arith}
+use Rattle.std.proofs.Common.{◌≡◌, ℕ, ◌+◌, ◌<◌, ◌≤◌, List, ◌∷◌, length, inl, inr, sym, ◌∙◌, subst, arith}
 use Rattle.taxi_base.specs.declared.rows.Span.{Span}
 use Rattle.taxi_base.specs.Windows.{AreWindows}
 use Rattle.interval_list.specs.Intervals.{Intervals, span, spans_of, with_span, IsNormal, OwnsSame, KeepsUntouched}
@@ -16,17 +16,6 @@ pub record IsGivenBackUntil (from : ℕ) (s : Span) (spans : List Span) (old new
   pub kept : KeepsUntouched s old.windows new.windows
   pub ids : OwnsSame old new
   pub number : length new.windows + length new.spare ≡ length old.windows + length old.spare
-
-pub IsGivenBackUntil-start : (s : Span) (spans : List Span) (l : Intervals) → s.from ≤ s.until → IsNormal l → IsGivenBackUntil s.from s spans l l
-IsGivenBackUntil-start s spans l some normal = record {
-  after = omega arith;
-  within = some;
-  windows = λ horizon short are. are;
-  normal = normal;
-  kept = λ w stands away. stands;
-  ids = λ id. refl;
-  number = refl;
-}
 
 -- the others hold the next seconds
 pub IsGivenBackUntil-held : (from next until : ℕ) (s : Span) (spans : List Span) (old new : Intervals) → from ≤ next → next ≤ until → next ≤ s.until → IsHeldUntil spans from until

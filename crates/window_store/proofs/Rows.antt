@@ -115,20 +115,6 @@ module _ (row : List Span) (at : ℕ) (s w : Span) (on : at < length row) (is : 
       ∙ sym (ap (λ zs. take at row ++ (zs ++ (behind s w ++ rest))) (before-no s w begins) ∙ ap (λ zs. take at row ++ (zs ++ rest)) (behind-yes s w ends))
       ∙ ap (λ v. take at row ++ (before s v ++ (behind s v ++ rest))) is
 
-  pub cut-both : (x y : Span) → w.from < s.from → s.until < w.until → x ≡ span w.from (min w.until s.from) → y ≡ span (max w.from s.until) w.until
-      → insert (slice_set row at x) (suc at) y ≡ cut_in row at s
-  cut-both x y begins ends left right =
-      insert-split row at x y on
-      ∙ ap (λ z. take at row ++ z ∷ y ∷ rest) left
-      ∙ ap (λ z. take at row ++ span w.from (min w.until s.from) ∷ z ∷ rest) right
-      ∙ sym (ap (λ zs. take at row ++ (zs ++ (behind s w ++ rest))) (before-yes s w begins) ∙ ap (λ zs. take at row ++ span w.from (min w.until s.from) ∷ (zs ++ rest)) (behind-yes s w ends))
-      ∙ ap (λ v. take at row ++ (before s v ++ (behind s v ++ rest))) is
-
-  pub cut-none : s.from ≤ w.from → w.until ≤ s.until → remove row at ≡ cut_in row at s
-  cut-none begins ends =
-      sym (ap (λ zs. take at row ++ (zs ++ (behind s w ++ rest))) (before-no s w begins) ∙ ap (λ zs. take at row ++ (zs ++ rest)) (behind-no s w ends))
-      ∙ ap (λ v. take at row ++ (before s v ++ (behind s v ++ rest))) is
-
 -- ---- what putting a span in makes of a row
 
 -- where it neither meets nor touches the first, it stands before all

@@ -9,6 +9,7 @@ use Rattle.taxi_base.specs.declared.rows.Span.{Span}
 use Rattle.taxi_base.specs.declared.rows.Step.{Step}
 use Rattle.taxi_base.specs.Airport.{conflict, segment_of}
 use Rattle.taxi_base.specs.Windows.{Hold, hold_of, holds_of}
+use Rattle.taxi_base.proofs.HoldLaws.{conflict-turned}
 use Rattle.interval_list.specs.declared.window.Window.{Window}
 use Rattle.window_store.specs.Spans.{Listed, StandsForSpans}
 use Rattle.window_store.specs.Store.{no_list}
@@ -18,7 +19,6 @@ use Rattle.window_store.specs.Conflicting.{spans_in_conflict}
 use Rattle.window_store.specs.Edits.{of_lists, list_in, ChangesConflicting, EachInConflict, KeepsOwned, CanHold, IsHeld, CanRelease, IsReleased, IsRaised, AllKeepOwned, AreHeld, AreReleased, AreRaised}
 use Rattle.window_store.proofs.Standing.{in_conflict, list-spans, spans-list, list-moved, list-moved_back, list-without, list-with, conflicting-append, conflicting-steps, steps-push, conflicting-part, conflicting-le}
 use Rattle.window_store.proofs.Pieces.{All-front}
-use Rattle.window_store.proofs.Changes.{conflict-turned}
 
 -- ---- ids and nodes
 

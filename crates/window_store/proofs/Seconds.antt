@@ -1,18 +1,16 @@
 -- When a segment is held first, and up to when, as one span more is looked at.
 use Rattle.std.proofs.Common.{◌≡◌, ℕ, ◌+◌, ◌<◌, ◌≤◌, max, false, ◌||◌, List, [], ◌∷◌, ◌++◌, length, get_or, take, inl, inr, IsTrue, IsFalse, refl, sym, ◌∙◌, subst, arith}
-use Rattle.std.specs.Prelude.{slice_get, Some}
 use Rattle.std.proofs.lemmas.Bool.{cases_lt, cases_Bool, both_ways, or_cases, or_left, or_right, or_from, false_from_ne_true, true≢false}
 use Rattle.std.proofs.lemmas.List.Folds.{list_any-append}
 use Rattle.taxi_base.specs.declared.rows.Span.{Span}
 use Rattle.taxi_base.specs.declared.rows.Step.{Step}
 use Rattle.taxi_base.specs.declared.numbers.Segment.{Segment}
 use Rattle.taxi_base.specs.Airport.{conflict}
-use Rattle.taxi_base.specs.Windows.{Hold, HeldRoute, hold_of, holds_of, span_has, covers}
+use Rattle.taxi_base.specs.Windows.{Hold, hold_of, holds_of, span_has, covers}
 use Rattle.taxi_base.proofs.WindowLaws.{span_has-from, span_has-true}
 use Rattle.window_store.specs.Held.{IsFirstHeld, IsHeldUntil}
-use Rattle.window_store.specs.Stands.{route_holds}
 use Rattle.window_store.specs.Conflicting.{spans_in_conflict, ReachesUpTo}
-use Rattle.window_store.proofs.Standing.{in_conflict, not_in_conflict, in_conflict-append, in_conflict-more, in_conflict-route}
+use Rattle.window_store.proofs.Standing.{in_conflict, not_in_conflict, in_conflict-append, in_conflict-more}
 
 pub covers-append : (xs ys : List Span) (t : ℕ) → covers (xs ++ ys) t ≡ (covers xs t || covers ys t)
 covers-append xs ys t = list_any-append (λ w. span_has w t) xs ys
@@ -144,24 +142,10 @@ module _ (sets : List (List Segment)) (s : Segment) where
       rw (in_conflict-more horizon clearance sets s steps k d low)
       (reaches-append (spans_in_conflict sets s (holds_of horizon clearance (take k steps))) (spans_in_conflict sets s (hold_of horizon clearance (get_or steps k d) ∷ [])) from a b until before here is)
 
-  pub first-route : (horizon : ℕ) (routes : List HeldRoute) (k : ℕ) (route : HeldRoute) (from until first found : ℕ) → slice_get routes k ≡ Some route
-      → IsFirstHeld (spans_in_conflict sets s (route_holds horizon (take k routes))) from until first → IsFirstHeld (spans_in_conflict sets s (holds_of horizon route.clearance route.steps)) from first found
-      → IsFirstHeld (spans_in_conflict sets s (route_holds horizon (take (k + 1) routes))) from until found
-  first-route horizon routes k route from until first found is before here =
-      rw (in_conflict-route horizon sets s routes k route is)
-      (first-append (spans_in_conflict sets s (route_holds horizon (take k routes))) (spans_in_conflict sets s (holds_of horizon route.clearance route.steps)) from until first found before here)
-
   pub first-both : (holds others : List Hold) (from until first found : ℕ) → IsFirstHeld (spans_in_conflict sets s holds) from until first
       → IsFirstHeld (spans_in_conflict sets s others) from first found → IsFirstHeld (spans_in_conflict sets s (holds ++ others)) from until found
   first-both holds others from until first found before here =
       rw (in_conflict-append sets s holds others) (first-append (spans_in_conflict sets s holds) (spans_in_conflict sets s others) from until first found before here)
-
-  pub reaches-route : (horizon : ℕ) (routes : List HeldRoute) (k : ℕ) (route : HeldRoute) (from a b until : ℕ) → slice_get routes k ≡ Some route
-      → ReachesUpTo (spans_in_conflict sets s (route_holds horizon (take k routes))) from a → ReachesUpTo (spans_in_conflict sets s (holds_of horizon route.clearance route.steps)) from b → until ≡ max a b
-      → ReachesUpTo (spans_in_conflict sets s (route_holds horizon (take (k + 1) routes))) from until
-  reaches-route horizon routes k route from a b until is before here most =
-      rw (in_conflict-route horizon sets s routes k route is)
-      (reaches-append (spans_in_conflict sets s (route_holds horizon (take k routes))) (spans_in_conflict sets s (holds_of horizon route.clearance route.steps)) from a b until before here most)
 
   pub reaches-both : (holds others : List Hold) (from a b until : ℕ) → ReachesUpTo (spans_in_conflict sets s holds) from a → ReachesUpTo (spans_in_conflict sets s others) from b → until ≡ max a b
       → ReachesUpTo (spans_in_conflict sets s (holds ++ others)) from until

@@ -1,11 +1,9 @@
 -- Which lists stand for which holds: only the spans of those in conflict count, and not their order.
-use Rattle.std.proofs.Common.{◌≡◌, ℕ, suc, ◌+◌, ◌<◌, ◌≤◌, Bool, true, false, not, cond, Option, None, ◌&&◌, ◌||◌, List, [], ◌∷◌, ◌++◌, length, get_or, take, IsTrue, IsFalse, inl, inr, refl, sym, ◌∙◌, ap, arith}
-use Rattle.std.specs.Prelude.{All, map, filter, nat_lt, slice_get, option_map, Some}
+use Rattle.std.proofs.Common.{◌≡◌, ℕ, suc, ◌+◌, ◌<◌, ◌≤◌, Bool, true, false, not, cond, ◌&&◌, ◌||◌, List, [], ◌∷◌, ◌++◌, length, get_or, take, IsTrue, IsFalse, inl, inr, refl, sym, ◌∙◌, ap, arith}
+use Rattle.std.specs.Prelude.{All, map, filter, nat_lt}
 use Rattle.std.specs.List.{list_any}
 use Rattle.std.proofs.lemmas.Bool.{cases_Bool, cond-true, cond-false}
-use Rattle.std.proofs.lemmas.List.{append-nil, map-append, map_more, take_more, length-append}
-use Rattle.std.proofs.lemmas.List.Concat.{flat_map-append}
-use Rattle.std.proofs.lemmas.Option.{none-some, slice_get_within, get_or_from_slice_get}
+use Rattle.std.proofs.lemmas.List.{map-append, map_more, length-append}
 use Rattle.std.proofs.lemmas.List.Sums.{length-filter, count_by-le-length, sum_by-cons, sum_by_push, sum_by_more, sum_by-take-le}
 use Rattle.std.proofs.lemmas.List.Elements.{All-from_get_or, filter-append}
 use Rattle.std.proofs.lemmas.List.Folds.{list_any-append}
@@ -14,10 +12,10 @@ use Rattle.taxi_base.specs.declared.rows.Span.{Span}
 use Rattle.taxi_base.specs.declared.rows.Step.{Step}
 use Rattle.taxi_base.specs.Airport.{conflict, segment_of}
 use Rattle.interval_list.specs.Intervals.{spans_of}
-use Rattle.taxi_base.specs.Windows.{Hold, HeldRoute, hold_of, holds_of, span_has, covers, blocks, is_free, AreWindows}
+use Rattle.taxi_base.specs.Windows.{Hold, hold_of, holds_of, span_has, covers, blocks, is_free, AreWindows}
 use Rattle.window_store.specs.Spans.{Listed, StandsForSpans, is_unheld}
 use Rattle.window_store.specs.Store.{no_list, Store, list_at}
-use Rattle.window_store.specs.Stands.{conflicting, conflicting_steps, route_holds, ListStandsFor, StandsFor}
+use Rattle.window_store.specs.Stands.{conflicting, conflicting_steps, ListStandsFor, StandsFor}
 use Rattle.window_store.specs.Conflicting.{spans_in_conflict}
 
 length-map_span : (holds : List Hold) → length (map (λ (h : Hold). h.span) holds) ≡ length holds
@@ -116,31 +114,6 @@ pub in_conflict-more : (horizon clearance : ℕ) (sets : List (List Segment)) (s
 in_conflict-more horizon clearance sets s steps k d low =
     ap (λ (holds : List Hold). spans_in_conflict sets s holds) (map_more (hold_of horizon clearance) steps k d low)
     ∙ in_conflict-append sets s (holds_of horizon clearance (take k steps)) (hold_of horizon clearance (get_or steps k d) ∷ [])
-
--- one route more
-pub in_conflict-route : (horizon : ℕ) (sets : List (List Segment)) (s : Segment) (routes : List HeldRoute) (k : ℕ) (route : HeldRoute) → slice_get routes k ≡ Some route
-    → spans_in_conflict sets s (route_holds horizon (take (k + 1) routes))
-    ≡ spans_in_conflict sets s (route_holds horizon (take k routes)) ++ spans_in_conflict sets s (holds_of horizon route.clearance route.steps)
-in_conflict-route horizon sets s routes k route here =
-    let held : HeldRoute → List Hold = λ r. holds_of horizon r.clearance r.steps in
-    let taken : take (k + 1) routes ≡ take k routes ++ route ∷ [] =
-    take_more routes k route (slice_get_within routes k route here) ∙ ap (λ (r : HeldRoute). take k routes ++ r ∷ []) (get_or_from_slice_get routes k route route here) in
-    ap (λ (rs : List HeldRoute). spans_in_conflict sets s (route_holds horizon rs)) taken
-    ∙ ap (λ (holds : List Hold). spans_in_conflict sets s holds)
-    (flat_map-append held (take k routes) (route ∷ []) ∙ ap (λ (last : List Hold). route_holds horizon (take k routes) ++ last) (append-nil (held route)))
-    ∙ in_conflict-append sets s (route_holds horizon (take k routes)) (held route)
-
--- a route by its two parts
-pub route-of : (o : Option HeldRoute) (steps : List Step) (clearance : ℕ) → option_map (λ r. r.steps) o ≡ Some steps → option_map (λ r. r.clearance) o ≡ Some clearance
-    → o ≡ Some (record { steps = steps; clearance = clearance })
-route-of None steps clearance a b = absurd (none-some steps a)
-route-of (Some route) steps clearance a b =
-    let same_steps : route.steps ≡ steps = same a in
-    let same_clearance : route.clearance ≡ clearance = same b in
-    λ i. Some (record { steps = same_steps i; clearance = same_clearance i })
-  where
-    same : {X : Type 0} {x y : X} → Some x ≡ Some y → x ≡ y
-    same e = cc
 
 -- ---- a hold is moved to the front
 

@@ -10,6 +10,7 @@ use Rattle.taxi_base.specs.declared.numbers.Segment.{Segment}
 use Rattle.taxi_base.specs.declared.rows.Step.{Step}
 use Rattle.taxi_base.specs.Airport.{conflict, segment_of}
 use Rattle.taxi_base.specs.Windows.{Hold, holds_of, is_free, AreWindows}
+use Rattle.taxi_base.proofs.HoldLaws.{conflict-turned}
 use Rattle.interval_list.specs.declared.window.Window.{Window}
 use Rattle.interval_list.specs.Intervals.{Intervals, owned, times, spans_of}
 use Rattle.interval_list.proofs.Owning.{times-append, below-same}
@@ -19,7 +20,6 @@ use Rattle.window_store.specs.Stands.{conflicting_steps, ListStandsFor, StandsFo
 use Rattle.window_store.specs.Kept.{IsClearOf, KeepsWindows, KeepsNodes, GainsRoom, DrawsWhatIsLacking}
 use Rattle.window_store.specs.Edits.{of_lists, list_in, KeepsOwned, AllKeepOwned, AreReleased, AreRaised, EachInConflict, HasRoom, GainsNodes}
 use Rattle.window_store.proofs.Standing.{conflicting-append, conflicting-steps, steps-no, conflicting-le}
-use Rattle.window_store.proofs.Changes.{conflict-turned}
 use Rattle.window_store.proofs.Spans.{windows-in_time}
 
 -- what is written back is what the edits made

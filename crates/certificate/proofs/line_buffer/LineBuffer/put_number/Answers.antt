@@ -1,4 +1,4 @@
-use Rattle.std.proofs.Common.{◌∙◌, ◌++◌, ◌+◌, ◌≤◌, List, ℕ, decimal, length, ap, arith}
+use Rattle.std.proofs.Common.{◌∙◌, ◌++◌, List, ℕ, decimal, length, ap, arith}
 use Rattle.certificate.proofs.LineLaws.{has-room, length-with_number}
 use Rattle.certificate.proofs.line_buffer.LineBuffer.put_number.Goals as goal
 

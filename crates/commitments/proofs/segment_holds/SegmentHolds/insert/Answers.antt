@@ -5,8 +5,8 @@ use Rattle.std.proofs.lemmas.List.Elements.{All-weaker}
 use Rattle.std.proofs.lemmas.List.Sorted.{IsPermutation-insert, IsNonDecreasingBy-insert}
 use Rattle.commitments.specs.declared.segment_holds.HeldStep.{HeldStep}
 use Rattle.commitments.specs.Held.{StepList}
-use Rattle.holder_lists.proofs.Inserted.{All-insert}
 use Rattle.commitments.proofs.segment_holds.SegmentHolds.insert.Goals as goal
+use Rattle.taxi_base.proofs.ListLaws.{All-insert}
 
 pub returns-clause-steps : goal.returns-clause-steps
 returns-clause-steps c =

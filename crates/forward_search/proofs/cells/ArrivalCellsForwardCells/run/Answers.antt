@@ -5,7 +5,7 @@ use Rattle.place_cells.specs.Turns.{next_arcs, no_arc}
 use Rattle.place_cells.specs.Ground.{Ground, arc_in, usable_in, IsArcPart}
 use Rattle.place_cells.specs.Grounds.{ground_of}
 use Rattle.place_cells.proofs.LaidLaws.{windows_of-length}
-use Rattle.place_cells.proofs.TurnLaws.{permits-exist}
+use Rattle.taxi_base.proofs.AirportLaws.{permits-exist}
 use Rattle.place_cells.proofs.BesideLaws.{beside_at}
 use Rattle.place_cells.proofs.GroundLaws.{run_parts, next_permitted, part_follows, expansions_in_part}
 use Rattle.forward_search.proofs.cells.ArrivalCellsForwardCells.run.Goals as goal

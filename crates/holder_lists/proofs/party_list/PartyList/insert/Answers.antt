@@ -2,9 +2,10 @@ use Rattle.std.proofs.Common.{◌≡◌, ◌∙◌, ap, true, rules}
 use Rattle.std.specs.Result.{is_ok}
 use Rattle.taxi_base.specs.declared.answers.Party.{Party}
 use Rattle.taxi_base.specs.State.{party_named, parties_with, party_step}
+use Rattle.taxi_base.proofs.ListLaws.{insert-map}
+use Rattle.taxi_base.proofs.NamedLists.{ordered-insert}
 use Rattle.holder_lists.specs.Lists.{PartyListing}
 use Rattle.holder_lists.proofs.Names.{is-gap, put-in-gap}
-use Rattle.holder_lists.proofs.Inserted.{insert-map, ordered-insert}
 use Rattle.holder_lists.proofs.party_list.PartyList.insert.Goals as goal
 
 pub unwrap_err-place-requires : goal.unwrap_err-place-requires

@@ -5,8 +5,8 @@ use Rattle.std.proofs.lemmas.Option.{slice_get-get_or}
 use Rattle.taxi_base.specs.declared.answers.Party.{Party}
 use Rattle.taxi_base.specs.State.{party_step}
 use Rattle.taxi_base.proofs.NamedLists.{Precede}
+use Rattle.taxi_base.proofs.ListLaws.{remove-map}
 use Rattle.holder_lists.specs.Lists.{PartyListing}
-use Rattle.holder_lists.proofs.Inserted.{remove-map}
 use Rattle.holder_lists.proofs.party_list.PartyList.remove.Goals as goal
 
 pub invariant_of-self : goal.invariant_of-self
