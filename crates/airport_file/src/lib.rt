@@ -6,8 +6,6 @@ mod build;
 mod laws;
 mod read;
 mod records;
-#[cfg(test)]
-mod tests;
 
 pub use airport::Airport;
 pub use airport_rules::{AirportFault, LimitKind};

@@ -3,8 +3,6 @@
 
 mod laws;
 mod records;
-#[cfg(test)]
-mod tests;
 mod write;
 
 pub use laws::canonical_texts_are_read_again;

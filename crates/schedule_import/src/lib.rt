@@ -5,8 +5,6 @@ mod answer;
 mod import;
 mod laws;
 mod row;
-#[cfg(test)]
-mod tests;
 mod times;
 
 pub use import::{ScheduleRefused, import_schedule};

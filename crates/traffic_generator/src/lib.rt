@@ -7,8 +7,6 @@ mod draws;
 mod flights;
 mod lines;
 mod places;
-#[cfg(test)]
-mod tests;
 
 pub use airport::generate_airport;
 pub use commands::generate_commands;
