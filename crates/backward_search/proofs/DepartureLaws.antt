@@ -8,17 +8,19 @@ use Rattle.taxi_base.specs.declared.numbers.Arc.{Arc}
 use Rattle.taxi_base.specs.declared.numbers.Node.{Node}
 use Rattle.taxi_base.specs.Airport.{Layout, Ends, ends, arc_exists, head}
 use Rattle.label_core.specs.BackwardWalks.{Finish}
-use Rattle.label_search.specs.Problem.{IsIn}
-use Rattle.label_search.specs.Backward.{IsBackwardProblem}
+use Rattle.label_search.specs.declared.cells.Run.{Run}
+use Rattle.label_search.specs.Problem.{IsIn, IsPartWith}
+use Rattle.label_search.specs.Backward.{IsBackwardProblem, CanEnd}
 use Rattle.walk_labels.specs.Places.{Place, place_at}
 use Rattle.taxi_base.specs.Choices.{OneOf}
 use Rattle.walk_labels.specs.Requests.{leads_to_one_of, finishes_at}
 use Rattle.walk_labels.proofs.RequestCells.{if_some, leads-OneOf}
 use Rattle.place_cells.specs.Turns.{entering_arcs, previous_arcs, no_arc}
-use Rattle.place_cells.specs.Ground.{Ground, cells_of, run_of_arc, IsSound, arc_in, usable_in}
+use Rattle.place_cells.specs.Laid.{AreNumbered, HaveNumbers}
+use Rattle.place_cells.specs.Ground.{Ground, cells_of, run_of_arc, IsSound, arc_in, usable_in, IsArcPart}
 use Rattle.place_cells.proofs.RunLaws.{usable_parts, in_run_of_arc, run_inside}
 use Rattle.place_cells.proofs.TurnLaws.{entering_arcs-all, some-exists}
-use Rattle.place_cells.proofs.GroundLaws.{turn_parts, turns_inside, in_previous_run, takes, small_seconds, small_from, small_last, arc_below}
+use Rattle.place_cells.proofs.GroundLaws.{turn_parts, turns_inside, in_previous_run, takes, small_seconds, small_from, small_last, arc_below, cells_in_part}
 use Rattle.backward_search.specs.Departures.{Ending, finish_at, last_arcs, departure_problem}
 
 -- ---- the finishes
@@ -32,11 +34,11 @@ finish_not layout inside place e x out =
     ap (λ t. cond (t && leads_to_one_of layout e.to (place x).arc) (Some (record { earliest_out = e.earliest; latest_out = e.latest })) None) out
 
 finish_parts : {C : Type 0} (layout : Layout) (inside : C → Bool) (place : C → Place) (e : Ending) (x : C) (f : Finish) → finishes_at layout inside place e.to e.earliest e.latest x ≡ Some f
-    → (inside x ≡ true) × (OneOf (λ node. head layout (place x).arc ≡ Some node) e.to) × (f.earliest_out ≡ e.earliest)
+    → (inside x ≡ true) × (OneOf (λ node. head layout (place x).arc ≡ Some node) e.to) × (f.earliest_out ≡ e.earliest) × (f.latest_out ≡ e.latest)
 finish_parts layout inside place e x f h =
     let given = if_some (inside x && leads_to_one_of layout e.to (place x).arc) (record { earliest_out = e.earliest; latest_out = e.latest }) f h in
     let both = and_parts (inside x) (leads_to_one_of layout e.to (place x).arc) given.0 in
-    (both.0, (leads-OneOf layout e.to (place x).arc).0 both.1, sym (ap (λ (y : Finish). y.earliest_out) given.1))
+    (both.0, (leads-OneOf layout e.to (place x).arc).0 both.1, sym (ap (λ (y : Finish). y.earliest_out) given.1), sym (ap (λ (y : Finish). y.latest_out) given.1))
 
 -- ---- the last arcs
 
@@ -73,6 +75,21 @@ module _ (layout : Layout) where
   last_exist nodes i on =
       let arc : Arc = get_or (last_arcs layout nodes) i no_arc in
       last_arcs-exist nodes arc (i, on, get_or_default (last_arcs layout nodes) i arc no_arc on)
+
+-- ---- the cells in which walks can end
+
+module _ (g : Ground) (lists : length g.windows ≡ length g.layout.links) (numbered : AreNumbered g.numbers.spots g.numbers.first) (room : HaveNumbers g.windows g.numbers.first) where
+  -- of a last arc each is in the part that does not end before walks may end, nor begins after it
+  pub ends_in_part : (from : Node) (e : Ending) (i : ℕ) → i < length (last_arcs g.layout e.to) → (part : Run) → IsArcPart g (get_or (last_arcs g.layout e.to) i no_arc) e.earliest e.latest part
+      → IsPartWith (CanEnd (departure_problem g from e)) ((departure_problem g from e).last_run i) part
+  ends_in_part from e i on part is_part = record {
+    within = λ k is. (is_part.within k is).0;
+    wanted_in = λ k inside can.
+        let h = can.1 in
+        let parts = finish_parts g.layout (usable_in g) (place_at (cells_of g)) e k h.finish h.here in
+        cells_in_part g lists numbered room (get_or (last_arcs g.layout e.to) i no_arc) e.earliest e.latest part is_part (last_exist g.layout e.to i on) k inside parts.0
+        (omega (arith, h.not_early, parts.2)) (omega (arith, h.value, h.in_window, parts.3));
+  }
 
 -- ---- the problem
 

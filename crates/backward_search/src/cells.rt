@@ -105,7 +105,10 @@ impl<'a> BackwardCells for DepartureCells<'a> {
     }
 
     fn last_run(&self, run: usize) -> Run {
-        self.ground.run(self.last[run])
+        let arc = self.last[run];
+        self.ground
+            .part(arc, self.earliest_out, self.latest_out)
+            .run
     }
 
     fn runs_before(&self, _cell: usize, at: Beside<'a>) -> usize {

@@ -5,18 +5,21 @@ use Rattle.std.proofs.lemmas.Bool.{and_parts, cond-true, eqb-true}
 use Rattle.std.proofs.lemmas.List.{get_or_default}
 use Rattle.taxi_base.specs.declared.numbers.Arc.{Arc}
 use Rattle.taxi_base.specs.declared.numbers.Node.{Node}
+use Rattle.taxi_base.specs.declared.rows.Step.{Step}
 use Rattle.taxi_base.specs.Airport.{Layout, Ends, ends, arc_exists, tail, meet}
 use Rattle.label_core.specs.Walks.{Start as CellStart}
-use Rattle.label_search.specs.Problem.{IsProblem, IsIn}
+use Rattle.label_search.specs.declared.cells.Run.{Run}
+use Rattle.label_search.specs.Problem.{IsProblem, IsIn, IsPartWith, CanBegin}
 use Rattle.walk_labels.specs.Places.{Place, place_at}
 use Rattle.walk_labels.specs.Requests.{Beginning, starts_by}
 use Rattle.walk_labels.specs.Requests.Beginning.{at_node, resuming}
 use Rattle.walk_labels.proofs.RequestCells.{if_some, meet-same}
 use Rattle.place_cells.specs.Turns.{leaving_arcs, next_arcs, no_arc}
-use Rattle.place_cells.specs.Ground.{Ground, cells_of, run_of_arc, IsSound, arc_in, usable_in}
+use Rattle.place_cells.specs.Laid.{AreNumbered, HaveNumbers}
+use Rattle.place_cells.specs.Ground.{Ground, cells_of, run_of_arc, IsSound, arc_in, usable_in, IsArcPart}
 use Rattle.place_cells.proofs.RunLaws.{usable_parts, in_run_of_arc, run_inside}
 use Rattle.place_cells.proofs.TurnLaws.{leaving_arcs-all, some-exists}
-use Rattle.place_cells.proofs.GroundLaws.{usable_exists, turn_parts, turns_inside, in_next_run, takes, small_seconds, small_last, arc_below}
+use Rattle.place_cells.proofs.GroundLaws.{usable_exists, turn_parts, turns_inside, in_next_run, takes, small_seconds, small_last, arc_below, cells_in_part}
 use Rattle.forward_search.specs.declared.starting.Start.{Start}
 use Rattle.forward_search.specs.declared.starting.Start.TheVariants as start
 use Rattle.forward_search.specs.Arrivals.{beginning_of, start_at, first_arcs, arrival_problem}
@@ -38,6 +41,24 @@ start_not layout inside place (resuming begun exit_from) x out =
 start_inside : {C : Type 0} (layout : Layout) (inside : C → Bool) (place : C → Place) (b : Beginning) (x : C) (s : CellStart) → starts_by layout inside place b x ≡ Some s → inside x ≡ true
 start_inside layout inside place (at_node node earliest latest) x s e = (and_parts (inside x) (meet (tail layout (place x).arc) (Some node)) (if_some _ _ s e).0).0
 start_inside layout inside place (resuming begun exit_from) x s e = (and_parts (inside x) ((place x).arc.0 == begun.arc.0) (if_some _ _ s e).0).0
+
+-- from when on and until when walks may begin
+abbrev pub earliest_of : Beginning → ℕ
+earliest_of (at_node node earliest latest) = earliest
+earliest_of (resuming begun exit_from) = begun.enter
+
+abbrev pub latest_of : Beginning → ℕ
+latest_of (at_node node earliest latest) = latest
+latest_of (resuming begun exit_from) = begun.enter
+
+start_times : {C : Type 0} (layout : Layout) (inside : C → Bool) (place : C → Place) (b : Beginning) (x : C) (s : CellStart) → starts_by layout inside place b x ≡ Some s
+    → (s.earliest ≡ earliest_of b) × (s.latest ≡ latest_of b)
+start_times layout inside place (at_node node earliest latest) x s e =
+    let is = (if_some (inside x && meet (tail layout (place x).arc) (Some node)) _ s e).1 in
+    (sym (ap (λ (y : CellStart). y.earliest) is), sym (ap (λ (y : CellStart). y.latest) is))
+start_times layout inside place (resuming begun exit_from) x s e =
+    let is = (if_some (inside x && ((place x).arc.0 == begun.arc.0)) _ s e).1 in
+    (sym (ap (λ (y : CellStart). y.earliest) is), sym (ap (λ (y : CellStart). y.latest) is))
 
 -- ---- the first arcs
 
@@ -65,6 +86,37 @@ first_exist layout (resuming begun exit_from) i on = go (arc_exists layout begun
 
     go : (t : Bool) → arc_exists layout begun.arc ≡ t → i < length (cond (arc_exists layout begun.arc) (begun.arc ∷ []) []) → IsTrue (arc_exists layout (get_or (cond (arc_exists layout begun.arc) (begun.arc ∷ []) []) i no_arc))
     go t is on = at_first (arc_exists layout begun.arc) refl i on
+
+-- a step that was begun is by the one first arc
+pub first_begun : (layout : Layout) (begun : Step) (exit_from i : ℕ) → i < length (first_arcs layout (resuming begun exit_from)) → get_or (first_arcs layout (resuming begun exit_from)) i no_arc ≡ begun.arc
+first_begun layout begun exit_from i on = at (arc_exists layout begun.arc) i on
+  where
+    at : (t : Bool) (i : ℕ) → i < length (cond t (begun.arc ∷ []) []) → get_or (cond t (begun.arc ∷ []) []) i no_arc ≡ begun.arc
+    at true zero on = refl
+    at true (suc i) on = absurd (omega arith)
+    at false i on = absurd (omega arith)
+
+-- ---- the cells in which walks can begin
+
+module _ (g : Ground) (lists : length g.windows ≡ length g.layout.links) (numbered : AreNumbered g.numbers.spots g.numbers.first) (room : HaveNumbers g.windows g.numbers.first) where
+  -- of a first arc each is in the part that does not end before walks may begin, nor begins after it
+  pub begins_in_part : (b : Beginning) (to : List Node) (i : ℕ) → i < length (first_arcs g.layout b) → (arc : Arc) → arc ≡ get_or (first_arcs g.layout b) i no_arc
+      → (low high : ℕ) → low ≡ earliest_of b → high ≡ latest_of b → (part : Run) → IsArcPart g arc low high part
+      → IsPartWith (CanBegin (arrival_problem g b to)) ((arrival_problem g b to).first_run i) part
+  begins_in_part b to i on arc is_first low high from until part is_part = record {
+    within = λ k is. (of_first.within k is).0;
+    wanted_in = λ k inside can.
+        let e = can.1 in
+        let times = start_times g.layout (usable_in g) (place_at (cells_of g)) b k e.start e.here in
+        cells_in_part g lists numbered room first low high part of_first (first_exist g.layout b i on) k inside (start_inside g.layout (usable_in g) (place_at (cells_of g)) b k e.start e.here)
+        (omega (arith, e.value, e.in_time, times.0, from)) (omega (arith, e.not_late, times.1, until));
+  }
+    where
+      first : Arc
+      first = get_or (first_arcs g.layout b) i no_arc
+
+      of_first : IsArcPart g first low high part
+      of_first = subst (λ (a : Arc). IsArcPart g a low high part) is_first is_part
 
 -- ---- the problem
 

@@ -77,8 +77,15 @@ impl<'a> ForwardCells for ArrivalCells<'a> {
 
     fn first_run(&self, run: usize) -> Run {
         match self.start {
-            Start::Node { from, .. } => self.ground.run(self.ground.leaving(from)[run]),
-            Start::Frozen { arc, .. } => self.ground.run(arc),
+            Start::Node {
+                from,
+                earliest,
+                latest,
+            } => {
+                let arc = self.ground.leaving(from)[run];
+                self.ground.part(arc, earliest, latest).run
+            }
+            Start::Frozen { arc, enter, .. } => self.ground.part(arc, enter, enter).run,
         }
     }
 

@@ -1,11 +1,12 @@
 -- The search begins with the start entries.
-use Rattle.std.proofs.Common.{◌≡◌, ℕ, ◌+◌, false, Option, Some, None, refl, sym, ap, ◌∙◌, subst, ◌⊎◌, inl, inr, arith, ◌↔◌}
+use Rattle.std.proofs.Common.{◌≡◌, ℕ, ◌+◌, ◌<◌, false, Option, Some, None, refl, sym, ap, ◌∙◌, subst, ◌⊎◌, inl, inr, arith, ◌↔◌}
 use Rattle.std.proofs.lemmas.Bool.{cases_eq, cases_lt, false≢true}
 use Rattle.label_queue.specs.Keys.{key_of, lesser}
 use Rattle.label_core.specs.Labels.{IsStartEntry}
 use Rattle.label_core.proofs.SearchEnds.{search_begins}
 use Rattle.label_search.specs.declared.labels.Label.{Label}
-use Rattle.label_search.specs.Problem.{Problem, IsIn}
+use Rattle.label_search.specs.declared.cells.Run.{Run}
+use Rattle.label_search.specs.Problem.{Problem, IsProblem, IsIn, IsPartWith, CanBegin}
 use Rattle.label_search.specs.Labels.{Standing, label_of, HasValue, IsOffered, IsImproved}
 use Rattle.label_search.specs.Labels.IsOffered.{first, lower, tied, kept}
 use Rattle.label_search.specs.Expanding.{HasRoom}
@@ -21,7 +22,15 @@ offered_again {offer} (lower old key less) has_key same = absurd (omega (arith, 
 offered_again {offer} (tied old key at less) has_key same = (offer, refl, refl, has_key ∙ ap Some (same old refl))
 offered_again {offer} (kept old key by tie) has_key same = (old, refl, same old refl, has_key)
 
+-- a part that has all that are wanted has those of them that are wanted elsewhere
+pub part_with_fewer : (V W : ℕ → Type 0) (whole part : Run) → ((c : ℕ) → W c → V c) → IsPartWith V whole part → IsPartWith W whole part
+part_with_fewer V W whole part fewer is_part = record { within = is_part.within; wanted_in = λ c is wanted. is_part.wanted_in c is (fewer c wanted) }
+
 module _ (p : Problem) where
+  -- the cells of a part of a first run are below the count
+  pub first_part_inside : IsProblem p → (k : ℕ) (part : Run) → k < p.first_runs → IsPartWith (CanBegin p) (p.first_run k) part → (c : ℕ) → IsIn part c → c < p.count
+  first_part_inside sound k part below is_part c is = omega (arith, (is_part.within c is).until_end, sound.first_runs_inside k below)
+
   pub begun_none : (D : ℕ → Type 0) (s : Standing) → ((c : ℕ) → D c → ⊥) → HasRoom p.count s → ((c : ℕ) → label_of s.known c ≡ None) → ((c : ℕ) → key_of s.keys c ≡ None) → IsBegun p D s
   begun_none D s none room unlabelled unqueued = record {
     room = room;

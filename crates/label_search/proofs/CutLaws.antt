@@ -103,7 +103,7 @@ module _ (until : ℕ) (net : Network ℕ) (starts : ℕ → Option Start) where
 
   -- ---- what a walk adds
 
-  entry_of_cut : (c t : ℕ) → IsStartEntry (cut_network until net) starts c t → IsStartEntry net starts c t
+  pub entry_of_cut : (c t : ℕ) → IsStartEntry (cut_network until net) starts c t → IsStartEntry net starts c t
   entry_of_cut c t e = record { start = e.start; here = e.here; value = e.value; not_late = e.not_late; in_time = omega (arith, e.in_time) }
 
   entry_in_cut : (c t : ℕ) → IsStartEntry net starts c t → t ≤ until → IsStartEntry (cut_network until net) starts c t

@@ -2,7 +2,7 @@
 use Rattle.std.specs.Prelude.{◌≡◌, ℕ, ◌^◌, ◌-◌, ◌<◌, ◌≤◌, min, Bool, IsTrue, Option, Some}
 use Rattle.label_core.specs.Walks.{Network}
 use Rattle.label_core.specs.BackwardWalks.{Finish}
-use Rattle.label_core.specs.BackwardLabels.{IsExpansionBack}
+use Rattle.label_core.specs.BackwardLabels.{IsFinishEntry, IsExpansionBack}
 use Rattle.label_core.specs.Mirror.{mirror_network, mirror_starts}
 use Rattle.label_search.specs.declared.cells.Cell.{Cell}
 use Rattle.label_search.specs.declared.cells.Closing.{Closing}
@@ -36,6 +36,10 @@ pub record IsBackwardProblem (b : BackwardProblem) : Type 0 where
   pub finishes_inside : (c : ℕ) (f : Finish) → b.finishes c ≡ Some f → c < b.count
   pub finishes_in_runs : (c : ℕ) (f : Finish) → b.finishes c ≡ Some f → (k : ℕ) × (k < b.last_runs) × IsIn (b.last_run k) c
   pub last_runs_inside : (k : ℕ) → k < b.last_runs → (b.last_run k).until ≤ b.count
+
+-- a walk can end in the cell
+abbrev pub CanEnd : BackwardProblem → ℕ → Type 0
+CanEnd b c = (t : ℕ) × IsFinishEntry b.network b.finishes c t
 
 abbrev pub finish_of : Closing → Finish
 finish_of o = record { earliest_out = o.earliest_out; latest_out = o.latest_out }

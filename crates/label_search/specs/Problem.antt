@@ -1,7 +1,7 @@
 -- What is a search asked? A network of numbered cells, how walks may begin, and where they shall end.
 use Rattle.std.specs.Prelude.{◌≡◌, ℕ, ◌^◌, ◌<◌, ◌≤◌, Bool, IsTrue, Option, Some}
 use Rattle.label_core.specs.Walks.{Network, Start}
-use Rattle.label_core.specs.Labels.{entry, IsExpansion}
+use Rattle.label_core.specs.Labels.{entry, IsStartEntry, IsExpansion}
 use Rattle.label_search.specs.declared.cells.Cell.{Cell}
 use Rattle.label_search.specs.declared.cells.Opening.{Opening}
 use Rattle.label_search.specs.declared.cells.Run.{Run}
@@ -22,6 +22,15 @@ pub record Problem : Type 0 where
 pub record IsIn (run : Run) (cell : ℕ) : Type 0 where
   pub from_first : run.first ≤ cell
   pub until_end : cell < run.until
+
+-- the part is of cells of the whole run, and has each of those that are wanted
+pub record IsPartWith (Wanted : ℕ → Type 0) (whole part : Run) : Type 0 where
+  pub within : (c : ℕ) → IsIn part c → IsIn whole c
+  pub wanted_in : (c : ℕ) → IsIn whole c → Wanted c → IsIn part c
+
+-- a walk can begin in the cell
+abbrev pub CanBegin : Problem → ℕ → Type 0
+CanBegin p c = (t : ℕ) × IsStartEntry p.network p.starts c t
 
 -- each cell takes a second or longer, times are small enough to be added, and turns and starts are at cells below the count
 pub record IsProblem (p : Problem) : Type 0 where

@@ -1,7 +1,7 @@
 //! What a search is asked: cells by their numbers, and which may follow which.
 ghost use Rattle.std.specs.Prelude.{◌≡◌, ℕ, ◌<◌, option_map};
-ghost use Rattle.label_search.specs.Problem.{Problem, cell_of, start_of, IsIn, IsPartOf};
-ghost use Rattle.label_search.specs.Backward.{BackwardProblem, finish_of, IsBackwardPartOf};
+ghost use Rattle.label_search.specs.Problem.{Problem, cell_of, start_of, IsIn, IsPartOf, IsPartWith, CanBegin};
+ghost use Rattle.label_search.specs.Backward.{BackwardProblem, finish_of, IsBackwardPartOf, CanEnd};
 
 /// A cell's window, from its first second to the last at which a step in it may leave, and the seconds that it takes.
 #[derive(Clone, Copy)]
@@ -89,10 +89,10 @@ pub trait ForwardCells {
     fn first_runs(&self) -> usize
         ensures { result ≡ (problem self.now).first_runs };
 
-    /// Cells in which walks may begin.
+    /// The part of a run in which walks can begin. Cells in which none can may be left out.
     fn first_run(&self, run: usize) -> Run
         requires { run < (problem self.now).first_runs }
-        ensures { result ≡ (problem self.now).first_run run };
+        ensures { IsPartWith (CanBegin (problem self.now)) ((problem self.now).first_run run) result };
 
     /// How many runs of cells may follow the cell at this place.
     fn runs(&self, cell: usize, place: Self::Place) -> usize
@@ -168,10 +168,10 @@ pub trait BackwardCells {
     fn last_runs(&self) -> usize
         ensures { result ≡ (backward self.now).last_runs };
 
-    /// Cells in which walks may end.
+    /// The part of a run in which walks can end. Cells in which none can may be left out.
     fn last_run(&self, run: usize) -> Run
         requires { run < (backward self.now).last_runs }
-        ensures { result ≡ (backward self.now).last_run run };
+        ensures { IsPartWith (CanEnd (backward self.now)) ((backward self.now).last_run run) result };
 
     /// How many runs of cells may come before the cell at this place.
     fn runs_before(&self, cell: usize, place: Self::Place) -> usize

@@ -139,32 +139,36 @@ module _ (g : Ground) where
     pub arc_below : (arc : Arc) → IsTrue (arc_exists g.layout arc) → arc.0 < 2 * length g.windows
     arc_below arc h = omega (arith, exists-below g.layout arc h, lists)
 
-    module _ (numbered : AreNumbered g.numbers.spots g.numbers.first) (room : HaveNumbers g.windows g.numbers.first) (k : ℕ) (usable : IsTrue (usable_in g k)) (arc : Arc) (low high : ℕ) (part : Run) (is_part : IsArcPart g arc low high part) (exists : IsTrue (arc_exists g.layout arc)) where
+    module _ (numbered : AreNumbered g.numbers.spots g.numbers.first) (room : HaveNumbers g.windows g.numbers.first) (arc : Arc) (low high : ℕ) (part : Run) (is_part : IsArcPart g arc low high part) (exists : IsTrue (arc_exists g.layout arc)) where
       of_arc : (d : ℕ) → IsIn (run_of_arc g arc) d → arc_in g d ≡ arc
       of_arc d inside = ap (λ (p : Place). p.arc) (in_run g numbered room arc (arc_below arc exists) d inside)
 
       can_of : (d : ℕ) → IsIn (run_of_arc g arc) d → IsTrue (usable_in g d) → IsTrue (can_use_in g arc)
       can_of d inside h = subst (λ (a : Arc). IsTrue (can_use_in g a)) (of_arc d inside) (usable_parts g d h).1
 
-      pub part_follows : IsTrue (permits g.layout (arc_in g k) arc) → (d : ℕ) → IsIn part d → IsTrue ((network_in g).turn k d)
-      part_follows permitted d on =
-          let h = is_part.within d on in
-          and_from _ _ (and_from _ _ usable h.1) (subst (λ (a : Arc). IsTrue (permits g.layout (arc_in g k) a)) (sym (of_arc d h.0)) permitted)
+      -- it has each cell that a step may still leave at the one second, and which has begun by the other
+      pub cells_in_part : (d : ℕ) → IsIn (run_of_arc g arc) d → IsTrue (usable_in g d) → low ≤ (network_in g).last d → (network_in g).from d ≤ high → IsIn part d
+      cells_in_part d inside usable not_over begins =
+          is_part.whole d inside (can_of d inside usable) (omega (arith, not_over, last_in-within g.horizon g.clearance (window_in g d))) begins
 
-      pub part_leads : IsTrue (permits g.layout arc (arc_in g k)) → (d : ℕ) → IsIn part d → IsTrue ((network_in g).turn d k)
-      part_leads permitted d on =
-          let h = is_part.within d on in
-          and_from _ _ (and_from _ _ h.1 usable) (subst (λ (a : Arc). IsTrue (permits g.layout a (arc_in g k))) (sym (of_arc d h.0)) permitted)
+      module _ (k : ℕ) (usable : IsTrue (usable_in g k)) where
+        pub part_follows : IsTrue (permits g.layout (arc_in g k) arc) → (d : ℕ) → IsIn part d → IsTrue ((network_in g).turn k d)
+        part_follows permitted d on =
+            let h = is_part.within d on in
+            and_from _ _ (and_from _ _ usable h.1) (subst (λ (a : Arc). IsTrue (permits g.layout (arc_in g k) a)) (sym (of_arc d h.0)) permitted)
 
-      pub expansions_in_part : (ready : ℕ) → low ≡ ready → (d t : ℕ) → IsIn (run_of_arc g arc) d → IsExpansion (network_in g) k ready d t → entry (network_in g) d ready ≤ high → IsIn part d
-      expansions_in_part ready at d t inside e by =
-          is_part.whole d inside (can_of d inside (turn_parts k d e.by_turn).1)
-          (omega (arith, e.value, e.in_time, at, last_in-within g.horizon g.clearance (window_in g d))) (omega (arith, by))
+        pub part_leads : IsTrue (permits g.layout arc (arc_in g k)) → (d : ℕ) → IsIn part d → IsTrue ((network_in g).turn d k)
+        part_leads permitted d on =
+            let h = is_part.within d on in
+            and_from _ _ (and_from _ _ h.1 usable) (subst (λ (a : Arc). IsTrue (permits g.layout a (arc_in g k))) (sym (of_arc d h.0)) permitted)
 
-      pub expansions_back_in_part : (ready : ℕ) → ready ≤ high → (d t : ℕ) → IsIn (run_of_arc g arc) d → IsExpansionBack (network_in g) k ready d t → low ≤ min ready ((network_in g).last d) → IsIn part d
-      expansions_back_in_part ready at d t inside e by =
-          is_part.whole d inside (can_of d inside (turn_parts d k e.by_turn).0)
-          (omega (arith, by, last_in-within g.horizon g.clearance (window_in g d))) (omega (arith, e.value, e.in_window, at))
+        pub expansions_in_part : (ready : ℕ) → low ≡ ready → (d t : ℕ) → IsIn (run_of_arc g arc) d → IsExpansion (network_in g) k ready d t → entry (network_in g) d ready ≤ high → IsIn part d
+        expansions_in_part ready at d t inside e by =
+            cells_in_part d inside (turn_parts k d e.by_turn).1 (omega (arith, e.value, e.in_time, at)) (omega (arith, by))
+
+        pub expansions_back_in_part : (ready : ℕ) → ready ≤ high → (d t : ℕ) → IsIn (run_of_arc g arc) d → IsExpansionBack (network_in g) k ready d t → low ≤ min ready ((network_in g).last d) → IsIn part d
+        expansions_back_in_part ready at d t inside e by =
+            cells_in_part d inside (turn_parts d k e.by_turn).0 (omega (arith, by)) (omega (arith, e.value, e.in_window, at))
 
 -- ---- an airport's class in windows
 

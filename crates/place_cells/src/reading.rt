@@ -8,7 +8,7 @@ ghost use Rattle.walk_labels.specs.Places.{place_at};
 ghost use Rattle.walk_labels.specs.Requests.{leads_to_one_of};
 ghost use Rattle.place_cells.specs.Turns.{next_arcs, previous_arcs, leaving_arcs, entering_arcs};
 ghost use Rattle.place_cells.specs.Laid.{windows_of, window_of_spot};
-ghost use Rattle.place_cells.specs.Ground.{last_in, network_in, cells_of, run_of_arc, arc_in, can_use_in, usable_in, IsArcPart};
+ghost use Rattle.place_cells.specs.Ground.{last_in, network_in, cells_of, arc_in, can_use_in, usable_in, IsArcPart};
 ghost use Rattle.place_cells.specs.Tells.{TellsCell, IsOnward, IsBackward};
 ghost use Rattle.place_cells.specs.Grounds.{ground_of, place_of};
 
@@ -217,19 +217,6 @@ impl<'a> SearchGround<'a> {
         ensures { result ≡ meet (tail (ground_of self.now).layout arc) (Some node) }
     {
         self.graph.exists(arc) && self.graph.tail(arc).0 == node.0
-    }
-
-    /// The cells of an arc.
-    pub fn run(&self, arc: Arc) -> Run
-        requires { IsTrue (arc_exists (ground_of self.now).layout arc) }
-        ensures { result ≡ run_of_arc (ground_of self.now) arc }
-    {
-        let first = self.numbers.first[arc.0 as usize] as usize;
-        let windows = self.store.spans(arc.segment()).len();
-        Run {
-            first,
-            until: first + windows,
-        }
     }
 
     /// Those cells of an arc that the class may use which do not end before one second nor begin after another.

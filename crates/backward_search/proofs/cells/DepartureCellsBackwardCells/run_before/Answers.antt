@@ -1,4 +1,4 @@
-use Rattle.std.proofs.Common.{◌≡◌, List, length, get_or, IsTrue, sym, ◌∙◌, ap, subst, arith}
+use Rattle.std.proofs.Common.{◌≡◌, length, get_or, IsTrue, sym, ◌∙◌, subst, arith}
 use Rattle.taxi_base.specs.declared.numbers.Arc.{Arc}
 use Rattle.taxi_base.specs.Airport.{arc_exists}
 use Rattle.place_cells.specs.Turns.{previous_arcs, no_arc}
@@ -30,6 +30,6 @@ returns-clause-part c =
     let exists = (permits-exist g.layout previous (arc_in g c.args._cell) permitted).0 in
     let part : IsArcPart g previous c.args.from c.args.ready c.part.result.run = subst (λ (a : Arc). IsArcPart g a c.args.from c.args.ready c.part.result.run) read c.part.ensures.part in
     record {
-      permitted = part_leads g lists s.numbers.now.numbered s.room c.args._cell parts.0 previous c.args.from c.args.ready c.part.result.run part exists permitted;
-      expansions_in = expansions_back_in_part g lists s.numbers.now.numbered s.room c.args._cell parts.0 previous c.args.from c.args.ready c.part.result.run part exists c.args.ready (omega arith);
+      permitted = part_leads g lists s.numbers.now.numbered s.room previous c.args.from c.args.ready c.part.result.run part exists c.args._cell parts.0 permitted;
+      expansions_in = expansions_back_in_part g lists s.numbers.now.numbered s.room previous c.args.from c.args.ready c.part.result.run part exists c.args._cell parts.0 c.args.ready (omega arith);
     }

@@ -1,4 +1,4 @@
-use Rattle.std.proofs.Common.{◌≡◌, List, length, get_or, IsTrue, refl, sym, ◌∙◌, ap, subst}
+use Rattle.std.proofs.Common.{◌≡◌, length, get_or, IsTrue, refl, sym, ◌∙◌, subst}
 use Rattle.taxi_base.specs.declared.numbers.Arc.{Arc}
 use Rattle.taxi_base.specs.Airport.{arc_exists}
 use Rattle.place_cells.specs.Turns.{next_arcs, no_arc}
@@ -30,6 +30,6 @@ returns-clause-part c =
     let exists = (permits-exist g.layout (arc_in g c.args._cell) next permitted).1 in
     let part : IsArcPart g next c.args.ready c.args.last c.part.result.run = subst (λ (a : Arc). IsArcPart g a c.args.ready c.args.last c.part.result.run) read c.part.ensures.part in
     record {
-      permitted = part_follows g lists s.numbers.now.numbered s.room c.args._cell parts.0 next c.args.ready c.args.last c.part.result.run part exists permitted;
-      expansions_in = expansions_in_part g lists s.numbers.now.numbered s.room c.args._cell parts.0 next c.args.ready c.args.last c.part.result.run part exists c.args.ready refl;
+      permitted = part_follows g lists s.numbers.now.numbered s.room next c.args.ready c.args.last c.part.result.run part exists c.args._cell parts.0 permitted;
+      expansions_in = expansions_in_part g lists s.numbers.now.numbered s.room next c.args.ready c.args.last c.part.result.run part exists c.args._cell parts.0 c.args.ready refl;
     }
