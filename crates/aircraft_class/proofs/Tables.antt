@@ -3,9 +3,6 @@ use Rattle.std.proofs.Common.{◌≡◌, ℕ, ◌<◌, ◌≤◌, List, [], leng
 use Rattle.std.specs.Prelude.{All, IfSome}
 use Rattle.std.proofs.lemmas.List.{get_or_past, get_or-map, map-set, length-set, length-map}
 use Rattle.std.proofs.lemmas.List.Elements.{All-nil, All-set}
-use Rattle.taxi_base.specs.declared.numbers.Class.{Class}
-use Rattle.taxi_base.specs.declared.numbers.Segment.{Segment}
-use Rattle.taxi_base.specs.Airport.{seconds_in}
 use Rattle.taxi_base.proofs.ListLaws.{All-at}
 use Rattle.aircraft_class.specs.Times.{Times, AreTimes, IsTime}
 
@@ -13,25 +10,21 @@ use Rattle.aircraft_class.specs.Times.{Times, AreTimes, IsTime}
 pub get_or-row : {V : Type 0} (f : V → List (Option ℕ)) (rows : List V) (k : ℕ) (row : V) → k < length rows → row ≡ get_or rows k row → get_or (map f rows) k [] ≡ f row
 get_or-row f rows k row low is = get_or-map f rows k row [] low ∙ ap f (sym is)
 
-pub seconds_in-row : {V : Type 0} (f : V → List (Option ℕ)) (rows : List V) (class : Class) (segment : Segment) (row : V)
-    → class.0 < length rows → row ≡ get_or rows class.0 row → seconds_in (map f rows) class segment ≡ get_or (f row) segment.0 None
-unfolding seconds_in
-seconds_in-row f rows class segment row low is = ap (λ r. get_or r segment.0 None) (get_or-row f rows class.0 row low is)
-
-pub seconds_in-past : {V : Type 0} (f : V → List (Option ℕ)) (rows : List V) (class : Class) (segment : Segment)
-    → length rows ≤ class.0 → seconds_in (map f rows) class segment ≡ None
-unfolding seconds_in
-seconds_in-past f rows class segment past =
-    let beyond : length (map f rows) ≤ class.0 = rw (length-map rows f) past in
-    ap (λ r. get_or r segment.0 None) (get_or_past (map f rows) class.0 [] beyond)
+-- past the rows stands an empty one
+pub get_or-no_row : {V : Type 0} (f : V → List (Option ℕ)) (rows : List V) (k : ℕ) → length rows ≤ k → get_or (map f rows) k [] ≡ []
+get_or-no_row f rows k past =
+    let beyond : length (map f rows) ≤ k = rw (length-map rows f) past in
+    get_or_past (map f rows) k [] beyond
 
 abbrev IsPlace : Option ℕ → Type 0
 IsPlace place = IfSome place IsTime
 
-pub seconds_in-range : (table : List (List (Option ℕ))) (class : Class) (segment : Segment) → All (All (λ place. IfSome place IsTime)) table → IfSome (seconds_in table class segment) IsTime
-unfolding seconds_in
-seconds_in-range table class segment range =
-    All-at IsPlace (get_or table class.0 []) segment.0 None tt (All-at (All IsPlace) table class.0 [] (All-nil IsPlace) range)
+-- the times of a row, and of a place in it, are from a second to an hour
+pub row-range : (table : List (List (Option ℕ))) (k : ℕ) → All (All (λ place. IfSome place IsTime)) table → All (λ place. IfSome place IsTime) (get_or table k [])
+row-range table k range = All-at (All IsPlace) table k [] (All-nil IsPlace) range
+
+pub place-range : (row : List (Option ℕ)) (k : ℕ) → All (λ place. IfSome place IsTime) row → IfSome (get_or row k None) IsTime
+place-range row k range = All-at IsPlace row k None tt range
 
 -- what a write to a place of a row leaves
 pub map-set_place : {V : Type 0} (f : V → List (Option ℕ)) (rows : List V) (k : ℕ) (row new : V) (segment : ℕ) (place : Option ℕ) → k < length rows → row ≡ get_or rows k row

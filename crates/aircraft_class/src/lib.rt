@@ -1,7 +1,7 @@
 //! How long each class of aircraft takes on each segment at least, and for how long it keeps one shut after leaving it.
 #![tactic(auto)]
 
-ghost use Rattle.std.specs.Prelude.{◌≡◌, ◌+◌, ◌<◌, ◌≤◌, ◌++◌, ◌∷◌, [], Some, None, length, replicate, slice_set, slice_index_or, IfSome, IfOk, OnOk, OnErr};
+ghost use Rattle.std.specs.Prelude.{◌≡◌, ◌+◌, ◌<◌, ◌≤◌, ◌++◌, ◌∷◌, [], Some, None, length, replicate, slice_set, slice_index_or, All, IfSome, IfOk, OnOk, OnErr};
 ghost use Rattle.taxi_base.specs.Airport.{seconds_in};
 ghost use Rattle.aircraft_class.specs.Times.{Times, IsTime};
 
@@ -76,15 +76,23 @@ impl Classes {
         row.times[segment.0 as usize] = Some(seconds);
     }
 
+    /// A class's row of the table, read at once for many segments; empty for a number that no class has.
+    pub fn times(&self, class: Class) -> &[Option<Time>]
+        ensures row { result.now ≡ slice_index_or self.now.table class.0 [] }
+        ensures range { All (λ place. IfSome place IsTime) result.now }
+    {
+        match self.rows.get(class.0 as usize) {
+            Some(row) => &row.times,
+            None => &[],
+        }
+    }
+
     /// A class's least time on a segment, in seconds; none where it was not set.
     pub fn seconds(&self, class: Class, segment: Segment) -> Option<Time>
         ensures set { result ≡ seconds_in self.now.table class segment }
         ensures range { IfSome result IsTime }
     {
-        match self.rows.get(class.0 as usize) {
-            Some(row) => time_in(&row.times, segment),
-            None => None,
-        }
+        time_in(self.times(class), segment)
     }
 
     /// Sets for how long a class keeps a segment shut after leaving it, in seconds.
@@ -108,7 +116,8 @@ impl Classes {
     }
 }
 
-fn time_in(times: &[Option<Time>], segment: Segment) -> Option<Time>
+/// The least time on a segment in a class's row, in seconds; none where it was not set.
+pub fn time_in(times: &[Option<Time>], segment: Segment) -> Option<Time>
     ensures { result ≡ slice_index_or times.now segment.0 None }
 {
     times.get(segment.0 as usize).copied().flatten()

@@ -138,12 +138,14 @@ fn search_among<'x>(
     requires times { earliest_out < 2 ^ 31 }
     ensures { IfOk result (AnswersDeparture (conditions_in_windows airport.now class clearance (windows_of store.now)) from (ReachesOneOfWithin (layout_of airport.now) to.now earliest_out latest_out)) }
 {
+    let classes = airport.classes();
     let ground = SearchGround {
         graph: airport.graph(),
-        classes: airport.classes(),
+        classes,
         store,
         numbers,
         class,
+        times: classes.times(class),
         horizon: airport.horizon(),
         clearance,
     };

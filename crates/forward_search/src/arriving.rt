@@ -113,12 +113,14 @@ fn search_among<'x>(
     ensures one { (leave : ℕ) (node : NodeNumber) → to.now ≡ node ∷ [] → IfOk result (AnswersArrival (conditions_in_windows airport.now class clearance (windows_of store.now)) (BeginsBy (layout_of airport.now) (beginning_of start leave)) node) }
     ensures last { (leave : ℕ) (node : NodeNumber) → Contains to.now node → IfOk result (λ found. LeadsTo (layout_of airport.now) node found → AnswersArrival (conditions_in_windows airport.now class clearance (windows_of store.now)) (BeginsBy (layout_of airport.now) (beginning_of start leave)) node found) }
 {
+    let classes = airport.classes();
     let ground = SearchGround {
         graph: airport.graph(),
-        classes: airport.classes(),
+        classes,
         store,
         numbers,
         class,
+        times: classes.times(class),
         horizon: airport.horizon(),
         clearance,
     };

@@ -1,5 +1,5 @@
 //! What a search over cells rests on.
-ghost use Rattle.std.specs.Prelude.{◌≡◌, length};
+ghost use Rattle.std.specs.Prelude.{◌≡◌, [], length, slice_index_or};
 ghost use Rattle.place_cells.specs.Laid.{windows_of, HaveNumbers};
 
 use crate::numbers::CellNumbers;
@@ -17,8 +17,11 @@ pub struct SearchGround<'a> {
     pub store: &'a WindowStore,
     pub numbers: &'a CellNumbers,
     pub class: Class,
+    // The class's row of the table, which is all that is read of the two.
+    pub times: &'a [Option<Time>],
     pub horizon: Time,
     pub clearance: Time,
+    ghost timed: { times.now ≡ slice_index_or classes.now.table class.0 [] },
     ghost lists: { length store.now.lists ≡ length graph.now.links },
     ghost room: { HaveNumbers (windows_of store.now) numbers.now.first.items },
 }

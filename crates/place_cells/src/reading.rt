@@ -15,6 +15,7 @@ ghost use Rattle.place_cells.specs.Grounds.{ground_of, place_of};
 use crate::cut::part_between;
 use crate::ground::SearchGround;
 use crate::spots::{ArcRow, Beside, CellPlace, Spot};
+use aircraft_class::time_in;
 use label_search::{Cell, Part, Run};
 use taxi_base::{Arc, Node, Span, Time};
 
@@ -141,12 +142,20 @@ impl<'a> SearchGround<'a> {
         last_second(window.until, self.horizon, self.clearance)
     }
 
-    /// The seconds that the class takes on an arc; one second where it may not use it.
+    /// The seconds that the class takes on an arc; none where it may not use it.
+    #[inline(always)]
+    fn time_on(&self, arc: Arc) -> Option<Time>
+        ensures { result ≡ seconds_in self.now.classes.now.table self.now.class (segment_of arc) }
+    {
+        time_in(self.times, arc.segment())
+    }
+
+    /// The same; one second where it may not use it.
     #[inline(always)]
     fn seconds(&self, arc: Arc) -> Time
         ensures { result ≡ unwrap_or (seconds_in self.now.classes.now.table self.now.class (segment_of arc)) 1 }
     {
-        self.classes.seconds(self.class, arc.segment()).unwrap_or(1)
+        self.time_on(arc).unwrap_or(1)
     }
 
     /// Whether the graph has the arc, and the class may use it.
@@ -154,7 +163,7 @@ impl<'a> SearchGround<'a> {
     pub fn can_use(&self, arc: Arc) -> bool
         ensures { result ≡ can_use_in (ground_of self.now) arc }
     {
-        self.graph.exists(arc) && self.classes.seconds(self.class, arc.segment()).is_some()
+        self.graph.exists(arc) && self.time_on(arc).is_some()
     }
 
     /// The arcs that may follow an arc.
@@ -226,7 +235,7 @@ impl<'a> SearchGround<'a> {
         ensures part { IsArcPart (ground_of self.now) arc low high result.run }
         ensures told { (k : ℕ) → IsIn result.run k → TellsCell (ground_of self.now) result.row k }
     {
-        match self.classes.seconds(self.class, arc.segment()) {
+        match self.time_on(arc) {
             None => no_cells(),
             Some(seconds) => {
                 let first = self.numbers.first[arc.0 as usize] as usize;

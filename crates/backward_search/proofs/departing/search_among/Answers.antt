@@ -28,8 +28,8 @@ last_arcs-requires c =
 pub latest_entries-requires : goal.latest_entries-requires
 latest_entries-requires c =
     let ending : Ending = record { to = c.args.to.now; earliest = c.args.earliest_out; latest = c.args.latest_out } in
-    let ground : Ground = record { layout = c.graph.result.now; table = c.classes.result.now.table; class = c.args.class; horizon = c.horizon.result; clearance = c.args.clearance; windows = windows_of c.args.store.now; numbers = numbers_of c.args.numbers.now } in
-    let table = ap (λ (t : Times). t.table) c.classes.ensures in
+    let ground : Ground = record { layout = c.graph.result.now; table = c.classes-classes.result.now.table; class = c.args.class; horizon = c.horizon.result; clearance = c.args.clearance; windows = windows_of c.args.store.now; numbers = numbers_of c.args.numbers.now } in
+    let table = ap (λ (t : Times). t.table) c.classes-classes.ensures in
     let same : ground ≡ ground_in c.args.airport.now c.args.class c.args.clearance (windows_of c.args.store.now) (numbers_of c.args.numbers.now) =
     λ i. record { layout = c.graph.ensures i; table = table i; class = c.args.class; horizon = c.horizon.ensures.horizon i; clearance = c.args.clearance; windows = windows_of c.args.store.now; numbers = numbers_of c.args.numbers.now } in
     record {
@@ -41,9 +41,9 @@ latest_entries-requires c =
 pub returns-in-None : goal.returns-in-None
 returns-in-None c =
     let ending : Ending = record { to = c.args.to.now; earliest = c.args.earliest_out; latest = c.args.latest_out } in
-    let ground : Ground = record { layout = c.graph.result.now; table = c.classes.result.now.table; class = c.args.class; horizon = c.horizon.result; clearance = c.args.clearance; windows = windows_of c.args.store.now; numbers = numbers_of c.args.numbers.now } in
+    let ground : Ground = record { layout = c.graph.result.now; table = c.classes-classes.result.now.table; class = c.args.class; horizon = c.horizon.result; clearance = c.args.clearance; windows = windows_of c.args.store.now; numbers = numbers_of c.args.numbers.now } in
     let told : Ground = ground_in c.args.airport.now c.args.class c.args.clearance (windows_of c.args.store.now) (numbers_of c.args.numbers.now) in
-    let table = ap (λ (t : Times). t.table) c.classes.ensures in
+    let table = ap (λ (t : Times). t.table) c.classes-classes.ensures in
     let same_ground : ground ≡ told = λ i. record { layout = c.graph.ensures i; table = table i; class = c.args.class; horizon = c.horizon.ensures.horizon i; clearance = c.args.clearance; windows = windows_of c.args.store.now; numbers = numbers_of c.args.numbers.now } in
     let same : departure_problem ground c.args.from ending ≡ departure_problem told c.args.from ending = ap (λ (g : Ground). departure_problem g c.args.from ending) same_ground in
     let values : List CellValue = c.in_ok-values.field-0.values.items in
@@ -55,9 +55,9 @@ returns-in-None c =
 pub returns : goal.returns
 returns c =
     let ending : Ending = record { to = c.args.to.now; earliest = c.args.earliest_out; latest = c.args.latest_out } in
-    let ground : Ground = record { layout = c.graph.result.now; table = c.classes.result.now.table; class = c.args.class; horizon = c.horizon.result; clearance = c.args.clearance; windows = windows_of c.args.store.now; numbers = numbers_of c.args.numbers.now } in
+    let ground : Ground = record { layout = c.graph.result.now; table = c.classes-classes.result.now.table; class = c.args.class; horizon = c.horizon.result; clearance = c.args.clearance; windows = windows_of c.args.store.now; numbers = numbers_of c.args.numbers.now } in
     let told : Ground = ground_in c.args.airport.now c.args.class c.args.clearance (windows_of c.args.store.now) (numbers_of c.args.numbers.now) in
-    let table = ap (λ (t : Times). t.table) c.classes.ensures in
+    let table = ap (λ (t : Times). t.table) c.classes-classes.ensures in
     let same_ground : ground ≡ told = λ i. record { layout = c.graph.ensures i; table = table i; class = c.args.class; horizon = c.horizon.ensures.horizon i; clearance = c.args.clearance; windows = windows_of c.args.store.now; numbers = numbers_of c.args.numbers.now } in
     let same : departure_problem ground c.args.from ending ≡ departure_problem told c.args.from ending = ap (λ (g : Ground). departure_problem g c.args.from ending) same_ground in
     let values : List CellValue = c.in_ok-values.field-0.values.items in

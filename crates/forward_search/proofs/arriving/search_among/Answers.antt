@@ -28,8 +28,8 @@ invariant_of-asked c = record {
 
 pub earliest_exits-requires : goal.earliest_exits-requires
 earliest_exits-requires c =
-    let ground : Ground = record { layout = c.graph.result.now; table = c.classes.result.now.table; class = c.args.class; horizon = c.horizon.result; clearance = c.args.clearance; windows = windows_of c.args.store.now; numbers = numbers_of c.args.numbers.now } in
-    let table = ap (λ (t : Times). t.table) c.classes.ensures in
+    let ground : Ground = record { layout = c.graph.result.now; table = c.classes-classes.result.now.table; class = c.args.class; horizon = c.horizon.result; clearance = c.args.clearance; windows = windows_of c.args.store.now; numbers = numbers_of c.args.numbers.now } in
+    let table = ap (λ (t : Times). t.table) c.classes-classes.ensures in
     let same : ground ≡ ground_in c.args.airport.now c.args.class c.args.clearance (windows_of c.args.store.now) (numbers_of c.args.numbers.now) =
     λ i. record { layout = c.graph.ensures i; table = table i; class = c.args.class; horizon = c.horizon.ensures.horizon i; clearance = c.args.clearance; windows = windows_of c.args.store.now; numbers = numbers_of c.args.numbers.now } in
     record {
@@ -40,9 +40,9 @@ earliest_exits-requires c =
 
 pub returns-in-None-clause-any : goal.returns-in-None-clause-any
 returns-in-None-clause-any c leave =
-    let ground : Ground = record { layout = c.graph.result.now; table = c.classes.result.now.table; class = c.args.class; horizon = c.horizon.result; clearance = c.args.clearance; windows = windows_of c.args.store.now; numbers = numbers_of c.args.numbers.now } in
+    let ground : Ground = record { layout = c.graph.result.now; table = c.classes-classes.result.now.table; class = c.args.class; horizon = c.horizon.result; clearance = c.args.clearance; windows = windows_of c.args.store.now; numbers = numbers_of c.args.numbers.now } in
     let told : Ground = ground_in c.args.airport.now c.args.class c.args.clearance (windows_of c.args.store.now) (numbers_of c.args.numbers.now) in
-    let table = ap (λ (t : Times). t.table) c.classes.ensures in
+    let table = ap (λ (t : Times). t.table) c.classes-classes.ensures in
     let same_ground : ground ≡ told = λ i. record { layout = c.graph.ensures i; table = table i; class = c.args.class; horizon = c.horizon.ensures.horizon i; clearance = c.args.clearance; windows = windows_of c.args.store.now; numbers = numbers_of c.args.numbers.now } in
     let same : arrival_problem ground (beginning_of c.args.start 0) c.args.to.now ≡ arrival_problem told (beginning_of c.args.start leave) c.args.to.now =
     ap (λ (g : Ground). arrival_problem g (beginning_of c.args.start 0) c.args.to.now) same_ground ∙ same_problem told c.args.start leave c.args.to.now in
@@ -54,9 +54,9 @@ returns-in-None-clause-any c leave =
 
 pub returns-in-None-clause-one : goal.returns-in-None-clause-one
 returns-in-None-clause-one c leave node alone =
-    let ground : Ground = record { layout = c.graph.result.now; table = c.classes.result.now.table; class = c.args.class; horizon = c.horizon.result; clearance = c.args.clearance; windows = windows_of c.args.store.now; numbers = numbers_of c.args.numbers.now } in
+    let ground : Ground = record { layout = c.graph.result.now; table = c.classes-classes.result.now.table; class = c.args.class; horizon = c.horizon.result; clearance = c.args.clearance; windows = windows_of c.args.store.now; numbers = numbers_of c.args.numbers.now } in
     let told : Ground = ground_in c.args.airport.now c.args.class c.args.clearance (windows_of c.args.store.now) (numbers_of c.args.numbers.now) in
-    let table = ap (λ (t : Times). t.table) c.classes.ensures in
+    let table = ap (λ (t : Times). t.table) c.classes-classes.ensures in
     let same_ground : ground ≡ told = λ i. record { layout = c.graph.ensures i; table = table i; class = c.args.class; horizon = c.horizon.ensures.horizon i; clearance = c.args.clearance; windows = windows_of c.args.store.now; numbers = numbers_of c.args.numbers.now } in
     let same : arrival_problem ground (beginning_of c.args.start 0) c.args.to.now ≡ arrival_problem told (beginning_of c.args.start leave) c.args.to.now =
     ap (λ (g : Ground). arrival_problem g (beginning_of c.args.start 0) c.args.to.now) same_ground ∙ same_problem told c.args.start leave c.args.to.now in
@@ -68,9 +68,9 @@ returns-in-None-clause-one c leave node alone =
 
 pub returns-clause-any : goal.returns-clause-any
 returns-clause-any c leave =
-    let ground : Ground = record { layout = c.graph.result.now; table = c.classes.result.now.table; class = c.args.class; horizon = c.horizon.result; clearance = c.args.clearance; windows = windows_of c.args.store.now; numbers = numbers_of c.args.numbers.now } in
+    let ground : Ground = record { layout = c.graph.result.now; table = c.classes-classes.result.now.table; class = c.args.class; horizon = c.horizon.result; clearance = c.args.clearance; windows = windows_of c.args.store.now; numbers = numbers_of c.args.numbers.now } in
     let told : Ground = ground_in c.args.airport.now c.args.class c.args.clearance (windows_of c.args.store.now) (numbers_of c.args.numbers.now) in
-    let table = ap (λ (t : Times). t.table) c.classes.ensures in
+    let table = ap (λ (t : Times). t.table) c.classes-classes.ensures in
     let same_ground : ground ≡ told = λ i. record { layout = c.graph.ensures i; table = table i; class = c.args.class; horizon = c.horizon.ensures.horizon i; clearance = c.args.clearance; windows = windows_of c.args.store.now; numbers = numbers_of c.args.numbers.now } in
     let same : arrival_problem ground (beginning_of c.args.start 0) c.args.to.now ≡ arrival_problem told (beginning_of c.args.start leave) c.args.to.now =
     ap (λ (g : Ground). arrival_problem g (beginning_of c.args.start 0) c.args.to.now) same_ground ∙ same_problem told c.args.start leave c.args.to.now in
@@ -85,9 +85,9 @@ returns-clause-any c leave =
 
 pub returns-clause-one : goal.returns-clause-one
 returns-clause-one c leave node alone =
-    let ground : Ground = record { layout = c.graph.result.now; table = c.classes.result.now.table; class = c.args.class; horizon = c.horizon.result; clearance = c.args.clearance; windows = windows_of c.args.store.now; numbers = numbers_of c.args.numbers.now } in
+    let ground : Ground = record { layout = c.graph.result.now; table = c.classes-classes.result.now.table; class = c.args.class; horizon = c.horizon.result; clearance = c.args.clearance; windows = windows_of c.args.store.now; numbers = numbers_of c.args.numbers.now } in
     let told : Ground = ground_in c.args.airport.now c.args.class c.args.clearance (windows_of c.args.store.now) (numbers_of c.args.numbers.now) in
-    let table = ap (λ (t : Times). t.table) c.classes.ensures in
+    let table = ap (λ (t : Times). t.table) c.classes-classes.ensures in
     let same_ground : ground ≡ told = λ i. record { layout = c.graph.ensures i; table = table i; class = c.args.class; horizon = c.horizon.ensures.horizon i; clearance = c.args.clearance; windows = windows_of c.args.store.now; numbers = numbers_of c.args.numbers.now } in
     let same : arrival_problem ground (beginning_of c.args.start 0) c.args.to.now ≡ arrival_problem told (beginning_of c.args.start leave) c.args.to.now =
     ap (λ (g : Ground). arrival_problem g (beginning_of c.args.start 0) c.args.to.now) same_ground ∙ same_problem told c.args.start leave c.args.to.now in
@@ -102,9 +102,9 @@ returns-clause-one c leave node alone =
 
 pub returns-clause-last : goal.returns-clause-last
 returns-clause-last c leave node among reaches =
-    let ground : Ground = record { layout = c.graph.result.now; table = c.classes.result.now.table; class = c.args.class; horizon = c.horizon.result; clearance = c.args.clearance; windows = windows_of c.args.store.now; numbers = numbers_of c.args.numbers.now } in
+    let ground : Ground = record { layout = c.graph.result.now; table = c.classes-classes.result.now.table; class = c.args.class; horizon = c.horizon.result; clearance = c.args.clearance; windows = windows_of c.args.store.now; numbers = numbers_of c.args.numbers.now } in
     let told : Ground = ground_in c.args.airport.now c.args.class c.args.clearance (windows_of c.args.store.now) (numbers_of c.args.numbers.now) in
-    let table = ap (λ (t : Times). t.table) c.classes.ensures in
+    let table = ap (λ (t : Times). t.table) c.classes-classes.ensures in
     let same_ground : ground ≡ told = λ i. record { layout = c.graph.ensures i; table = table i; class = c.args.class; horizon = c.horizon.ensures.horizon i; clearance = c.args.clearance; windows = windows_of c.args.store.now; numbers = numbers_of c.args.numbers.now } in
     let same : arrival_problem ground (beginning_of c.args.start 0) c.args.to.now ≡ arrival_problem told (beginning_of c.args.start leave) c.args.to.now =
     ap (λ (g : Ground). arrival_problem g (beginning_of c.args.start 0) c.args.to.now) same_ground ∙ same_problem told c.args.start leave c.args.to.now in
