@@ -1,12 +1,12 @@
 -- The records of forbidden turns are let through.
-use Rattle.std.proofs.Common.{◌≡◌, ◌≢◌, ℕ, ◌<◌, ◌≤◌, ◌+◌, ◌*◌, ◌/◌, ◌%◌, Bool, true, false, List, [], ◌∷◌, ◌++◌, length, length-append, map, get_or, Option, Some, None, Ok, refl, sym, subst, arith, append_assoc, append-nil, ◌∙◌, ap}
-use Rattle.std.specs.Prelude.{nat_le, ◌==◌, ◌&&◌, option_map, is_some, IsTrue, All, AllPairs, if◌then◌else◌}
+use Rattle.std.proofs.Common.{◌≡◌, ◌≢◌, ℕ, ◌<◌, ◌≤◌, ◌+◌, ◌*◌, ◌/◌, ◌%◌, Bool, true, false, List, [], ◌∷◌, ◌++◌, length, length-append, map, get_or, Some, Ok, refl, sym, subst, arith, append_assoc, append-nil, ◌∙◌, ap}
+use Rattle.std.specs.Prelude.{nat_le, ◌==◌, ◌&&◌, IsTrue, All, AllPairs, if◌then◌else◌}
 use Rattle.std.proofs.lemmas.Bool.{false_from_ne_true, eqb-true}
 use Rattle.std.proofs.lemmas.Bool.Decides.{nat_tests}
 use Rattle.std.proofs.lemmas.List.{get_or_append_left}
 use Rattle.std.proofs.lemmas.List.Elements.{All-head, All-tail}
 use Rattle.taxi_base.specs.declared.numbers.Arc.{Arc}
-use Rattle.taxi_base.specs.Airport.{Airport, Layout, Ends, ends, link_of, layout_of, segment_of, arc_of, meet, head, tail, pair_precedes, is_forbidden}
+use Rattle.taxi_base.specs.Airport.{Airport, Layout, ends, link_of, layout_of, segment_of, arc_of, meet, head, tail, pair_precedes, is_forbidden}
 use Rattle.taxi_base.proofs.AirportLaws.{arc_exists-segment, meet-exist}
 use Rattle.taxi_text.specs.Fields.{arc_word_of}
 use Rattle.taxi_text.proofs.ArcWords.{arc_word-again}

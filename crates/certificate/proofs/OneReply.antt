@@ -8,21 +8,20 @@ use Rattle.taxi_base.specs.declared.numbers.Segment.{Segment}
 use Rattle.taxi_base.specs.declared.rows.Step.{Step}
 use Rattle.taxi_base.specs.declared.answers.Flight.{Flight}
 use Rattle.taxi_base.specs.declared.answers.Found.{Found}
-use Rattle.taxi_base.specs.declared.answers.Found.TheVariants as found
 use Rattle.taxi_base.specs.declared.answers.Request.{Request}
 use Rattle.taxi_base.specs.declared.answers.Request.TheVariants as request
 use Rattle.taxi_base.specs.declared.answers.Refusal.{Refusal}
 use Rattle.taxi_base.specs.declared.answers.Refusal.TheVariants as refusal
 use Rattle.taxi_base.specs.Airport.{Airport, IsWellFormed, layout_of, class_named, node_named, segment_named}
 use Rattle.taxi_base.specs.Windows.{Hold, is_free}
-use Rattle.taxi_base.specs.Walks.{Conditions, free_among, conditions_among, LeavesNodeWithin, ReachesNodeWithin, Resumes, begin_of, end_of}
-use Rattle.taxi_base.specs.Labels.{IsTable, IsExitBefore, IsEntryAfter, AnswersArrival, AnswersDeparture}
+use Rattle.taxi_base.specs.Walks.{Conditions, free_among, conditions_among, LeavesNodeWithin, ReachesNodeWithin, Resumes}
+use Rattle.taxi_base.specs.Labels.{AnswersArrival}
 use Rattle.taxi_base.specs.State.{State, with_flight, with_route, without, holds_in, step_begun, steps_done}
 use Rattle.taxi_base.specs.Again.{retargeted, IsTarget, after_steps, AnswersAgain}
 use Rattle.taxi_base.proofs.AirportLaws.{seconds-range}
 use Rattle.taxi_base.specs.Reports.{AreHeldRows}
 use Rattle.taxi_base.proofs.ReportLaws.{AreHeldRows-same}
-use Rattle.taxi_base.proofs.LabelLaws.{HasOneFirstStep, HasOneFirstStep-leaves, HasOneFirstStep-resumes, IsPickedArrival-same, IsPickedDeparture-same, IsTable-same}
+use Rattle.taxi_base.proofs.LabelLaws.{HasOneFirstStep, HasOneFirstStep-leaves, HasOneFirstStep-resumes}
 use Rattle.taxi_base.specs.declared.answers.Chosen.{Chosen}
 use Rattle.taxi_base.proofs.ChoiceLaws.{AreNodes, AnswersArrivalChoice-same, AnswersDepartureChoice-same}
 use Rattle.taxi_base.proofs.AnswerLaws.{AnswersArrival-same, AnswersDeparture-same}

@@ -23,7 +23,7 @@ use Rattle.std.proofs.lemmas.List.Elements.{All-contains}
 use Rattle.taxi_text.specs.declared.command.FiledStep.{FiledStep}
 use Rattle.taxi_text.specs.declared.command.Command.{Command}
 use Rattle.taxi_text.specs.declared.command.Command.TheVariants as command
-use Rattle.taxi_text.specs.Commands.{command_of, EndsInList}
+use Rattle.taxi_text.specs.Commands.{command_of}
 use Rattle.certificate.specs.declared.block.Block.{Block}
 use Rattle.certificate.specs.declared.block.Block.TheVariants.{Refused, Route, NoRoute}
 use Rattle.certificate.specs.Asked.{IsInGrammar, party_of, arrival_named, departure_named, AnswersRequest, Choice, request_for, arrival_any_named, departure_any_named, AnswersChoice}

@@ -6,7 +6,7 @@ use Rattle.taxi_base.specs.declared.numbers.Class.{Class}
 use Rattle.taxi_base.specs.declared.rows.Step.{Step as Leg}
 use Rattle.taxi_base.specs.declared.answers.Request.{Request}
 use Rattle.taxi_base.specs.Airport.{Airport, Layout, layout_of, head}
-use Rattle.taxi_base.specs.Walks.{Conditions, Meets, AtLast, ReachesNode}
+use Rattle.taxi_base.specs.Walks.{Conditions, Meets, ReachesNode}
 use Rattle.taxi_base.specs.State.{State, with_flight}
 use Rattle.taxi_base.specs.Again.{retargeted}
 use Rattle.taxi_base.proofs.WalkLaws.{at-last}

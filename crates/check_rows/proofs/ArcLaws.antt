@@ -1,12 +1,11 @@
 -- It is enough to go through the arcs at a node, or around a row's.
-use Rattle.std.proofs.Common.{◌≡◌, ◌↔◌, ℕ, ◌<◌, Option, Some, None, List, [], ◌∷◌, length, get_or, All, is_some, option_map, IsTrue, refl, sym, subst}
-use Rattle.std.proofs.lemmas.Bool.{and_parts}
+use Rattle.std.proofs.Common.{◌≡◌, ◌↔◌, ℕ, ◌<◌, Option, Some, List, [], ◌∷◌, length, get_or, All, IsTrue, refl, sym, subst}
 use Rattle.std.proofs.lemmas.List.{get_or_default}
 use Rattle.taxi_base.specs.Lists.{AreAll}
 use Rattle.taxi_base.specs.declared.numbers.Arc.{Arc}
 use Rattle.taxi_base.specs.declared.numbers.Node.{Node}
 use Rattle.taxi_base.specs.declared.rows.LabelRow.{LabelRow}
-use Rattle.taxi_base.specs.Airport.{Layout, Ends, layout_of, ends, meet, head, permits, arc_exists}
+use Rattle.taxi_base.specs.Airport.{Layout, layout_of, head, arc_exists}
 use Rattle.taxi_base.specs.Walks.{Conditions}
 use Rattle.walk_labels.specs.Rules.{IsStartAtNode}
 use Rattle.walk_labels.specs.BackwardRules.{IsFinishAt}

@@ -1,17 +1,17 @@
 -- The windows that are known stay right as more are made, and where some are forgotten.
-use Rattle.std.proofs.Common.{◌≡◌, ℕ, ◌+◌, ◌*◌, ◌/◌, ◌<◌, ◌≤◌, ◌∷◌, Bool, false, ◌&&◌, not, ltb, Some, None, Option, List, length, get_or, set, take, All, map, inl, inr, ◌⊎◌, eqb, [], IsTrue, IsFalse, refl, sym, ◌∙◌, ap, subst, arith}
+use Rattle.std.proofs.Common.{◌≡◌, ℕ, ◌+◌, ◌*◌, ◌/◌, ◌<◌, ◌∷◌, Bool, false, ◌&&◌, not, ltb, Some, None, Option, List, length, get_or, set, take, All, map, inl, inr, ◌⊎◌, eqb, [], IsTrue, IsFalse, refl, sym, ◌∙◌, ap, subst, arith}
 use Rattle.std.specs.Prelude.{slice_get, Contains}
 use Rattle.std.specs.List.{list_any}
 use Rattle.std.specs.Option.{option_map_or}
-use Rattle.std.proofs.lemmas.Bool.{cases_eq, lt-ltb, false≢true, both_ways, and_parts, and_from, or_cases, or_left, or_right, eqb-true, eq-eqb, false_from_ne_true}
+use Rattle.std.proofs.lemmas.Bool.{cases_eq, lt-ltb, false≢true, both_ways, and_parts, and_from, eqb-true, eq-eqb, false_from_ne_true}
 use Rattle.std.proofs.lemmas.Option.{slice_get_within, get_or_from_slice_get, slice_get-get_or}
 use Rattle.std.proofs.lemmas.List.{get_or-set_same, get_or-set_other, length-set, length-map, take_more, get_or_default, get_or-map}
-use Rattle.std.proofs.lemmas.List.Elements.{All-push, Contains-push_cases}
+use Rattle.std.proofs.lemmas.List.Elements.{All-push}
 use Rattle.taxi_base.proofs.InOrder.{same_answer}
 use Rattle.taxi_base.specs.declared.numbers.Segment.{Segment}
 use Rattle.taxi_base.specs.declared.rows.Span.{Span}
 use Rattle.taxi_base.specs.declared.rows.Step.{Step}
-use Rattle.taxi_base.specs.Airport.{Airport, Layout, layout_of, link_of, segment_of, conflict, has_member}
+use Rattle.taxi_base.specs.Airport.{Airport, Layout, layout_of, link_of, segment_of, conflict}
 use Rattle.taxi_base.specs.Windows.{Hold, span_has, blocks, is_free, AreWindows}
 use Rattle.taxi_base.specs.Walks.{free_among}
 use Rattle.taxi_base.proofs.ListLaws.{Contains-first, list_any-true, list_any-member}

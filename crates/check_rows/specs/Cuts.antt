@@ -1,5 +1,5 @@
 -- What is left of the lists of windows where a span is cut out of them? No public clause cites these.
-use Rattle.std.specs.Prelude.{ℕ, ◌≡◌, Bool, true, ◌==◌, List, Some, length, slice_get, IsTrue}
+use Rattle.std.specs.Prelude.{◌≡◌, Bool, true, ◌==◌, List, Some, length, slice_get, IsTrue}
 use Rattle.std.specs.List.{list_any}
 use Rattle.taxi_base.specs.declared.numbers.Segment.{Segment}
 use Rattle.taxi_base.specs.declared.rows.Span.{Span}

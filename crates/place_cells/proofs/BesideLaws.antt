@@ -1,5 +1,5 @@
 -- The arcs beside a cell are those that may come next.
-use Rattle.std.proofs.Common.{◌≡◌, ℕ, ◌<◌, Bool, true, false, List, [], length, get_or, refl, ◌∙◌, ap, cond}
+use Rattle.std.proofs.Common.{◌≡◌, ℕ, true, List, [], get_or, ◌∙◌, ap}
 use Rattle.std.proofs.lemmas.Bool.{cond-true}
 use Rattle.taxi_base.specs.declared.numbers.Arc.{Arc}
 use Rattle.place_cells.specs.declared.spots.Beside.{Beside}

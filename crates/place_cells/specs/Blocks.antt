@@ -1,5 +1,5 @@
 -- Which spots are a block?
-use Rattle.std.specs.Prelude.{ℕ, zero, suc, ◌+◌, ◌*◌, ◌/◌, List, [], ◌∷◌, ◌++◌}
+use Rattle.std.specs.Prelude.{ℕ, zero, suc, ◌+◌, ◌/◌, List, [], ◌∷◌, ◌++◌}
 use Rattle.taxi_base.specs.declared.numbers.Arc.{Arc}
 use Rattle.place_cells.specs.declared.spots.Spot.{Spot}
 

@@ -1,4 +1,3 @@
-use Rattle.std.proofs.Common.{length}
 use Rattle.check_rows.proofs.AmongLaws.{part-among}
 use Rattle.check_rows.proofs.around.rows_from.Goals as goal
 

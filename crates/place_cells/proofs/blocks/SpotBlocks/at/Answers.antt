@@ -1,4 +1,4 @@
-use Rattle.std.proofs.Common.{◌≡◌, ◌-◌, ◌*◌, ◌/◌, ◌<◌, ◌≤◌, length, sym, ◌∙◌, ap, arith}
+use Rattle.std.proofs.Common.{◌-◌, ◌*◌, ◌<◌, length, sym, ◌∙◌, ap, arith}
 use Rattle.place_cells.specs.declared.blocks.Stretch.{Stretch}
 use Rattle.place_cells.specs.Laid.{spot_in}
 use Rattle.place_cells.specs.Stretches.{Spots}

@@ -1,5 +1,5 @@
-use Rattle.std.proofs.Common.{◌≡◌, ◌*◌, length, ap, arith}
-use Rattle.place_cells.specs.Stretches.{Spots, spots_of}
+use Rattle.std.proofs.Common.{length, ap, arith}
+use Rattle.place_cells.specs.Stretches.{Spots}
 use Rattle.place_cells.proofs.StretchLaws.{length-spots}
 use Rattle.place_cells.proofs.blocks.SpotBlocks.len.Goals as goal
 
