@@ -5,6 +5,3 @@ mod cells;
 mod departing;
 
 pub use departing::{depart, depart_in, depart_to_one_of};
-
-#[cfg(test)]
-mod tests;

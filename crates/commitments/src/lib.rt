@@ -11,8 +11,6 @@ mod ledger;
 mod route;
 mod segment_holds;
 mod shutting;
-#[cfg(test)]
-mod tests;
 
 pub use laws::windows_follow_from_holders;
 pub use ledger::Ledger;

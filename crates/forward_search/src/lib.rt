@@ -7,6 +7,3 @@ mod starting;
 
 pub use arriving::{arrive, arrive_in, arrive_to_one_of};
 pub use starting::Start;
-
-#[cfg(test)]
-mod tests;

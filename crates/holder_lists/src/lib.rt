@@ -5,8 +5,6 @@
 mod flight_list;
 mod name_order;
 mod party_list;
-#[cfg(test)]
-mod tests;
 
 pub use flight_list::FlightList;
 pub use party_list::PartyList;

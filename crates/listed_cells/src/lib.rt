@@ -4,6 +4,3 @@
 mod list;
 
 pub use list::{BackwardList, ForwardList, ListedCell, are_fit};
-
-#[cfg(test)]
-mod tests;

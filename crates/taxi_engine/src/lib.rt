@@ -11,8 +11,6 @@ mod rerouting;
 mod router;
 mod routing;
 mod shutting;
-#[cfg(test)]
-mod tests;
 mod texts;
 mod windows;
 

@@ -8,8 +8,6 @@ mod row;
 mod segment_windows;
 mod still_held;
 mod store;
-#[cfg(test)]
-mod tests;
 
 pub use held::OtherHolds;
 pub use laws::{

@@ -1,7 +1,7 @@
 //! Memory suffices for three flights and for a party, and they are found where their names stand.
 ghost use Rattle.std.specs.Prelude.{◌≡◌, ◌+◌, ◌≤◌, length, IfOk};
 
-use crate::{FlightList, PartyList};
+use holder_lists::{FlightList, PartyList};
 use std::alloc::Global;
 use std::test::Fail;
 use taxi_base::{Arc, Class, Flight, List, Memory, Name, Party, Request, Segment, Step};

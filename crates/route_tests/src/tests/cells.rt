@@ -1,9 +1,10 @@
 //! A taxiway from a runway R over J to a stand S1, and over J and K to a stand S2, with the windows that two holds leave.
-use crate::{BackwardList, ForwardList, ListedCell, are_fit};
 use label_search::{
     Cell, CellStep, CellValue, Closing, Found, LabelRoom, Opening, Run, earliest_exits,
     latest_entries,
 };
+use listed_cells::{BackwardList, ForwardList, ListedCell, are_fit};
+use std::alloc::Global;
 use std::test::Fail;
 
 fn run(first: usize, until: usize) -> Run {
@@ -75,8 +76,8 @@ fn step(cell: usize, enter: u32, leave: u32) -> CellStep {
     CellStep { cell, enter, leave }
 }
 
-/// From R to S1, where the walk may enter from one time to another.
-fn arrival(earliest: u32, latest: u32) -> [ListedCell; 14] {
+// From R to S1, where the walk may enter from one time to another.
+fn arrival_cells(earliest: u32, latest: u32) -> [ListedCell; 14] {
     let mut cells = windows_forward();
     let opening = Opening {
         earliest,
@@ -90,57 +91,8 @@ fn arrival(earliest: u32, latest: u32) -> [ListedCell; 14] {
     cells
 }
 
-#[test]
-fn arrivals_between_two_holds(rt: HostRuntime) -> Result<(), Fail> {
-    let mut room = LabelRoom::new(rt.alloc())?;
-    let waits = arrival(100, 160);
-    assert!(rt; are_fit(&waits));
-    let Found { values, route } = earliest_exits(
-        rt.alloc(),
-        &mut room,
-        &ForwardList { cells: &waits },
-    )?;
-    assert_eq!(rt; values.as_slice(), [value(1, 170)].as_slice());
-    let route = route.ok_or("a route")?;
-    assert_eq!(rt; route.best, 190);
-    assert_eq!(rt;
-        route.steps.as_slice(),
-        [step(1, 140, 170), step(5, 170, 190)].as_slice()
-    );
-
-    let just = arrival(60, 60);
-    assert!(rt; are_fit(&just));
-    let Found { values, route } = earliest_exits(
-        rt.alloc(),
-        &mut room,
-        &ForwardList { cells: &just },
-    )?;
-    assert_eq!(rt; values.as_slice(), [value(0, 90)].as_slice());
-    let route = route.ok_or("a route")?;
-    assert_eq!(rt;
-        route.steps.as_slice(),
-        [step(0, 60, 90), step(4, 90, 110)].as_slice()
-    );
-    Ok(())
-}
-
-#[test]
-fn no_arrival_a_second_late(rt: HostRuntime) -> Result<(), Fail> {
-    let mut room = LabelRoom::new(rt.alloc())?;
-    let late = arrival(61, 61);
-    assert!(rt; are_fit(&late));
-    let Found { values, route } = earliest_exits(
-        rt.alloc(),
-        &mut room,
-        &ForwardList { cells: &late },
-    )?;
-    assert!(rt; route.is_none());
-    assert!(rt; values.is_empty());
-    Ok(())
-}
-
-#[test]
-fn a_departure_between_two_holds(rt: HostRuntime) -> Result<(), Fail> {
+// From S2 to R, out at 200.
+fn departure_cells() -> [ListedCell; 14] {
     let mut cells = windows_backward();
     let closing = Closing {
         earliest_out: 200,
@@ -149,22 +101,63 @@ fn a_departure_between_two_holds(rt: HostRuntime) -> Result<(), Fail> {
     cells[2].closing = Some(closing);
     cells[3].closing = Some(closing);
     cells[13].is_goal = true;
-    assert!(rt; are_fit(&cells));
-    let mut room = LabelRoom::new(rt.alloc())?;
-    let Found { values, route } = latest_entries(
-        rt.alloc(),
-        &mut room,
-        &BackwardList { cells: &cells },
-    )?;
-    assert_eq!(rt;
-        values.as_slice(),
-        [value(3, 170), value(11, 145)].as_slice()
-    );
-    let route = route.ok_or("a route")?;
-    assert_eq!(rt; route.best, 130);
-    assert_eq!(rt;
-        route.steps.as_slice(),
-        [step(13, 130, 145), step(11, 145, 170), step(3, 170, 200)].as_slice()
-    );
+    cells
+}
+
+fn arrival(alloc: Global, earliest: u32, latest: u32) -> Result<Found, Fail> {
+    let cells = arrival_cells(earliest, latest);
+    if !are_fit(&cells) {
+        return Err(Fail::from("the cells are fit"));
+    }
+    let mut room = LabelRoom::new(alloc)?;
+    Ok(earliest_exits(alloc, &mut room, &ForwardList { cells: &cells })?)
+}
+
+fn departure(alloc: Global) -> Result<Found, Fail> {
+    let cells = departure_cells();
+    if !are_fit(&cells) {
+        return Err(Fail::from("the cells are fit"));
+    }
+    let mut room = LabelRoom::new(alloc)?;
+    Ok(latest_entries(alloc, &mut room, &BackwardList { cells: &cells })?)
+}
+
+// Whether these values were found, and a route that is as good and has these steps.
+fn is_found(found: &Found, values: &[CellValue], best: u32, steps: &[CellStep]) -> bool {
+    let Some(route) = &found.route else {
+        return false;
+    };
+    found.values.as_slice() == values && route.best == best && route.steps.as_slice() == steps
+}
+
+#[test]
+fn an_arrival_waits_for_the_second_window(rt: HostRuntime) -> Result<(), Fail> {
+    let found = arrival(rt.alloc(), 100, 160)?;
+    let steps = [step(1, 140, 170), step(5, 170, 190)];
+    assert!(rt; is_found(&found, &[value(1, 170)], 190, &steps));
+    Ok(())
+}
+
+#[test]
+fn an_arrival_fits_just_into_the_first_window(rt: HostRuntime) -> Result<(), Fail> {
+    let found = arrival(rt.alloc(), 60, 60)?;
+    let steps = [step(0, 60, 90), step(4, 90, 110)];
+    assert!(rt; is_found(&found, &[value(0, 90)], 110, &steps));
+    Ok(())
+}
+
+#[test]
+fn no_arrival_a_second_late(rt: HostRuntime) -> Result<(), Fail> {
+    let found = arrival(rt.alloc(), 61, 61)?;
+    assert!(rt; found.route.is_none() && found.values.is_empty());
+    Ok(())
+}
+
+#[test]
+fn a_departure_between_two_holds(rt: HostRuntime) -> Result<(), Fail> {
+    let found = departure(rt.alloc())?;
+    let values = [value(3, 170), value(11, 145)];
+    let steps = [step(13, 130, 145), step(11, 145, 170), step(3, 170, 200)];
+    assert!(rt; is_found(&found, &values, 130, &steps));
     Ok(())
 }

@@ -1,0 +1,100 @@
+//! An arrival to the nearer of two stands and a departure to the better of two runways, in windows that no one holds.
+use super::small_airport;
+use crate::free_windows;
+use airport_file::Airport;
+use backward_search::depart_to_one_of;
+use forward_search::{Start, arrive_to_one_of};
+use place_cells::SearchRoom;
+use std::alloc::Global;
+use std::test::Fail;
+use taxi_base::{Arc, Class, Found, LabelRow, Memory, Node, Step, Time};
+
+// A second runway, R2, over K.
+const SECOND_RUNWAY: &[u8] = b"node,R2,runway\nsegment,E,K,R2,both\nseconds,E,M,40\n";
+
+// From R at 100 to S2 or S1.
+fn arrival(alloc: Global, airport: &Airport) -> Result<Found, Memory> {
+    let store = free_windows(alloc, airport)?;
+    let mut room = SearchRoom::new(alloc)?;
+    let start = Start::Node {
+        from: Node(0),
+        earliest: 100,
+        latest: 100,
+    };
+    arrive_to_one_of(
+        alloc,
+        &mut room,
+        airport,
+        &store,
+        start,
+        Class(0),
+        &[Node(4), Node(3)],
+        0,
+    )
+}
+
+// From S2 to R or R2, out at 200.
+fn departure(alloc: Global, airport: &Airport) -> Result<Found, Memory> {
+    let store = free_windows(alloc, airport)?;
+    let mut room = SearchRoom::new(alloc)?;
+    depart_to_one_of(
+        alloc,
+        &mut room,
+        airport,
+        &store,
+        Node(4),
+        &[Node(0), Node(5)],
+        Class(0),
+        200,
+        200,
+        0,
+    )
+}
+
+fn step(arc: u32, enter: Time, leave: Time) -> Step {
+    Step {
+        arc: Arc(arc),
+        enter,
+        leave,
+    }
+}
+
+fn label(arc: u32, value: Time) -> LabelRow {
+    LabelRow {
+        arc: Arc(arc),
+        from: 0,
+        until: 3600,
+        value,
+    }
+}
+
+// Whether a route of these steps was found, with these labels.
+fn is_route(found: &Found, walked: &[Step], table: &[LabelRow]) -> bool {
+    match found {
+        Found::NoRoute { .. } => false,
+        Found::Route { steps, labels } => {
+            steps.as_slice() == walked && labels.as_slice() == table
+        }
+    }
+}
+
+#[test]
+fn an_arrival_goes_to_the_stand_that_it_reaches_soonest(rt: HostRuntime) -> Result<(), Fail> {
+    let airport = small_airport(rt.alloc(), SECOND_RUNWAY).ok_or("an airport")?;
+    let found = arrival(rt.alloc(), &airport)?;
+    let walked = [step(0, 100, 130), step(2, 130, 150)];
+    assert!(rt; is_route(&found, &walked, &[label(0, 130)]));
+    Ok(())
+}
+
+#[test]
+fn a_departure_goes_to_the_runway_for_which_it_may_begin_latest(
+    rt: HostRuntime,
+) -> Result<(), Fail> {
+    let airport = small_airport(rt.alloc(), SECOND_RUNWAY).ok_or("an airport")?;
+    let found = departure(rt.alloc(), &airport)?;
+    let walked = [step(7, 145, 160), step(8, 160, 200)];
+    let table = [label(1, 170), label(3, 150), label(8, 160)];
+    assert!(rt; is_route(&found, &walked, &table));
+    Ok(())
+}
