@@ -1,4 +1,6 @@
 pub mod LineLaws
+pub mod WriteLaws
+pub mod DigitLaws
 pub mod Pieces
 pub mod FiledLaws
 pub mod GrammarLaws

@@ -1,9 +1,7 @@
 -- A line of words, as it grows word by word.
-use Rattle.std.proofs.Common.{◌≡◌, ℕ, zero, suc, ◌+◌, ◌*◌, ◌/◌, ◌%◌, ◌<◌, ◌≤◌, ◌^◌, List, [], ◌∷◌, ◌++◌, length, length-append, drop, get_or, decimal, append_assoc, refl, ◌∙◌, ap, arith}
+use Rattle.std.proofs.Common.{◌≡◌, ℕ, zero, suc, ◌+◌, ◌<◌, ◌≤◌, ◌^◌, List, [], ◌∷◌, ◌++◌, length, length-append, drop, decimal, append_assoc, refl, ◌∙◌, ap, arith}
 use Rattle.std.proofs.lemmas.List.{length-drop}
 use Rattle.std.proofs.lemmas.Fmt.{length-decimal-le}
-use Rattle.itoa.proofs.Decimal.{PAIRS_at}
-use Rattle.certificate.specs.declared.digits.TheConstants.{PAIRS}
 use Rattle.certificate.specs.Texts.{line_text, and_words}
 
 and_words-append : (front text : List ℕ) (words : List (List ℕ)) → and_words (front ++ text) words ≡ front ++ and_words text words
@@ -22,19 +20,15 @@ line_text-and_words first (word ∷ words) =
 -- ---- a line that is written from its end
 
 pub has-room : (start : ℕ) (bytes old : List ℕ) → start ≤ 1536 → length bytes ≡ 1536 → drop start bytes ≡ old → length old + 21 ≤ 1536
-    → (20 ≤ start) × (start ≤ length bytes)
+    → (21 ≤ start) × (start ≤ length bytes)
 has-room start bytes old low long is room = (omega (arith, ap length is, room, long, low, length-drop start bytes), omega (arith, low, long))
 
-pub length-with_number : (n : ℕ) (old new : List ℕ) → n < 2 ^ 64 → new ≡ decimal n ++ old → length new ≤ length old + 20
-length-with_number n old new fits is =
-    omega (arith, ap length is, length-append (decimal n) old, length-decimal-le 20 n (omega arith) (omega (arith, fits)) fits)
+pub length-with_number : (n byte : ℕ) (old new : List ℕ) → n < 2 ^ 64 → new ≡ decimal n ++ byte ∷ old → length new ≤ length old + 21
+length-with_number n byte old new fits is =
+    omega (arith, ap length is, length-append (decimal n) (byte ∷ old), length-decimal-le 20 n (omega arith) (omega (arith, fits)) fits)
 
 pub drop-whole : (xs : List ℕ) (n : ℕ) → length xs ≡ n → drop n xs ≡ []
 drop-whole [] zero long = refl
 drop-whole [] (suc n) long = refl
 drop-whole (x ∷ xs) zero long = absurd (omega (arith, long))
 drop-whole (x ∷ xs) (suc n) long = drop-whole xs n (omega (arith, long))
-
--- the two digits of a number below 100, which itoa keeps in the same order
-pub pair_at : (p : ℕ) → p < 100 → (get_or PAIRS (p * 2) 0 ≡ 48 + p / 10) × (get_or PAIRS (p * 2 + 1) 0 ≡ 48 + p % 10)
-pair_at p low = PAIRS_at p low

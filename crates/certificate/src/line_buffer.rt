@@ -1,10 +1,11 @@
 //! Some lines of a block, written from the end of the last to the front of the first in a buffer that is kept for the next. So
-//! digits are written where they are to stand, the last first, and many lines come to a text in one piece.
-ghost use Rattle.std.specs.Prelude.{◌≡◌, ◌+◌, ◌≤◌, ◌∷◌, ◌++◌, [], length, drop, decimal};
+//! digits are written where they are to stand, the last first, and many lines come to a text in one piece. A word is written with
+//! what stands behind it: a blank, or behind the last word of a line the line feed.
+ghost use Rattle.std.specs.Prelude.{◌≡◌, ◌+◌, ◌≤◌, ◌∷◌, ◌++◌, [], length, take, drop, decimal};
 ghost use Rattle.airport_file.specs.Words.{class_word, segment_word, word_of_arc};
 ghost use Rattle.certificate.specs.Printable.{HasArc, HasSegment, HasClass};
 
-use crate::digits::write_number;
+use crate::digits::{write_last_number, write_number};
 use airport_file::Airport;
 use std::marker::Model;
 use taxi_base::{Arc, Class, Name, Segment};
@@ -55,14 +56,6 @@ impl LineBuffer {
         self.start = ROOM;
     }
 
-    /// A line feed that nothing comes behind.
-    pub(crate) fn begin(&mut self)
-        ensures { self.new ≡ 10 ∷ [] }
-    {
-        self.clear();
-        self.put_byte(b'\n');
-    }
-
     /// A byte before what is written.
     pub(crate) fn put_byte(&mut self, byte: u8)
         requires { 1 + length self.old ≤ 1536 }
@@ -74,72 +67,104 @@ impl LineBuffer {
     }
 
     /// A text before what is written.
-    pub(crate) fn put(&mut self, text: &[u8])
+    #[inline(always)]
+    pub(crate) fn put<const N: usize>(&mut self, text: &[u8; N])
         requires { length text.now + length self.old ≤ 1536 }
         ensures { self.new ≡ text.now ++ self.old }
     {
-        let start = self.start - text.len();
-        self.bytes[start..self.start].copy_from_slice(text);
+        let start = self.start - N;
+        write_group(text, &mut self.bytes, start);
         self.start = start;
     }
 
-    /// A blank and a number before what is written.
+    /// A number and a blank before what is written.
+    #[inline(always)]
     pub(crate) fn put_number(&mut self, number: u64)
         requires { length self.old + 21 ≤ 1536 }
-        ensures text { self.new ≡ 32 ∷ decimal number ++ self.old }
+        ensures text { self.new ≡ decimal number ++ 32 ∷ self.old }
         ensures length { length self.new ≤ length self.old + 21 }
     {
         self.start = write_number(number, &mut self.bytes, self.start);
-        self.put_byte(b' ');
     }
 
-    /// A blank and a name before what is written.
+    /// A number and a line feed before what is written.
     #[inline(always)]
+    pub(crate) fn put_last_number(&mut self, number: u64)
+        requires { length self.old + 21 ≤ 1536 }
+        ensures text { self.new ≡ decimal number ++ 10 ∷ self.old }
+        ensures length { length self.new ≤ length self.old + 21 }
+    {
+        self.start = write_last_number(number, &mut self.bytes, self.start);
+    }
+
+    /// A name and a blank before what is written.
     pub(crate) fn put_name(&mut self, name: &Name)
         requires { length self.old + 17 ≤ 1536 }
-        ensures text { self.new ≡ 32 ∷ name.now ++ self.old }
+        ensures text { self.new ≡ name.now ++ 32 ∷ self.old }
         ensures length { length self.new ≤ length self.old + 17 }
+    {
+        self.put_byte(b' ');
+        self.put_name_alone(name);
+    }
+
+    // A name before what is written, with nothing behind it.
+    #[inline(always)]
+    fn put_name_alone(&mut self, name: &Name)
+        requires { length self.old + 16 ≤ 1536 }
+        ensures text { self.new ≡ name.now ++ self.old }
+        ensures length { length self.new ≤ length self.old + 16 }
     {
         let text = name.bytes();
         let start = self.start - text.len();
         write_short(text, &mut self.bytes, start);
         self.start = start;
-        self.put_byte(b' ');
     }
 
-    /// A blank and the name of a segment before what is written.
+    /// The name of a segment and a blank before what is written.
     pub(crate) fn put_segment(&mut self, airport: &Airport, segment: Segment)
         requires exists { HasSegment airport.now segment }
         requires room { length self.old + 17 ≤ 1536 }
-        ensures text { self.new ≡ 32 ∷ segment_word airport.now segment ++ self.old }
+        ensures text { self.new ≡ segment_word airport.now segment ++ 32 ∷ self.old }
         ensures length { length self.new ≤ length self.old + 17 }
     {
         self.put_name(&airport.segment_name(segment));
     }
 
-    /// A blank and the name of a class before what is written.
+    /// The name of a segment and a line feed before what is written.
+    pub(crate) fn put_last_segment(&mut self, airport: &Airport, segment: Segment)
+        requires exists { HasSegment airport.now segment }
+        requires room { length self.old + 17 ≤ 1536 }
+        ensures text { self.new ≡ segment_word airport.now segment ++ 10 ∷ self.old }
+        ensures length { length self.new ≤ length self.old + 17 }
+    {
+        self.put_byte(b'\n');
+        self.put_name_alone(&airport.segment_name(segment));
+    }
+
+    /// The name of a class and a blank before what is written.
     pub(crate) fn put_class(&mut self, airport: &Airport, class: Class)
         requires exists { HasClass airport.now class }
         requires room { length self.old + 17 ≤ 1536 }
-        ensures text { self.new ≡ 32 ∷ class_word airport.now class ++ self.old }
+        ensures text { self.new ≡ class_word airport.now class ++ 32 ∷ self.old }
         ensures length { length self.new ≤ length self.old + 17 }
     {
         self.put_name(&airport.class_name(class));
     }
 
-    /// A blank and the word of an arc before what is written.
+    /// The word of an arc and a blank before what is written.
     pub(crate) fn put_arc(&mut self, airport: &Airport, arc: Arc)
         requires exists { HasArc airport.now arc }
         requires room { length self.old + 18 ≤ 1536 }
-        ensures text { self.new ≡ 32 ∷ word_of_arc airport.now arc ++ self.old }
+        ensures text { self.new ≡ word_of_arc airport.now arc ++ 32 ∷ self.old }
         ensures length { length self.new ≤ length self.old + 18 }
     {
+        self.put_byte(b' ');
         self.put_byte(if arc.is_forward() { b'+' } else { b'-' });
-        self.put_segment(airport, arc.segment());
+        self.put_name_alone(&airport.segment_name(arc.segment()));
     }
 }
 
-// A text of at most 16 bytes, written from a place on: its first bytes and its last, which meet. So no call copies them.
+// A text of at most 16 bytes, written from a place on: its last bytes and its first, which meet. So no call copies them.
 #[inline(always)]
 fn write_short(text: &[u8], bytes: &mut [u8], at: usize)
     requires short { length text.now ≤ 16 }
@@ -147,21 +172,42 @@ fn write_short(text: &[u8], bytes: &mut [u8], at: usize)
     ensures { drop at bytes.new ≡ text.now ++ drop (at + length text.now) bytes.old }
 {
     if text.len() >= 8 {
-        write_ends(text, 8, bytes, at);
+        write_ends::<8>(text, bytes, at);
     } else if text.len() >= 4 {
-        write_ends(text, 4, bytes, at);
+        write_ends::<4>(text, bytes, at);
     } else {
         bytes[at..at + text.len()].copy_from_slice(text);
     }
 }
 
 #[inline(always)]
-fn write_ends(text: &[u8], count: usize, bytes: &mut [u8], at: usize)
-    requires text { (count ≤ length text.now) × (length text.now ≤ count + count) }
+fn write_ends<const N: usize>(text: &[u8], bytes: &mut [u8], at: usize)
+    requires text { (N ≤ length text.now) × (length text.now ≤ N + N) }
     requires room { at + length text.now ≤ length bytes.old }
     ensures { drop at bytes.new ≡ text.now ++ drop (at + length text.now) bytes.old }
 {
-    let rest = text.len() - count;
-    bytes[at..at + count].copy_from_slice(&text[..count]);
-    bytes[at + rest..at + text.len()].copy_from_slice(&text[rest..]);
+    let rest = text.len() - N;
+    write_group(&group_at::<N>(text, rest), bytes, at + rest);
+    write_group(&group_at::<N>(text, 0), bytes, at);
+}
+
+// The bytes of a text from a place on, in a copy of their own.
+#[inline(always)]
+fn group_at<const N: usize>(text: &[u8], from: usize) -> [u8; N]
+    requires { from + N ≤ length text.now }
+    ensures { result ≡ take N (drop from text.now) }
+{
+    <[u8; N]>::try_from(&text[from..from + N]).unwrap()
+}
+
+// A group of bytes, written from a place on. How many they are is known when the program is built, so the loop becomes a move or
+// two; `copy_from_slice` would first look whether the two overlap.
+#[inline(always)]
+fn write_group<const N: usize>(group: &[u8; N], bytes: &mut [u8], at: usize)
+    requires { at + N ≤ length bytes.old }
+    ensures { drop at bytes.new ≡ group.now ++ drop (at + N) bytes.old }
+{
+    for i in 0..N {
+        bytes[at + i] = group[i];
+    }
 }

@@ -105,46 +105,46 @@ fn print_line_and_rows(
 fn write_route_head(flight: &Name, second: Time, steps: usize, labels: usize, line: &mut LineBuffer)
     ensures { line.new ≡ line_text (codes "route" ∷ flight.now ∷ decimal second ∷ decimal steps ∷ decimal labels ∷ []) }
 {
-    line.begin();
-    line.put_number(labels as u64);
+    line.clear();
+    line.put_last_number(labels as u64);
     line.put_number(steps as u64);
     line.put_number(u64::from(second));
     line.put_name(flight);
-    line.put(b"route");
+    line.put(b"route ");
 }
 
 fn write_no_route_head(labels: usize, line: &mut LineBuffer)
     ensures { line.new ≡ line_text (codes "no-route" ∷ decimal labels ∷ []) }
 {
-    line.begin();
-    line.put_number(labels as u64);
-    line.put(b"no-route");
+    line.clear();
+    line.put_last_number(labels as u64);
+    line.put(b"no-route ");
 }
 
 fn write_windows_head(airport: &Airport, segment: Segment, windows: usize, line: &mut LineBuffer)
     requires { HasSegment airport.now segment }
     ensures { line.new ≡ line_text (codes "windows" ∷ segment_word airport.now segment ∷ decimal windows ∷ []) }
 {
-    line.begin();
-    line.put_number(windows as u64);
+    line.clear();
+    line.put_last_number(windows as u64);
     line.put_segment(airport, segment);
-    line.put(b"windows");
+    line.put(b"windows ");
 }
 
 fn write_occupancy_head(airport: &Airport, segment: Segment, held: usize, line: &mut LineBuffer)
     requires { HasSegment airport.now segment }
     ensures { line.new ≡ line_text (codes "occupancy" ∷ segment_word airport.now segment ∷ decimal held ∷ []) }
 {
-    line.begin();
-    line.put_number(held as u64);
+    line.clear();
+    line.put_last_number(held as u64);
     line.put_segment(airport, segment);
-    line.put(b"occupancy");
+    line.put(b"occupancy ");
 }
 
 fn write_timetable_head(flights: usize, line: &mut LineBuffer)
     ensures { line.new ≡ line_text (codes "timetable" ∷ decimal flights ∷ []) }
 {
-    line.begin();
-    line.put_number(flights as u64);
-    line.put(b"timetable");
+    line.clear();
+    line.put_last_number(flights as u64);
+    line.put(b"timetable ");
 }

@@ -1,5 +1,5 @@
 //! The rows of a block, each of one line.
-ghost use Rattle.std.specs.Prelude.{◌≡◌, ◌≤◌, ◌+◌, ◌*◌, ◌++◌, ℕ, List, length, All, OnOk, OnErr, ⊤};
+ghost use Rattle.std.specs.Prelude.{◌≡◌, ◌≤◌, ◌+◌, ◌*◌, ◌∷◌, ◌++◌, ℕ, List, length, All, OnOk, OnErr, ⊤};
 ghost use Rattle.taxi_base.specs.Airport.{Airport as Plain};
 ghost use Rattle.certificate.specs.Texts.{line_text, step_words, label_words, window_words, held_words, flight_words, kind_word};
 ghost use Rattle.certificate.specs.Printable.{HasArc, HasSegment, HasClass};
@@ -32,11 +32,10 @@ impl Row for Step {
     ghost IsWritableRow = { λ airport step. HasArc airport step.arc };
 
     fn write(&self, airport: &Airport, line: &mut LineBuffer) {
-        line.put_byte(b'\n');
-        line.put_number(u64::from(self.leave));
+        line.put_last_number(u64::from(self.leave));
         line.put_number(u64::from(self.enter));
         line.put_arc(airport, self.arc);
-        line.put(b"step");
+        line.put(b"step ");
     }
 }
 
@@ -46,12 +45,11 @@ impl Row for LabelRow {
     ghost IsWritableRow = { λ airport label. HasArc airport label.arc };
 
     fn write(&self, airport: &Airport, line: &mut LineBuffer) {
-        line.put_byte(b'\n');
-        line.put_number(u64::from(self.value));
+        line.put_last_number(u64::from(self.value));
         line.put_number(u64::from(self.until));
         line.put_number(u64::from(self.from));
         line.put_arc(airport, self.arc);
-        line.put(b"label");
+        line.put(b"label ");
     }
 }
 
@@ -62,10 +60,9 @@ impl Row for Span {
 
     fn write(&self, airport: &Airport, line: &mut LineBuffer) {
         let _names = airport;
-        line.put_byte(b'\n');
-        line.put_number(u64::from(self.until));
+        line.put_last_number(u64::from(self.until));
         line.put_number(u64::from(self.from));
-        line.put(b"window");
+        line.put(b"window ");
     }
 }
 
@@ -75,12 +72,11 @@ impl Row for HeldRow {
     ghost IsWritableRow = { λ airport row. HasSegment airport row.segment };
 
     fn write(&self, airport: &Airport, line: &mut LineBuffer) {
-        line.put_byte(b'\n');
-        line.put_segment(airport, self.segment);
+        line.put_last_segment(airport, self.segment);
         line.put_name(&self.flight);
         line.put_number(u64::from(self.until));
         line.put_number(u64::from(self.from));
-        line.put(b"held");
+        line.put(b"held ");
     }
 }
 
@@ -90,25 +86,24 @@ impl Row for FlightRow {
     ghost IsWritableRow = { λ airport row. HasClass airport row.class };
 
     fn write(&self, airport: &Airport, line: &mut LineBuffer) {
-        line.put_byte(b'\n');
-        line.put_number(u64::from(self.end));
+        line.put_last_number(u64::from(self.end));
         line.put_number(u64::from(self.start));
         line.put_class(airport, self.class);
-        line.put(kind_word(self.kind));
-        line.put_byte(b' ');
+        put_kind(self.kind, line);
         line.put_name(&self.flight);
-        line.put(b"flight");
+        line.put(b"flight ");
     }
 }
 
-fn kind_word(kind: FlightKind) -> &'static [u8]
-    ensures text { result.now ≡ kind_word kind }
-    ensures length { length result.now ≤ 9 }
+fn put_kind(kind: FlightKind, line: &mut LineBuffer)
+    requires { length line.old + 10 ≤ 1536 }
+    ensures text { line.new ≡ kind_word kind ++ 32 ∷ line.old }
+    ensures length { length line.new ≤ length line.old + 10 }
 {
     match kind {
-        FlightKind::Filed => b"filed",
-        FlightKind::Arrival => b"arrival",
-        FlightKind::Departure => b"departure",
+        FlightKind::Filed => line.put(b"filed "),
+        FlightKind::Arrival => line.put(b"arrival "),
+        FlightKind::Departure => line.put(b"departure "),
     }
 }
 

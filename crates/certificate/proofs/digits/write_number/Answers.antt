@@ -1,30 +1,21 @@
-use Rattle.std.proofs.Common.{◌≡◌, ◌+◌, ◌-◌, ◌/◌, arith}
-use Rattle.std.proofs.lemmas.Fmt.{decimal_digit, length-decimal-le}
-use Rattle.std.proofs.lemmas.List.{drop-set}
-use Rattle.itoa.proofs.Decimal.{decimal_four, length_four, length_one}
+use Rattle.std.proofs.Common.{◌≡◌, ℕ, List, ◌+◌, ◌-◌, ◌∷◌, [], ◌++◌, drop, sym, ap, ◌∙◌, append_assoc, length-set, arith}
+use Rattle.std.proofs.lemmas.Fmt.{length-decimal-le}
+use Rattle.certificate.proofs.DigitLaws.{decimal_five, length_five}
 use Rattle.certificate.proofs.digits.write_number.Goals as goal
 
 pub write_digits-requires : goal.write_digits-requires
 write_digits-requires c =
     let fits = c.ranges.number.fits in
-    (omega (arith, length-decimal-le 20 c.args.number (omega arith) (omega (arith, fits)) fits), c.requires.1)
+    (omega (arith, length-decimal-le 20 c.args.number (omega arith) (omega (arith, fits)) fits, c.requires.0), omega (arith, length-set {A = ℕ}, c.requires.1))
 
 pub returns-clause-start : goal.returns-clause-start
-returns-clause-start c = omega (arith, length_four c.args.number c.if-number-lt10000.false c.ranges.number.fits, length_one (c.args.number / 10000) (omega (arith, c.if-number-gt99999.false)))
+returns-clause-start c = omega (arith, length_five c.args.number c.if-number-lt10000.false c.if-number-gt99999.false, c.requires.0)
 
 pub returns-clause-written : goal.returns-clause-written
 returns-clause-written c =
     let end = c.args.end in
-    let a : end - 5 + 1 ≡ end - 4 = omega arith in
-    let b : end - 4 + 2 ≡ end - 2 = omega arith in
-    let d : end - 2 + 2 ≡ end = omega arith in
-    rw (
-      drop-set c.write_pair-2.new.bytes (end - 5) _ (omega arith),
-      a,
-      c.write_pair-2.ensures,
-      b,
-      c.write_pair.ensures,
-      d,
-      decimal_four c.args.number c.if-number-lt10000.false c.ranges.number.fits,
-      decimal_digit (c.args.number / 10000) (omega (arith, c.if-number-gt99999.false)),
-    )
+    let a : end - 6 + 2 ≡ end - 4 = omega (arith, c.requires.0) in
+    let b : end - 4 + 4 ≡ end = omega (arith, c.requires.0) in
+    rw (c.write_pair.ensures, a, c.write_triple.ensures, b)
+    (sym (ap (λ (l : List ℕ). l ++ drop end c.args.bytes.now) (decimal_five c.args.number c.if-number-lt10000.false c.if-number-gt99999.false))
+    ∙ append_assoc _ (32 ∷ []) (drop end c.args.bytes.now))

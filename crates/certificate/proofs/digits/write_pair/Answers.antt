@@ -1,6 +1,6 @@
 use Rattle.std.proofs.Common.{◌≡◌, ◌+◌, ◌%◌, set, arith, length-set}
 use Rattle.std.proofs.lemmas.List.{set_comm, drop-set}
-use Rattle.certificate.proofs.LineLaws.{pair_at}
+use Rattle.certificate.proofs.DigitLaws.{pair_at}
 use Rattle.certificate.proofs.digits.write_pair.Goals as goal
 
 pub returns : goal.returns

@@ -1,6 +1,12 @@
-use Rattle.std.proofs.Common.{rules, arith}
-use Rattle.std.proofs.lemmas.List.{same_lists, places}
+use Rattle.std.proofs.Common.{◌+◌, ◌-◌, ◌++◌, List, ℕ, length, drop, ap, ◌∙◌, arith}
+use Rattle.certificate.proofs.WriteLaws.{ends-meet}
 use Rattle.certificate.proofs.line_buffer.write_ends.Goals as goal
 
 pub returns : goal.returns
-returns c = rw (c.copy_from_slice.ensures.after, c.copy_from_slice-2.ensures.after) (same_lists _ _ (search (rules, places)) (λ k d h. grind (arith, places)))
+returns g c =
+    let text : List ℕ = c.args.text.now in
+    let rest : ℕ = length text - g.row.N in
+    let at : ℕ = c.args.at in
+    ends-meet text c.args.bytes.now c.write_group.new.bytes c.write_group-2.new.bytes at rest g.row.N (omega (arith, c.requires.text)) (omega (arith, c.requires.text))
+    (c.write_group.ensures ∙ ap (λ (l : List ℕ). l ++ drop (at + rest + g.row.N) c.args.bytes.now) c.group_at.ensures)
+    (c.write_group-2.ensures ∙ ap (λ (l : List ℕ). l ++ drop (at + g.row.N) c.write_group.new.bytes) c.group_at-2.ensures)

@@ -1,24 +1,11 @@
-use Rattle.std.proofs.Common.{◌∙◌, ◌++◌, List, ℕ, decimal, length, ap, arith}
+use Rattle.std.proofs.Common.{◌∙◌, ◌∷◌, ◌++◌, List, ℕ, decimal, ap}
 use Rattle.certificate.proofs.LineLaws.{has-room, length-with_number}
 use Rattle.certificate.proofs.line_buffer.LineBuffer.put_number.Goals as goal
 
 pub write_number-self-inside-requires : goal.write_number-self-inside-requires
 write_number-self-inside-requires c = has-room c.self.inside.start c.self.inside.bytes _ c.self.invariant c.self.told c.self.view_is c.requires
 
-pub put_byte-requires : goal.put_byte-requires
-put_byte-requires c =
-    omega (
-      arith,
-      c.requires,
-      length-with_number c.args.number c.args.self.now _ c.ranges.number.fits
-          (c.write_number-self-inside.ensures.written ∙ ap (λ (l : List ℕ). decimal c.args.number ++ l) c.self.view_is),
-    )
-
 pub returns-clause-length : goal.returns-clause-length
 returns-clause-length c =
-    omega (
-      arith,
-      ap length c.put_byte.ensures,
-      length-with_number c.args.number c.args.self.now _ c.ranges.number.fits
-          (c.write_number-self-inside.ensures.written ∙ ap (λ (l : List ℕ). decimal c.args.number ++ l) c.self.view_is),
-    )
+    length-with_number c.args.number 32 c.args.self.now _ c.ranges.number.fits
+    (c.write_number-self-inside.ensures.written ∙ ap (λ (l : List ℕ). decimal c.args.number ++ 32 ∷ l) c.self.view_is)
