@@ -6,23 +6,24 @@ ghost use Rattle.taxi_base.specs.Airport.{head};
 ghost use Rattle.label_search.specs.Backward.{BackwardProblem, finish_of};
 ghost use Rattle.place_cells.specs.Grounds.{ground_of};
 ghost use Rattle.place_cells.specs.Tells.{IsBackward, TellsCell};
+ghost use Rattle.place_cells.specs.Found.{row_in};
 ghost use Rattle.backward_search.specs.Departures.{finish_at, last_arcs, departure_problem};
 
-use label_search::{BackwardCells, Cell, Closing, Part, Run};
+use label_search::{BackwardCells, Cell, CellValue, Closing, Part, Run};
 use place_cells::{ArcRow, Beside, SearchGround};
 use std::alloc::Global;
-use taxi_base::{Arc, Memory, Node, Time};
+use taxi_base::{Arc, LabelRow, Memory, Node, Time};
 
 /// Walks on a ground that leave a node, and end at one of some others within a time. The last arcs are those by which they may end.
 #[derive(Drop)]
 pub(crate) struct DepartureCells<'a> {
-    pub(crate) ground: &'a SearchGround<'a>,
+    pub(crate) ground: SearchGround<'a>,
     pub(crate) from: Node,
     pub(crate) to: &'a [Node],
     pub(crate) last: &'a [Arc],
     pub(crate) earliest_out: Time,
     pub(crate) latest_out: Time,
-    ghost lasts: { last.now ≡ last_arcs ground.now.graph.now to.now },
+    ghost lasts: { last.now ≡ last_arcs ground.graph.now to.now },
 }
 
 /// The arcs by which walks may end at one of some nodes.
@@ -44,7 +45,7 @@ pub(crate) fn last_arcs(
 impl DepartureCells<'_> {
     /// How a walk may end by the arc, if one may.
     fn closing_at(&self, arc: Arc) -> Option<Closing>
-        ensures { option_map finish_of result ≡ finish_at self.now.ground.now.graph.now (record { to = self.now.to.now; earliest = self.now.earliest_out; latest = self.now.latest_out }) arc }
+        ensures { option_map finish_of result ≡ finish_at self.now.ground.graph.now (record { to = self.now.to.now; earliest = self.now.earliest_out; latest = self.now.latest_out }) arc }
     {
         if self.ground.leads_to(arc, self.to) {
             Some(Closing {
@@ -62,11 +63,15 @@ impl<'a> BackwardCells for DepartureCells<'a> {
 
     type Row = ArcRow<'a>;
 
-    ghost backward = { λ s. departure_problem (ground_of s.ground.now) s.from (record { to = s.to.now; earliest = s.earliest_out; latest = s.latest_out }) };
+    type Told = LabelRow;
 
-    ghost stands = { λ s place cell. IsBackward (ground_of s.ground.now) cell place };
+    ghost backward = { λ s. departure_problem (ground_of s.ground) s.from (record { to = s.to.now; earliest = s.earliest_out; latest = s.latest_out }) };
 
-    ghost tells = { λ s row cell. TellsCell (ground_of s.ground.now) row cell };
+    ghost stands = { λ s place cell. IsBackward (ground_of s.ground) cell place };
+
+    ghost tells = { λ s row cell. TellsCell (ground_of s.ground) row cell };
+
+    ghost told = { λ s value. row_in (ground_of s.ground) value };
 
     fn count(&self) -> usize {
         self.ground.count()
@@ -129,5 +134,9 @@ impl<'a> BackwardCells for DepartureCells<'a> {
 
     fn cell_in(&self, row: ArcRow<'a>, cell: usize) -> Cell {
         self.ground.cell_in(row, cell)
+    }
+
+    fn tell(&self, value: CellValue) -> LabelRow {
+        self.ground.row(value)
     }
 }

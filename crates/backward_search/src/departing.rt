@@ -10,7 +10,7 @@ ghost use Rattle.place_cells.specs.Laid.{windows_of, HaveNumbers};
 use crate::cells::{DepartureCells, last_arcs};
 use airport_file::Airport;
 use label_search::{LabelRoom, latest_entries};
-use place_cells::{CellNumbers, SearchGround, SearchRoom, rows_of, steps_of};
+use place_cells::{CellNumbers, SearchGround, SearchRoom, steps_of};
 use std::alloc::Global;
 use taxi_base::{Class, Found, Memory, Node, Time};
 use window_store::WindowStore;
@@ -151,19 +151,21 @@ fn search_among<'x>(
     };
     let last = last_arcs(alloc, &ground, to)?;
     let asked = DepartureCells {
-        ground: &ground,
+        ground,
         from,
         to,
         last: &last,
         earliest_out,
         latest_out,
     };
-    let label_search::Found { values, route } = latest_entries(alloc, labels, &asked)?;
-    let labels = rows_of(alloc, &ground, &values)?;
+    let label_search::Found {
+        rows: labels,
+        route,
+    } = latest_entries(alloc, labels, &asked)?;
     match route {
         None => Ok(Found::NoRoute { labels }),
         Some(route) => {
-            let steps = steps_of(alloc, &ground, &route.steps)?;
+            let steps = steps_of(alloc, &asked.ground, &route.steps)?;
             Ok(Found::Route { steps, labels })
         }
     }

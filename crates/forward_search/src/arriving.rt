@@ -15,7 +15,7 @@ use crate::cells::ArrivalCells;
 use crate::starting::Start;
 use airport_file::Airport;
 use label_search::{LabelRoom, earliest_exits};
-use place_cells::{CellNumbers, SearchGround, SearchRoom, rows_of, steps_of};
+use place_cells::{CellNumbers, SearchGround, SearchRoom, steps_of};
 use std::alloc::Global;
 use taxi_base::{Class, Found, Memory, Node, Time};
 use window_store::WindowStore;
@@ -124,17 +124,15 @@ fn search_among<'x>(
         horizon: airport.horizon(),
         clearance,
     };
-    let asked = ArrivalCells {
-        ground: &ground,
-        start,
-        to,
-    };
-    let label_search::Found { values, route } = earliest_exits(alloc, labels, &asked)?;
-    let labels = rows_of(alloc, &ground, &values)?;
+    let asked = ArrivalCells { ground, start, to };
+    let label_search::Found {
+        rows: labels,
+        route,
+    } = earliest_exits(alloc, labels, &asked)?;
     match route {
         None => Ok(Found::NoRoute { labels }),
         Some(route) => {
-            let steps = steps_of(alloc, &ground, &route.steps)?;
+            let steps = steps_of(alloc, &asked.ground, &route.steps)?;
             Ok(Found::Route { steps, labels })
         }
     }

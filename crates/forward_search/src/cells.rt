@@ -6,20 +6,21 @@ ghost use Rattle.taxi_base.specs.Airport.{tail};
 ghost use Rattle.label_search.specs.Problem.{Problem};
 ghost use Rattle.place_cells.specs.Grounds.{ground_of};
 ghost use Rattle.place_cells.specs.Tells.{IsOnward, TellsCell};
+ghost use Rattle.place_cells.specs.Found.{row_in};
 ghost use Rattle.forward_search.specs.Arrivals.{beginning_of, arrival_problem};
 
 use crate::starting::{Start, opening_at};
-use label_search::{Cell, ForwardCells, Opening, Part, Run};
+use label_search::{Cell, CellValue, ForwardCells, Opening, Part, Run};
 use place_cells::{ArcRow, Beside, SearchGround};
-use taxi_base::Node;
+use taxi_base::{LabelRow, Node};
 
 /// Walks on a ground that begin so and lead to one of some nodes.
 #[derive(Drop)]
 pub(crate) struct ArrivalCells<'a> {
-    pub(crate) ground: &'a SearchGround<'a>,
+    pub(crate) ground: SearchGround<'a>,
     pub(crate) start: Start,
     pub(crate) to: &'a [Node],
-    ghost nodes: { (a : ArcNumber) (n : NodeNumber) → tail ground.now.graph.now a ≡ Some n → n.0 < ground.now.graph.now.nodes },
+    ghost nodes: { (a : ArcNumber) (n : NodeNumber) → tail ground.graph.now a ≡ Some n → n.0 < ground.graph.now.nodes },
 }
 
 impl<'a> ForwardCells for ArrivalCells<'a> {
@@ -27,11 +28,15 @@ impl<'a> ForwardCells for ArrivalCells<'a> {
 
     type Row = ArcRow<'a>;
 
-    ghost problem = { λ s. arrival_problem (ground_of s.ground.now) (beginning_of s.start 0) s.to.now };
+    type Told = LabelRow;
 
-    ghost stands = { λ s place cell. IsOnward (ground_of s.ground.now) cell place };
+    ghost problem = { λ s. arrival_problem (ground_of s.ground) (beginning_of s.start 0) s.to.now };
 
-    ghost tells = { λ s row cell. TellsCell (ground_of s.ground.now) row cell };
+    ghost stands = { λ s place cell. IsOnward (ground_of s.ground) cell place };
+
+    ghost tells = { λ s row cell. TellsCell (ground_of s.ground) row cell };
+
+    ghost told = { λ s value. row_in (ground_of s.ground) value };
 
     fn count(&self) -> usize {
         self.ground.count()
@@ -107,5 +112,9 @@ impl<'a> ForwardCells for ArrivalCells<'a> {
 
     fn cell_in(&self, row: ArcRow<'a>, cell: usize) -> Cell {
         self.ground.cell_in(row, cell)
+    }
+
+    fn tell(&self, value: CellValue) -> LabelRow {
+        self.ground.row(value)
     }
 }

@@ -1,7 +1,7 @@
 -- The rows of the values that are kept of labels.
 use Rattle.std.proofs.Common.{◌≡◌, ℕ, zero, suc, ◌+◌, ◌<◌, ◌≤◌, ◌↔◌, ltb, cond, Bool, true, false, List, [], ◌∷◌, ◌++◌, length, take, map, get_or, Option, Some, None, option_map, refl, sym, ap, ◌∙◌, subst, inl, inr, arith}
 use Rattle.std.proofs.lemmas.Bool.{cases_lt, ltb-true, lt-ltb, cond-true}
-use Rattle.std.proofs.lemmas.List.{append-nil, get_or-take, get_or_past, length-take}
+use Rattle.std.proofs.lemmas.List.{append-nil, map-append, get_or-take, get_or_past, length-take}
 use Rattle.label_core.specs.Tables.{IsBelow}
 use Rattle.label_search.specs.declared.values.CellValue.{CellValue}
 use Rattle.label_search.specs.declared.labels.Label.{Label}
@@ -31,6 +31,11 @@ rows_more known i on =
     let here : 0 + i ≡ i = omega arith in
     subst (λ k. rows_from 0 (take k known) ≡ rows_from 0 (take i known) ++ row_of i (get_or known i None)) next
     (rows_from-more 0 known i on ∙ ap (λ k. rows_from 0 (take i known) ++ row_of k (get_or known i None)) here)
+
+-- what is told of one more value comes behind what is told of those before it
+pub told_more : {T : Type 0} (told : CellValue → T) (rows : List T) (before : List CellValue) (value : CellValue) (row : T)
+    → rows ≡ map told before → row ≡ told value → rows ++ row ∷ [] ≡ map told (before ++ value ∷ [])
+told_more told rows before value row so_far is = rw (so_far, is) (sym (map-append told before (value ∷ [])))
 
 -- cells with no value give no row
 pub rows_skip : (known : List (Option ℕ)) (i j : ℕ) → i ≤ j → j ≤ length known → ((c : ℕ) → i ≤ c → c < j → get_or known c None ≡ None)

@@ -21,12 +21,12 @@ told_value None = no_value
 told_value (Some l) = l.value
 
 abbrev pub told_via : Option Label → ℕ
-told_via None = no_value
+told_via None = 0
 told_via (Some l) = l.via
 
--- where no label is told, both numbers are the same
+-- where no label is told, the other number is 0
 abbrev pub IsTold : ℕ → ℕ → Type 0
-IsTold value via = value ≡ no_value → via ≡ no_value
+IsTold value via = value ≡ no_value → via ≡ 0
 
 pub told_value-label_told : (value via : ℕ) → told_value (label_told value via) ≡ value
 told_value-label_told value via = go (value == no_value) refl

@@ -28,6 +28,17 @@ pub record AreEntries (network : Network ℕ) (finishes : ℕ → Option Finish)
   pub are_rows : rows ≡ rows_from 0 known
   pub exact : (c v : ℕ) → (slice_index_or known c None ≡ Some v) ↔ (IsLatestEntry network finishes c v × IsAbove bound v)
 
+-- The rows tell such values, each as `told` has it.
+pub record TellExits {T : Type 0} (told : CellValue → T) (network : Network ℕ) (starts : ℕ → Option Start) (count : ℕ) (bound : Option ℕ) (rows : List T) : Type 0 where
+  pub values : List CellValue
+  pub are_exits : AreExits network starts count bound values
+  pub are_told : rows ≡ map told values
+
+pub record TellEntries {T : Type 0} (told : CellValue → T) (network : Network ℕ) (finishes : ℕ → Option Finish) (count : ℕ) (bound : Option ℕ) (rows : List T) : Type 0 where
+  pub values : List CellValue
+  pub are_entries : AreEntries network finishes count bound values
+  pub are_told : rows ≡ map told values
+
 -- ---- what is kept of labels
 
 -- the value of a label, if there is one and it is below the bound, if there is one
@@ -45,6 +56,6 @@ values_kept bound known = map (value_kept bound) known
 abbrev pub AreAsBeforeFrom : ℕ → List (Option Label) → List (Option Label) → Type 0
 AreAsBeforeFrom first old now = (c : ℕ) → first ≤ c → slice_index_or now c None ≡ slice_index_or old c None
 
--- the rows are those of the values that are kept of the first n labels
-abbrev pub AreRowsTo : Option ℕ → List (Option Label) → ℕ → List CellValue → Type 0
-AreRowsTo bound all n rows = rows ≡ rows_from 0 (take n (values_kept bound all))
+-- the rows tell the values that are kept of the first n labels
+abbrev pub AreRowsTo : {T : Type 0} → (CellValue → T) → Option ℕ → List (Option Label) → ℕ → List T → Type 0
+AreRowsTo told bound all n rows = rows ≡ map told (rows_from 0 (take n (values_kept bound all)))

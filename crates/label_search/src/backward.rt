@@ -5,7 +5,7 @@ ghost use Rattle.label_core.specs.BackwardBest.{IsBestBegin, HasNoWalkFrom, IsPi
 ghost use Rattle.label_core.specs.Mirror.{mirror_start, IsUpTo};
 ghost use Rattle.label_search.specs.Problem.{start_of};
 ghost use Rattle.label_search.specs.Backward.{IsBackwardProblem, mirror_problem, mirror_cell, mirror_second, mirror_value, mirror_cell_step, finish_of};
-ghost use Rattle.label_search.specs.Values.{AreEntries};
+ghost use Rattle.label_search.specs.Values.{TellEntries};
 ghost use Rattle.label_search.specs.Answer.{step_of, best_of, ComesBefore};
 
 use crate::cells::{BackwardCells, Cell, Closing, ForwardCells, Opening, Part, Run};
@@ -30,11 +30,15 @@ impl<C: BackwardCells> ForwardCells for Mirror<'_, C> {
 
     type Row = C::Row;
 
+    type Told = C::Told;
+
     ghost problem = { λ m. mirror_problem (C.backward m.cells.now) };
 
     ghost stands = { λ m place cell. C.stands m.cells.now place cell };
 
     ghost tells = { λ m row cell. C.tells m.cells.now row cell };
+
+    ghost told = { λ m value. C.told m.cells.now (mirror_value value) };
 
     fn count(&self) -> usize {
         self.cells.count()
@@ -89,6 +93,10 @@ impl<C: BackwardCells> ForwardCells for Mirror<'_, C> {
     fn cell_in(&self, row: C::Row, cell: usize) -> Cell {
         mirror_cell(self.cells.cell_in(row, cell))
     }
+
+    fn tell(&self, value: CellValue) -> C::Told {
+        self.cells.tell(mirror_value(value))
+    }
 }
 
 /// The cell in the mirror.
@@ -125,24 +133,13 @@ fn mirror_step(step: CellStep) -> CellStep
 }
 
 /// The value in the mirror.
-fn mirror_value(row: CellValue) -> CellValue
-    ensures { result ≡ mirror_value row }
+fn mirror_value(value: CellValue) -> CellValue
+    ensures { result ≡ mirror_value value }
 {
     CellValue {
-        cell: row.cell,
-        value: MIRROR.saturating_sub(row.value),
+        cell: value.cell,
+        value: MIRROR.saturating_sub(value.value),
     }
-}
-
-/// The values in the mirror.
-fn mirror_values(values: Vec<CellValue>) -> Vec<CellValue>
-    ensures { result.items ≡ map mirror_value values.items }
-{
-    let mut values = values;
-    for at in 0..values.len() {
-        values[at] = mirror_value(values[at]);
-    }
-    values
 }
 
 /// The steps in the mirror, the last one first.
@@ -177,10 +174,10 @@ pub fn latest_entries<C: BackwardCells>(
     alloc: Global,
     room: &mut LabelRoom,
     cells: &C,
-) -> Result<Found, Memory>
+) -> Result<Found<C::Told>, Memory>
     requires sound { IsBackwardProblem (C.backward cells.now) }
-    ensures table { IfOk result (λ found. AreEntries (C.backward cells.now).network (C.backward cells.now).finishes (C.backward cells.now).count
-        (best_of found.route) found.values.items) }
+    ensures table { IfOk result (λ found. TellEntries (C.told cells.now) (C.backward cells.now).network (C.backward cells.now).finishes (C.backward cells.now).count
+        (best_of found.route) found.rows) }
     ensures best { IfOk result (λ found. IfSome (best_of found.route)
         (IsBestBegin (C.backward cells.now).network (C.backward cells.now).finishes (C.backward cells.now).source)) }
     ensures picked { IfOk result (λ found. IfSome found.route (λ r. IsPickedRouteOn (C.backward cells.now).network (C.backward cells.now).finishes ComesBefore
@@ -190,7 +187,7 @@ pub fn latest_entries<C: BackwardCells>(
 {
     let found = earliest_exits(alloc, room, &Mirror { cells })?;
     Ok(Found {
-        values: mirror_values(found.values),
+        rows: found.rows,
         route: mirror_route(found.route),
     })
 }

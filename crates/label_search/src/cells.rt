@@ -1,7 +1,10 @@
 //! What a search is asked: cells by their numbers, and which may follow which.
 ghost use Rattle.std.specs.Prelude.{◌≡◌, ℕ, ◌<◌, option_map};
 ghost use Rattle.label_search.specs.Problem.{Problem, cell_of, start_of, IsIn, IsPartOf, IsPartWith, CanBegin};
+ghost use Rattle.label_search.specs.declared.values.CellValue.{CellValue as Valued};
 ghost use Rattle.label_search.specs.Backward.{BackwardProblem, finish_of, IsBackwardPartOf, CanEnd};
+
+use crate::values::CellValue;
 
 /// A cell's window, from its first second to the last at which a step in it may leave, and the seconds that it takes.
 #[derive(Clone, Copy)]
@@ -48,12 +51,17 @@ pub trait ForwardCells {
     /// What is read once for all cells of a run.
     type Row: Copy + Drop;
 
+    /// What is told of a cell and its value.
+    type Told: Copy + Drop;
+
     ghost problem: { Self → Problem };
 
     // Whether a place is that of a cell, and whether a row tells a cell.
     ghost stands: { Self → Self.Place → ℕ → Type 0 };
 
     ghost tells: { Self → Self.Row → ℕ → Type 0 };
+
+    ghost told: { Self → Valued → Self.Told };
 
     /// How many cells there are.
     fn count(&self) -> usize
@@ -117,6 +125,10 @@ pub trait ForwardCells {
     fn cell_in(&self, row: Self::Row, cell: usize) -> Cell
         requires { tells self.now row cell }
         ensures { result ≡ cell_of (problem self.now).network cell };
+
+    /// What is told of a cell and its value.
+    fn tell(&self, value: CellValue) -> Self::Told
+        ensures { result ≡ told self.now value };
 }
 
 /// A network of cells, how walks may end in it, and where they shall begin.
@@ -127,12 +139,17 @@ pub trait BackwardCells {
     /// What is read once for all cells of a run.
     type Row: Copy + Drop;
 
+    /// What is told of a cell and its value.
+    type Told: Copy + Drop;
+
     ghost backward: { Self → BackwardProblem };
 
     // Whether a place is that of a cell, and whether a row tells a cell.
     ghost stands: { Self → Self.Place → ℕ → Type 0 };
 
     ghost tells: { Self → Self.Row → ℕ → Type 0 };
+
+    ghost told: { Self → Valued → Self.Told };
 
     /// How many cells there are.
     fn count(&self) -> usize
@@ -196,4 +213,8 @@ pub trait BackwardCells {
     fn cell_in(&self, row: Self::Row, cell: usize) -> Cell
         requires { tells self.now row cell }
         ensures { result ≡ cell_of (backward self.now).network cell };
+
+    /// What is told of a cell and its value.
+    fn tell(&self, value: CellValue) -> Self::Told
+        ensures { result ≡ told self.now value };
 }

@@ -3,6 +3,7 @@ ghost use Rattle.std.specs.Prelude.{◌≡◌};
 ghost use Rattle.label_search.specs.Cut.{cut_cell, cut_problem};
 
 use crate::cells::{Cell, ForwardCells, Opening, Part, Run};
+use crate::values::CellValue;
 
 /// The same cells, of whose windows only the seconds up to `until` count.
 #[derive(Drop)]
@@ -16,11 +17,15 @@ impl<C: ForwardCells> ForwardCells for CutCells<'_, C> {
 
     type Row = C::Row;
 
+    type Told = C::Told;
+
     ghost problem = { λ s. cut_problem s.until (C.problem s.cells.now) };
 
     ghost stands = { λ s place cell. C.stands s.cells.now place cell };
 
     ghost tells = { λ s row cell. C.tells s.cells.now row cell };
+
+    ghost told = { λ s value. C.told s.cells.now value };
 
     fn count(&self) -> usize {
         self.cells.count()
@@ -69,6 +74,10 @@ impl<C: ForwardCells> ForwardCells for CutCells<'_, C> {
 
     fn cell_in(&self, row: C::Row, cell: usize) -> Cell {
         cut(self.cells.cell_in(row, cell), self.until)
+    }
+
+    fn tell(&self, value: CellValue) -> C::Told {
+        self.cells.tell(value)
     }
 }
 

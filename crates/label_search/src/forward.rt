@@ -5,7 +5,7 @@ ghost use Rattle.label_core.specs.Picked.{IsPicked};
 ghost use Rattle.label_core.specs.Best.{IsBestEnd, HasNoWalk, IsPickedRoute};
 ghost use Rattle.label_search.specs.Problem.{IsProblem};
 ghost use Rattle.label_search.specs.Labels.{standing};
-ghost use Rattle.label_search.specs.Values.{AreExits};
+ghost use Rattle.label_search.specs.Values.{TellExits};
 ghost use Rattle.label_search.specs.Standing.{IsAtEnd};
 ghost use Rattle.label_search.specs.Answer.{step_of, best_of, end_of_goal, ComesBefore};
 
@@ -14,9 +14,8 @@ use crate::cut::CutCells;
 use crate::labels::Labels;
 use crate::pick::{CellStep, pick_back};
 use crate::settle::{Goal, begin, settle};
-use crate::values::CellValue;
 use std::alloc::Global;
-use taxi_base::Memory;
+use taxi_base::{List, Memory};
 
 /// A walk, step by step, and the best end, or for a search backward the best begin.
 #[derive(Drop)]
@@ -25,10 +24,10 @@ pub struct Route {
     pub best: u32,
 }
 
-/// The values of cells, by cell, and the picked route, if there is a walk to a target.
+/// What is told of the values of cells, by cell, and the picked route, if there is a walk to a target.
 #[derive(Drop)]
-pub struct Found {
-    pub values: Vec<CellValue>,
+pub struct Found<T: Copy + Drop> {
+    pub rows: List<T>,
     pub route: Option<Route>,
 }
 
@@ -56,10 +55,10 @@ pub fn earliest_exits<C: ForwardCells>(
     alloc: Global,
     room: &mut LabelRoom,
     cells: &C,
-) -> Result<Found, Memory>
+) -> Result<Found<C::Told>, Memory>
     requires sound { IsProblem (C.problem cells.now) }
-    ensures table { IfOk result (λ found. AreExits (C.problem cells.now).network (C.problem cells.now).starts (C.problem cells.now).count
-        (best_of found.route) found.values.items) }
+    ensures table { IfOk result (λ found. TellExits (C.told cells.now) (C.problem cells.now).network (C.problem cells.now).starts (C.problem cells.now).count
+        (best_of found.route) found.rows) }
     ensures best { IfOk result (λ found. IfSome (best_of found.route)
         (IsBestEnd (C.problem cells.now).network (C.problem cells.now).starts (C.problem cells.now).target)) }
     ensures picked { IfOk result (λ found. IfSome found.route (λ r. IsPickedRoute (C.problem cells.now).network (C.problem cells.now).starts ComesBefore
@@ -97,12 +96,12 @@ fn search<C: ForwardCells>(
     labels: &mut Labels,
     cells: &C,
     until: u32,
-) -> Result<Found, Memory>
+) -> Result<Found<C::Told>, Memory>
     requires sound { IsProblem (C.problem cells.now) }
-    ensures short { IfOk result (λ found. IsTrue (is_some (best_of found.route)) → AreExits (C.problem cells.now).network (C.problem cells.now).starts (C.problem cells.now).count
-        (best_of found.route) found.values.items) }
-    ensures all { IfOk result (λ found. 2 ^ 31 ≤ until → AreExits (C.problem cells.now).network (C.problem cells.now).starts (C.problem cells.now).count
-        (best_of found.route) found.values.items) }
+    ensures short { IfOk result (λ found. IsTrue (is_some (best_of found.route)) → TellExits (C.told cells.now) (C.problem cells.now).network (C.problem cells.now).starts (C.problem cells.now).count
+        (best_of found.route) found.rows) }
+    ensures all { IfOk result (λ found. 2 ^ 31 ≤ until → TellExits (C.told cells.now) (C.problem cells.now).network (C.problem cells.now).starts (C.problem cells.now).count
+        (best_of found.route) found.rows) }
     ensures best { IfOk result (λ found. IfSome (best_of found.route)
         (IsBestEnd (C.problem cells.now).network (C.problem cells.now).starts (C.problem cells.now).target)) }
     ensures picked { IfOk result (λ found. IfSome found.route (λ r. IsPickedRoute (C.problem cells.now).network (C.problem cells.now).starts ComesBefore
@@ -119,10 +118,10 @@ fn search_cells<C: ForwardCells>(
     alloc: Global,
     labels: &mut Labels,
     cells: &C,
-) -> Result<Found, Memory>
+) -> Result<Found<C::Told>, Memory>
     requires sound { IsProblem (C.problem cells.now) }
-    ensures table { IfOk result (λ found. AreExits (C.problem cells.now).network (C.problem cells.now).starts (C.problem cells.now).count
-        (best_of found.route) found.values.items) }
+    ensures table { IfOk result (λ found. TellExits (C.told cells.now) (C.problem cells.now).network (C.problem cells.now).starts (C.problem cells.now).count
+        (best_of found.route) found.rows) }
     ensures best { IfOk result (λ found. IfSome (best_of found.route)
         (IsBestEnd (C.problem cells.now).network (C.problem cells.now).starts (C.problem cells.now).target)) }
     ensures picked { IfOk result (λ found. IfSome found.route (λ r. IsPickedRoute (C.problem cells.now).network (C.problem cells.now).starts ComesBefore
@@ -134,8 +133,8 @@ fn search_cells<C: ForwardCells>(
     begin(cells, labels);
     let goal = settle(cells, labels);
     let route = route_to(alloc, cells, labels, goal)?;
-    let values = labels.take_values(alloc, end_of_goal(goal))?;
-    Ok(Found { values, route })
+    let rows = labels.take_rows(alloc, cells, end_of_goal(goal))?;
+    Ok(Found { rows, route })
 }
 
 /// The goal's value.

@@ -7,7 +7,7 @@ use std::marker::Model;
 /// The label of a cell, if it has one. It takes eight bytes.
 #[derive(Clone, Copy)]
 pub(crate) struct Known {
-    // Both are the greatest number where there is no label. No label has that value.
+    // The greatest number where there is no label, and 0 the other. No label has that value.
     value: u32,
     via: u32,
 }
@@ -36,7 +36,7 @@ impl Known {
     {
         Known {
             value: u32::MAX,
-            via: u32::MAX,
+            via: 0,
         }
     }
 

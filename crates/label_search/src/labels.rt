@@ -22,7 +22,7 @@ pub(crate) struct Labels {
     pub(crate) groups: Vec<u64>,
     // Whether there may be labels.
     pub(crate) touched: bool,
-    // How many values the last search handed out.
+    // For how many rows room is made at once, from what searches handed out of late.
     pub(crate) usual: usize,
     ghost counted: { length groups.items ≡ length known.items / 64 + 1 },
     ghost marked: { AreMarked known.items groups.items },

@@ -1,17 +1,18 @@
 //! Labels as they come: a cell is offered one, and keeps the best.
-ghost use Rattle.std.specs.Prelude.{◌≡◌, ◌<◌, ◌^◌, ℕ, length, replicate, Some, None, IfOk, OnOk, slice_set};
+ghost use Rattle.std.specs.Prelude.{◌≡◌, ◌<◌, ◌^◌, ℕ, length, map, replicate, Some, None, IfOk, OnOk, slice_set};
 ghost use Rattle.label_queue.specs.Keys.{key_of};
 ghost use Rattle.label_search.specs.Labels.{IsImproved, standing, label_of};
 ghost use Rattle.label_search.specs.Expanding.{HasRoom};
 ghost use Rattle.label_search.specs.Values.{rows_from, values_kept};
 
+use crate::cells::ForwardCells;
 use crate::groups::{GROUP, mark};
 use crate::known::Known;
 use crate::labels::{Label, Labels};
-use crate::values::{CellValue, take_marked};
+use crate::values::take_marked;
 use label_queue::LabelQueue;
 use std::alloc::Global;
-use taxi_base::Memory;
+use taxi_base::{List, Memory};
 
 /// There are so many cells at most, so that a label takes eight bytes.
 const CELLS: usize = 4294967295;
@@ -92,21 +93,27 @@ impl Labels {
         self.known[cell] = Known::of(label);
     }
 
-    /// The values below the bound, or all where there is none, by cell. All labels are taken away with them, so that the next
-    /// search finds none.
-    pub(crate) fn take_values(
+    /// What is told of the values below the bound, or of all where there is none, by cell. All labels are taken away with them, so
+    /// that the next search finds none.
+    pub(crate) fn take_rows<C: ForwardCells>(
         &mut self,
         alloc: Global,
+        cells: &C,
         bound: Option<u32>,
-    ) -> Result<Vec<CellValue>, Memory>
-        ensures { IfOk result (λ values. values.items ≡ rows_from 0 (values_kept bound self.old.known.items)) }
+    ) -> Result<List<C::Told>, Memory>
+        ensures { IfOk result (λ rows. rows ≡ map (C.told cells.now) (rows_from 0 (values_kept bound self.old.known.items))) }
     {
-        let mut values = Vec::with_capacity(alloc, self.usual)?;
+        let mut rows = List::with_capacity(alloc, self.usual)?;
         // Where memory runs out, some labels are left.
         self.touched = true;
-        take_marked(&mut values, &mut self.known, &mut self.groups, bound)?;
+        take_marked(cells, &mut rows, &mut self.known, &mut self.groups, bound)?;
         self.touched = false;
-        self.usual = values.len();
-        Ok(values)
+        self.usual = usual_after(self.usual, rows.as_slice().len());
+        Ok(rows)
     }
+}
+
+/// For how many rows the next search makes room at once, after one that handed out so many: as many, or nearly as many as before.
+fn usual_after(usual: usize, rows: usize) -> usize {
+    rows.max(usual - usual / 64)
 }

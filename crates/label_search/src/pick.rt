@@ -22,6 +22,9 @@ pub struct CellStep {
     pub leave: u32,
 }
 
+/// Room for so many steps is made at once. Most routes have fewer.
+const USUAL_STEPS: usize = 64;
+
 /// When a walk enters the cell, if the value is a start entry of it.
 fn start_enter<C: ForwardCells>(cells: &C, cell: usize, value: u32) -> Option<u32>
     requires sound { IsProblem (C.problem cells.now) }
@@ -59,7 +62,7 @@ pub(crate) fn pick_back<C: ForwardCells>(
     ensures { IfOk result (λ steps. IsPicked (C.problem cells.now).network (C.problem cells.now).starts ComesBefore
         (IsEarliestExit (C.problem cells.now).network (C.problem cells.now).starts) goal.cell goal.end goal.end (map step_of steps.items)) }
 {
-    let mut steps = Vec::new(alloc);
+    let mut steps = Vec::with_capacity(alloc, USUAL_STEPS)?;
     let mut cell = goal.cell;
     let mut label = label_at(labels, cell);
     let mut leave = goal.end;

@@ -1,16 +1,17 @@
 //! The values that are handed out of labels.
-ghost use Rattle.std.specs.Prelude.{◌≡◌, ℕ, ◌+◌, ◌/◌, ◌<◌, ◌≤◌, List, [], min, length, slice_set, Option, None, OnOk};
+ghost use Rattle.std.specs.Prelude.{◌≡◌, ℕ, ◌+◌, ◌/◌, ◌<◌, ◌≤◌, List, [], min, length, map, slice_set, Option, None, OnOk};
 ghost use Rattle.std.specs.Int.{bit_at};
 ghost use Rattle.label_search.specs.declared.labels.Label.{Label as KnownLabel};
 ghost use Rattle.label_search.specs.Labels.{label_of};
 ghost use Rattle.label_search.specs.Groups.{AreMarked, HaveNothing};
 ghost use Rattle.label_search.specs.Values.{rows_from, value_kept, values_kept, AreAsBeforeFrom, AreRowsTo};
 
+use crate::cells::ForwardCells;
 use crate::groups::GROUP;
 use crate::known::Known;
 use crate::labels::Label;
 use std::alloc::Global;
-use taxi_base::Memory;
+use taxi_base::{List, Memory};
 
 /// A cell and its value.
 #[derive(Clone, Copy, Debug, PartialEq, Eq)]
@@ -47,36 +48,38 @@ fn take_label(known: &mut [Known], cell: usize) -> Option<Label>
     label
 }
 
-/// Adds the values below the bound, or all where there is none, by cell, and takes all labels away. Each is of a marked cell.
-pub(crate) fn take_marked(
-    values: &mut Vec<CellValue>,
+/// Tells the values below the bound, or all where there is none, by cell, and takes all labels away. Each is of a marked cell.
+pub(crate) fn take_marked<C: ForwardCells>(
+    cells: &C,
+    rows: &mut List<C::Told>,
     known: &mut [Known],
     groups: &mut [u64],
     bound: Option<u32>,
 ) -> Result<(), Memory>
-    requires none_yet { values.old.items ≡ [] }
+    requires none_yet { rows.old ≡ [] }
     requires counted { length groups.old ≡ length known.old / 64 + 1 }
     requires marked { AreMarked known.old groups.old }
     ensures known { length known.new ≡ length known.old }
     ensures groups { length groups.new ≡ length groups.old }
     ensures marked { AreMarked known.new groups.new }
     ensures taken { OnOk result (HaveNothing known.new) }
-    ensures values { OnOk result (values.new.items ≡ rows_from 0 (values_kept bound known.old)) }
+    ensures rows { OnOk result (rows.new ≡ map (C.told cells.now) (rows_from 0 (values_kept bound known.old))) }
 {
     for group in 0..groups.len() {
         let marks = groups[group];
         if marks != 0 {
-            take_group(values, known, bound, group * GROUP, marks)?;
+            take_group(cells, rows, known, bound, group * GROUP, marks)?;
             groups[group] = 0;
         }
     }
     Ok(())
 }
 
-/// Adds the values below the bound of the marked cells of a group, and takes their labels away. `all` are the labels before any
+/// Tells the values below the bound of the marked cells of a group, and takes their labels away. `all` are the labels before any
 /// was taken away.
-fn take_group(
-    values: &mut Vec<CellValue>,
+fn take_group<C: ForwardCells>(
+    cells: &C,
+    rows: &mut List<C::Told>,
     known: &mut [Known],
     bound: Option<u32>,
     first: usize,
@@ -88,9 +91,9 @@ fn take_group(
     ensures taken { OnOk result ((k : ℕ) → k < 64 → bit_at marks k ≡ 1 → label_of known.new (first + k) ≡ None) }
     ensures others { (c : ℕ) → label_of known.old c ≡ None → label_of known.new c ≡ None }
     ensures rest { (c : ℕ) → first + 64 ≤ c → label_of known.new c ≡ label_of known.old c }
-    ensures values { (all : List (Option KnownLabel)) → AreAsBeforeFrom first all known.old → length all ≡ length known.old
-        → AreRowsTo bound all (min first (length all)) values.old.items
-        → OnOk result (AreRowsTo bound all (min (first + 64) (length all)) values.new.items) }
+    ensures rows { (all : List (Option KnownLabel)) → AreAsBeforeFrom first all known.old → length all ≡ length known.old
+        → AreRowsTo (C.told cells.now) bound all (min first (length all)) rows.old
+        → OnOk result (AreRowsTo (C.told cells.now) bound all (min (first + 64) (length all)) rows.new) }
 {
     let mut left = marks;
     'cells: while left != 0 {
@@ -98,7 +101,7 @@ fn take_group(
         left &= !(1u64 << lowest);
         let cell = first + lowest as usize;
         if let Some(value) = value_below(bound, take_label(known, cell)) {
-            values.push(CellValue { cell, value })?;
+            rows.push(cells.tell(CellValue { cell, value }))?;
         }
     }
     Ok(())

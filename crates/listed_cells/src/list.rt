@@ -4,7 +4,7 @@ ghost use Rattle.label_search.specs.Problem.{IsProblem};
 ghost use Rattle.label_search.specs.Backward.{IsBackwardProblem};
 ghost use Rattle.listed_cells.specs.Listed.{listed_problem, listed_backward, cell_at, run_of, IsFit};
 
-use label_search::{BackwardCells, Cell, Closing, ForwardCells, Opening, Part, Run};
+use label_search::{BackwardCells, Cell, CellValue, Closing, ForwardCells, Opening, Part, Run};
 
 /// A cell, how a walk may begin or end there, whether the search may end there, and two runs of cells beside it: for a
 /// search forward those that may follow, for one backward those that may come before.
@@ -79,11 +79,15 @@ impl ForwardCells for ForwardList<'_> {
 
     type Row = ();
 
+    type Told = CellValue;
+
     ghost problem = { λ l. listed_problem l.cells.now };
 
     ghost stands = { λ l place cell. cell < length l.cells.now };
 
     ghost tells = { λ l row cell. ⊤ };
+
+    ghost told = { λ l value. value };
 
     fn count(&self) -> usize {
         self.cells.len()
@@ -136,6 +140,10 @@ impl ForwardCells for ForwardList<'_> {
     fn cell_in(&self, _row: (), cell: usize) -> Cell {
         cell_of(self.cells, cell)
     }
+
+    fn tell(&self, value: CellValue) -> CellValue {
+        value
+    }
 }
 
 /// Cells whose runs are of those that may come before.
@@ -149,11 +157,15 @@ impl BackwardCells for BackwardList<'_> {
 
     type Row = ();
 
+    type Told = CellValue;
+
     ghost backward = { λ l. listed_backward l.cells.now };
 
     ghost stands = { λ l place cell. cell < length l.cells.now };
 
     ghost tells = { λ l row cell. ⊤ };
+
+    ghost told = { λ l value. value };
 
     fn count(&self) -> usize {
         self.cells.len()
@@ -205,5 +217,9 @@ impl BackwardCells for BackwardList<'_> {
 
     fn cell_in(&self, _row: (), cell: usize) -> Cell {
         cell_of(self.cells, cell)
+    }
+
+    fn tell(&self, value: CellValue) -> CellValue {
+        value
     }
 }

@@ -31,23 +31,18 @@ pub fn steps_of(
     Ok(steps)
 }
 
-/// The values by their arcs and windows.
-pub fn rows_of(
-    alloc: Global,
-    ground: &SearchGround,
-    values: &[CellValue],
-) -> Result<List<LabelRow>, Memory>
-    ensures { IfOk result (λ rows. rows ≡ map (row_in (ground_of ground.now)) values.now) }
-{
-    let mut rows = List::with_capacity(alloc, values.len())?;
-    for value in values {
-        let place = ground.place(value.cell);
-        rows.push(LabelRow {
+impl<'a> SearchGround<'a> {
+    /// A cell's value by its arc and window.
+    #[inline(always)]
+    pub fn row(&self, value: CellValue) -> LabelRow
+        ensures { result ≡ row_in (ground_of self.now) value }
+    {
+        let place = self.place(value.cell);
+        LabelRow {
             arc: place.arc,
             from: place.window.from,
             until: place.window.until,
             value: value.value,
-        })?;
+        }
     }
-    Ok(rows)
 }

@@ -11,7 +11,7 @@ mod reading;
 mod room;
 mod spots;
 
-pub use answer::{rows_of, steps_of};
+pub use answer::steps_of;
 pub use blocks::SpotBlocks;
 pub use ground::SearchGround;
 pub use numbers::CellNumbers;

@@ -104,7 +104,7 @@ fn departure_cells() -> [ListedCell; 14] {
     cells
 }
 
-fn arrival(alloc: Global, earliest: u32, latest: u32) -> Result<Found, Fail> {
+fn arrival(alloc: Global, earliest: u32, latest: u32) -> Result<Found<CellValue>, Fail> {
     let cells = arrival_cells(earliest, latest);
     if !are_fit(&cells) {
         return Err(Fail::from("the cells are fit"));
@@ -113,7 +113,7 @@ fn arrival(alloc: Global, earliest: u32, latest: u32) -> Result<Found, Fail> {
     Ok(earliest_exits(alloc, &mut room, &ForwardList { cells: &cells })?)
 }
 
-fn departure(alloc: Global) -> Result<Found, Fail> {
+fn departure(alloc: Global) -> Result<Found<CellValue>, Fail> {
     let cells = departure_cells();
     if !are_fit(&cells) {
         return Err(Fail::from("the cells are fit"));
@@ -123,11 +123,11 @@ fn departure(alloc: Global) -> Result<Found, Fail> {
 }
 
 // Whether these values were found, and a route that is as good and has these steps.
-fn is_found(found: &Found, values: &[CellValue], best: u32, steps: &[CellStep]) -> bool {
+fn is_found(found: &Found<CellValue>, values: &[CellValue], best: u32, steps: &[CellStep]) -> bool {
     let Some(route) = &found.route else {
         return false;
     };
-    found.values.as_slice() == values && route.best == best && route.steps.as_slice() == steps
+    found.rows.as_slice() == values && route.best == best && route.steps.as_slice() == steps
 }
 
 #[test]
@@ -149,7 +149,7 @@ fn an_arrival_fits_just_into_the_first_window(rt: HostRuntime) -> Result<(), Fai
 #[test]
 fn no_arrival_a_second_late(rt: HostRuntime) -> Result<(), Fail> {
     let found = arrival(rt.alloc(), 61, 61)?;
-    assert!(rt; found.route.is_none() && found.values.is_empty());
+    assert!(rt; found.route.is_none() && found.rows.as_slice().is_empty());
     Ok(())
 }
 

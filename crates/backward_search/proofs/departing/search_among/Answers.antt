@@ -46,11 +46,12 @@ returns-in-None c =
     let table = ap (λ (t : Times). t.table) c.classes-classes.ensures in
     let same_ground : ground ≡ told = λ i. record { layout = c.graph.ensures i; table = table i; class = c.args.class; horizon = c.horizon.ensures.horizon i; clearance = c.args.clearance; windows = windows_of c.args.store.now; numbers = numbers_of c.args.numbers.now } in
     let same : departure_problem ground c.args.from ending ≡ departure_problem told c.args.from ending = ap (λ (g : Ground). departure_problem g c.args.from ending) same_ground in
-    let values : List CellValue = c.in_ok-values.field-0.values.items in
-    let rows = c.in_ok-labels.ensures ∙ ap (λ (xs : List CellValue). map (row_in ground) xs) c.deref-2.ensures.value ∙ ap (λ (g : Ground). map (row_in g) values) same_ground in
-    no_route_answers c.args.airport.now c.args.class c.args.clearance (windows_of c.args.store.now) c.requires.rules c.requires.lists (numbers_of c.args.numbers.now) c.args.numbers.now.numbered c.requires.room c.args.from ending c.in_ok-values.field-0.route c.in-None.is values
-    (subst (λ (p : BackwardProblem). AreEntries p.network p.finishes p.count (best_of c.in_ok-values.field-0.route) values) same c.in_ok-values.ensures.table)
-    (subst (λ (p : BackwardProblem). IfNone (best_of c.in_ok-values.field-0.route) (HasNoWalkFrom p.network p.finishes p.source)) same c.in_ok-values.ensures.none) c.in_ok-labels.labels rows
+    let read = c.in_ok-labels.ensures.table in
+    let values : List CellValue = read.values in
+    let rows = read.are_told ∙ ap (λ (g : Ground). map (row_in g) values) same_ground in
+    no_route_answers c.args.airport.now c.args.class c.args.clearance (windows_of c.args.store.now) c.requires.rules c.requires.lists (numbers_of c.args.numbers.now) c.args.numbers.now.numbered c.requires.room c.args.from ending c.in_ok-labels.field-0.route c.in-None.is values
+    (subst (λ (p : BackwardProblem). AreEntries p.network p.finishes p.count (best_of c.in_ok-labels.field-0.route) values) same read.are_entries)
+    (subst (λ (p : BackwardProblem). IfNone (best_of c.in_ok-labels.field-0.route) (HasNoWalkFrom p.network p.finishes p.source)) same c.in_ok-labels.ensures.none) c.in_ok-labels.field-0.rows rows
 
 pub returns : goal.returns
 returns c =
@@ -60,11 +61,12 @@ returns c =
     let table = ap (λ (t : Times). t.table) c.classes-classes.ensures in
     let same_ground : ground ≡ told = λ i. record { layout = c.graph.ensures i; table = table i; class = c.args.class; horizon = c.horizon.ensures.horizon i; clearance = c.args.clearance; windows = windows_of c.args.store.now; numbers = numbers_of c.args.numbers.now } in
     let same : departure_problem ground c.args.from ending ≡ departure_problem told c.args.from ending = ap (λ (g : Ground). departure_problem g c.args.from ending) same_ground in
-    let values : List CellValue = c.in_ok-values.field-0.values.items in
-    let rows = c.in_ok-labels.ensures ∙ ap (λ (xs : List CellValue). map (row_in ground) xs) c.deref-2.ensures.value ∙ ap (λ (g : Ground). map (row_in g) values) same_ground in
+    let read = c.in_ok-labels.ensures.table in
+    let values : List CellValue = read.values in
+    let rows = read.are_told ∙ ap (λ (g : Ground). map (row_in g) values) same_ground in
     let steps = c.in_ok-steps-in-Some.ensures ∙ ap (λ (walk : List CellStep). steps_at (place_at (cells_of ground)) (map step_of walk)) c.deref-in-Some.ensures.value ∙ ap (λ (g : Ground). steps_at (place_at (cells_of g)) (map step_of c.in-Some.route.steps.items)) same_ground in
-    route_answers c.args.airport.now c.args.class c.args.clearance (windows_of c.args.store.now) c.requires.rules c.requires.lists (numbers_of c.args.numbers.now) c.args.numbers.now.numbered c.requires.room c.args.from ending c.in_ok-values.field-0.route c.in-Some.route c.in-Some.is values
-    (subst (λ (p : BackwardProblem). AreEntries p.network p.finishes p.count (best_of c.in_ok-values.field-0.route) values) same c.in_ok-values.ensures.table)
-    (subst (λ (p : BackwardProblem). IfSome (best_of c.in_ok-values.field-0.route) (IsBestBegin p.network p.finishes p.source)) same c.in_ok-values.ensures.best)
-    (subst (λ (p : BackwardProblem). IfSome c.in_ok-values.field-0.route (λ f. IsPickedRouteOn p.network p.finishes ComesBefore p.source f.best (map step_of f.steps.items))) same c.in_ok-values.ensures.picked)
-    c.in_ok-steps-in-Some.steps c.in_ok-labels.labels steps rows
+    route_answers c.args.airport.now c.args.class c.args.clearance (windows_of c.args.store.now) c.requires.rules c.requires.lists (numbers_of c.args.numbers.now) c.args.numbers.now.numbered c.requires.room c.args.from ending c.in_ok-labels.field-0.route c.in-Some.route c.in-Some.is values
+    (subst (λ (p : BackwardProblem). AreEntries p.network p.finishes p.count (best_of c.in_ok-labels.field-0.route) values) same read.are_entries)
+    (subst (λ (p : BackwardProblem). IfSome (best_of c.in_ok-labels.field-0.route) (IsBestBegin p.network p.finishes p.source)) same c.in_ok-labels.ensures.best)
+    (subst (λ (p : BackwardProblem). IfSome c.in_ok-labels.field-0.route (λ f. IsPickedRouteOn p.network p.finishes ComesBefore p.source f.best (map step_of f.steps.items))) same c.in_ok-labels.ensures.picked)
+    c.in_ok-steps-in-Some.steps c.in_ok-labels.field-0.rows steps rows

@@ -46,11 +46,12 @@ returns-in-None-clause-any c leave =
     let same_ground : ground ≡ told = λ i. record { layout = c.graph.ensures i; table = table i; class = c.args.class; horizon = c.horizon.ensures.horizon i; clearance = c.args.clearance; windows = windows_of c.args.store.now; numbers = numbers_of c.args.numbers.now } in
     let same : arrival_problem ground (beginning_of c.args.start 0) c.args.to.now ≡ arrival_problem told (beginning_of c.args.start leave) c.args.to.now =
     ap (λ (g : Ground). arrival_problem g (beginning_of c.args.start 0) c.args.to.now) same_ground ∙ same_problem told c.args.start leave c.args.to.now in
-    let values : List CellValue = c.in_ok-values.field-0.values.items in
-    let rows = c.in_ok-labels.ensures ∙ ap (λ (xs : List CellValue). map (row_in ground) xs) c.deref.ensures.value ∙ ap (λ (g : Ground). map (row_in g) values) same_ground in
-    any_no_route_answers c.args.airport.now c.args.class c.args.clearance (windows_of c.args.store.now) c.requires.rules c.requires.lists (numbers_of c.args.numbers.now) c.args.numbers.now.numbered c.requires.room (beginning_of c.args.start leave) c.args.to.now c.in_ok-values.field-0.route c.in-None.is values
-    (subst (λ (p : Problem). AreExits p.network p.starts p.count (best_of c.in_ok-values.field-0.route) values) same c.in_ok-values.ensures.table)
-    (subst (λ (p : Problem). IfNone (best_of c.in_ok-values.field-0.route) (HasNoWalk p.network p.starts p.target)) same c.in_ok-values.ensures.none) c.in_ok-labels.labels rows
+    let read = c.in_ok-labels.ensures.table in
+    let values : List CellValue = read.values in
+    let rows = read.are_told ∙ ap (λ (g : Ground). map (row_in g) values) same_ground in
+    any_no_route_answers c.args.airport.now c.args.class c.args.clearance (windows_of c.args.store.now) c.requires.rules c.requires.lists (numbers_of c.args.numbers.now) c.args.numbers.now.numbered c.requires.room (beginning_of c.args.start leave) c.args.to.now c.in_ok-labels.field-0.route c.in-None.is values
+    (subst (λ (p : Problem). AreExits p.network p.starts p.count (best_of c.in_ok-labels.field-0.route) values) same read.are_exits)
+    (subst (λ (p : Problem). IfNone (best_of c.in_ok-labels.field-0.route) (HasNoWalk p.network p.starts p.target)) same c.in_ok-labels.ensures.none) c.in_ok-labels.field-0.rows rows
 
 pub returns-in-None-clause-one : goal.returns-in-None-clause-one
 returns-in-None-clause-one c leave node alone =
@@ -60,59 +61,63 @@ returns-in-None-clause-one c leave node alone =
     let same_ground : ground ≡ told = λ i. record { layout = c.graph.ensures i; table = table i; class = c.args.class; horizon = c.horizon.ensures.horizon i; clearance = c.args.clearance; windows = windows_of c.args.store.now; numbers = numbers_of c.args.numbers.now } in
     let same : arrival_problem ground (beginning_of c.args.start 0) c.args.to.now ≡ arrival_problem told (beginning_of c.args.start leave) c.args.to.now =
     ap (λ (g : Ground). arrival_problem g (beginning_of c.args.start 0) c.args.to.now) same_ground ∙ same_problem told c.args.start leave c.args.to.now in
-    let values : List CellValue = c.in_ok-values.field-0.values.items in
-    let rows = c.in_ok-labels.ensures ∙ ap (λ (xs : List CellValue). map (row_in ground) xs) c.deref.ensures.value ∙ ap (λ (g : Ground). map (row_in g) values) same_ground in
-    no_route_answers c.args.airport.now c.args.class c.args.clearance (windows_of c.args.store.now) c.requires.rules c.requires.lists (numbers_of c.args.numbers.now) c.args.numbers.now.numbered c.requires.room (beginning_of c.args.start leave) c.args.to.now node alone c.in_ok-values.field-0.route c.in-None.is values
-    (subst (λ (p : Problem). AreExits p.network p.starts p.count (best_of c.in_ok-values.field-0.route) values) same c.in_ok-values.ensures.table)
-    (subst (λ (p : Problem). IfNone (best_of c.in_ok-values.field-0.route) (HasNoWalk p.network p.starts p.target)) same c.in_ok-values.ensures.none) c.in_ok-labels.labels rows
+    let read = c.in_ok-labels.ensures.table in
+    let values : List CellValue = read.values in
+    let rows = read.are_told ∙ ap (λ (g : Ground). map (row_in g) values) same_ground in
+    no_route_answers c.args.airport.now c.args.class c.args.clearance (windows_of c.args.store.now) c.requires.rules c.requires.lists (numbers_of c.args.numbers.now) c.args.numbers.now.numbered c.requires.room (beginning_of c.args.start leave) c.args.to.now node alone c.in_ok-labels.field-0.route c.in-None.is values
+    (subst (λ (p : Problem). AreExits p.network p.starts p.count (best_of c.in_ok-labels.field-0.route) values) same read.are_exits)
+    (subst (λ (p : Problem). IfNone (best_of c.in_ok-labels.field-0.route) (HasNoWalk p.network p.starts p.target)) same c.in_ok-labels.ensures.none) c.in_ok-labels.field-0.rows rows
 
-pub returns-clause-any : goal.returns-clause-any
-returns-clause-any c leave =
+pub returns-in_ok-steps-in-Some-clause-any : goal.returns-in_ok-steps-in-Some-clause-any
+returns-in_ok-steps-in-Some-clause-any c leave =
     let ground : Ground = record { layout = c.graph.result.now; table = c.classes-classes.result.now.table; class = c.args.class; horizon = c.horizon.result; clearance = c.args.clearance; windows = windows_of c.args.store.now; numbers = numbers_of c.args.numbers.now } in
     let told : Ground = ground_in c.args.airport.now c.args.class c.args.clearance (windows_of c.args.store.now) (numbers_of c.args.numbers.now) in
     let table = ap (λ (t : Times). t.table) c.classes-classes.ensures in
     let same_ground : ground ≡ told = λ i. record { layout = c.graph.ensures i; table = table i; class = c.args.class; horizon = c.horizon.ensures.horizon i; clearance = c.args.clearance; windows = windows_of c.args.store.now; numbers = numbers_of c.args.numbers.now } in
     let same : arrival_problem ground (beginning_of c.args.start 0) c.args.to.now ≡ arrival_problem told (beginning_of c.args.start leave) c.args.to.now =
     ap (λ (g : Ground). arrival_problem g (beginning_of c.args.start 0) c.args.to.now) same_ground ∙ same_problem told c.args.start leave c.args.to.now in
-    let values : List CellValue = c.in_ok-values.field-0.values.items in
-    let rows = c.in_ok-labels.ensures ∙ ap (λ (xs : List CellValue). map (row_in ground) xs) c.deref.ensures.value ∙ ap (λ (g : Ground). map (row_in g) values) same_ground in
-    let steps = c.in_ok-steps-in-Some.ensures ∙ ap (λ (walk : List CellStep). steps_at (place_at (cells_of ground)) (map step_of walk)) c.deref-in-Some.ensures.value ∙ ap (λ (g : Ground). steps_at (place_at (cells_of g)) (map step_of c.in-Some.route.steps.items)) same_ground in
-    any_route_answers c.args.airport.now c.args.class c.args.clearance (windows_of c.args.store.now) c.requires.rules c.requires.lists (numbers_of c.args.numbers.now) c.args.numbers.now.numbered c.requires.room (beginning_of c.args.start leave) c.args.to.now c.in_ok-values.field-0.route c.in-Some.route c.in-Some.is values
-    (subst (λ (p : Problem). AreExits p.network p.starts p.count (best_of c.in_ok-values.field-0.route) values) same c.in_ok-values.ensures.table)
-    (subst (λ (p : Problem). IfSome (best_of c.in_ok-values.field-0.route) (IsBestEnd p.network p.starts p.target)) same c.in_ok-values.ensures.best)
-    (subst (λ (p : Problem). IfSome c.in_ok-values.field-0.route (λ f. IsPickedRoute p.network p.starts ComesBefore p.target f.best (map step_of f.steps.items))) same c.in_ok-values.ensures.picked)
-    c.in_ok-steps-in-Some.steps c.in_ok-labels.labels steps rows
+    let read = c.in_ok-labels.ensures.table in
+    let values : List CellValue = read.values in
+    let rows = read.are_told ∙ ap (λ (g : Ground). map (row_in g) values) same_ground in
+    let steps = c.in_ok-steps-in-Some.ensures ∙ ap (λ (walk : List CellStep). steps_at (place_at (cells_of ground)) (map step_of walk)) c.deref.ensures.value ∙ ap (λ (g : Ground). steps_at (place_at (cells_of g)) (map step_of c.in-Some.route.steps.items)) same_ground in
+    any_route_answers c.args.airport.now c.args.class c.args.clearance (windows_of c.args.store.now) c.requires.rules c.requires.lists (numbers_of c.args.numbers.now) c.args.numbers.now.numbered c.requires.room (beginning_of c.args.start leave) c.args.to.now c.in_ok-labels.field-0.route c.in-Some.route c.in-Some.is values
+    (subst (λ (p : Problem). AreExits p.network p.starts p.count (best_of c.in_ok-labels.field-0.route) values) same read.are_exits)
+    (subst (λ (p : Problem). IfSome (best_of c.in_ok-labels.field-0.route) (IsBestEnd p.network p.starts p.target)) same c.in_ok-labels.ensures.best)
+    (subst (λ (p : Problem). IfSome c.in_ok-labels.field-0.route (λ f. IsPickedRoute p.network p.starts ComesBefore p.target f.best (map step_of f.steps.items))) same c.in_ok-labels.ensures.picked)
+    c.in_ok-steps-in-Some.steps c.in_ok-labels.field-0.rows steps rows
 
-pub returns-clause-one : goal.returns-clause-one
-returns-clause-one c leave node alone =
+pub returns-in_ok-steps-in-Some-clause-one : goal.returns-in_ok-steps-in-Some-clause-one
+returns-in_ok-steps-in-Some-clause-one c leave node alone =
     let ground : Ground = record { layout = c.graph.result.now; table = c.classes-classes.result.now.table; class = c.args.class; horizon = c.horizon.result; clearance = c.args.clearance; windows = windows_of c.args.store.now; numbers = numbers_of c.args.numbers.now } in
     let told : Ground = ground_in c.args.airport.now c.args.class c.args.clearance (windows_of c.args.store.now) (numbers_of c.args.numbers.now) in
     let table = ap (λ (t : Times). t.table) c.classes-classes.ensures in
     let same_ground : ground ≡ told = λ i. record { layout = c.graph.ensures i; table = table i; class = c.args.class; horizon = c.horizon.ensures.horizon i; clearance = c.args.clearance; windows = windows_of c.args.store.now; numbers = numbers_of c.args.numbers.now } in
     let same : arrival_problem ground (beginning_of c.args.start 0) c.args.to.now ≡ arrival_problem told (beginning_of c.args.start leave) c.args.to.now =
     ap (λ (g : Ground). arrival_problem g (beginning_of c.args.start 0) c.args.to.now) same_ground ∙ same_problem told c.args.start leave c.args.to.now in
-    let values : List CellValue = c.in_ok-values.field-0.values.items in
-    let rows = c.in_ok-labels.ensures ∙ ap (λ (xs : List CellValue). map (row_in ground) xs) c.deref.ensures.value ∙ ap (λ (g : Ground). map (row_in g) values) same_ground in
-    let steps = c.in_ok-steps-in-Some.ensures ∙ ap (λ (walk : List CellStep). steps_at (place_at (cells_of ground)) (map step_of walk)) c.deref-in-Some.ensures.value ∙ ap (λ (g : Ground). steps_at (place_at (cells_of g)) (map step_of c.in-Some.route.steps.items)) same_ground in
-    route_answers c.args.airport.now c.args.class c.args.clearance (windows_of c.args.store.now) c.requires.rules c.requires.lists (numbers_of c.args.numbers.now) c.args.numbers.now.numbered c.requires.room (beginning_of c.args.start leave) c.args.to.now node alone c.in_ok-values.field-0.route c.in-Some.route c.in-Some.is values
-    (subst (λ (p : Problem). AreExits p.network p.starts p.count (best_of c.in_ok-values.field-0.route) values) same c.in_ok-values.ensures.table)
-    (subst (λ (p : Problem). IfSome (best_of c.in_ok-values.field-0.route) (IsBestEnd p.network p.starts p.target)) same c.in_ok-values.ensures.best)
-    (subst (λ (p : Problem). IfSome c.in_ok-values.field-0.route (λ f. IsPickedRoute p.network p.starts ComesBefore p.target f.best (map step_of f.steps.items))) same c.in_ok-values.ensures.picked)
-    c.in_ok-steps-in-Some.steps c.in_ok-labels.labels steps rows
+    let read = c.in_ok-labels.ensures.table in
+    let values : List CellValue = read.values in
+    let rows = read.are_told ∙ ap (λ (g : Ground). map (row_in g) values) same_ground in
+    let steps = c.in_ok-steps-in-Some.ensures ∙ ap (λ (walk : List CellStep). steps_at (place_at (cells_of ground)) (map step_of walk)) c.deref.ensures.value ∙ ap (λ (g : Ground). steps_at (place_at (cells_of g)) (map step_of c.in-Some.route.steps.items)) same_ground in
+    route_answers c.args.airport.now c.args.class c.args.clearance (windows_of c.args.store.now) c.requires.rules c.requires.lists (numbers_of c.args.numbers.now) c.args.numbers.now.numbered c.requires.room (beginning_of c.args.start leave) c.args.to.now node alone c.in_ok-labels.field-0.route c.in-Some.route c.in-Some.is values
+    (subst (λ (p : Problem). AreExits p.network p.starts p.count (best_of c.in_ok-labels.field-0.route) values) same read.are_exits)
+    (subst (λ (p : Problem). IfSome (best_of c.in_ok-labels.field-0.route) (IsBestEnd p.network p.starts p.target)) same c.in_ok-labels.ensures.best)
+    (subst (λ (p : Problem). IfSome c.in_ok-labels.field-0.route (λ f. IsPickedRoute p.network p.starts ComesBefore p.target f.best (map step_of f.steps.items))) same c.in_ok-labels.ensures.picked)
+    c.in_ok-steps-in-Some.steps c.in_ok-labels.field-0.rows steps rows
 
-pub returns-clause-last : goal.returns-clause-last
-returns-clause-last c leave node among reaches =
+pub returns-in_ok-steps-in-Some-clause-last : goal.returns-in_ok-steps-in-Some-clause-last
+returns-in_ok-steps-in-Some-clause-last c leave node among reaches =
     let ground : Ground = record { layout = c.graph.result.now; table = c.classes-classes.result.now.table; class = c.args.class; horizon = c.horizon.result; clearance = c.args.clearance; windows = windows_of c.args.store.now; numbers = numbers_of c.args.numbers.now } in
     let told : Ground = ground_in c.args.airport.now c.args.class c.args.clearance (windows_of c.args.store.now) (numbers_of c.args.numbers.now) in
     let table = ap (λ (t : Times). t.table) c.classes-classes.ensures in
     let same_ground : ground ≡ told = λ i. record { layout = c.graph.ensures i; table = table i; class = c.args.class; horizon = c.horizon.ensures.horizon i; clearance = c.args.clearance; windows = windows_of c.args.store.now; numbers = numbers_of c.args.numbers.now } in
     let same : arrival_problem ground (beginning_of c.args.start 0) c.args.to.now ≡ arrival_problem told (beginning_of c.args.start leave) c.args.to.now =
     ap (λ (g : Ground). arrival_problem g (beginning_of c.args.start 0) c.args.to.now) same_ground ∙ same_problem told c.args.start leave c.args.to.now in
-    let values : List CellValue = c.in_ok-values.field-0.values.items in
-    let rows = c.in_ok-labels.ensures ∙ ap (λ (xs : List CellValue). map (row_in ground) xs) c.deref.ensures.value ∙ ap (λ (g : Ground). map (row_in g) values) same_ground in
-    let steps = c.in_ok-steps-in-Some.ensures ∙ ap (λ (walk : List CellStep). steps_at (place_at (cells_of ground)) (map step_of walk)) c.deref-in-Some.ensures.value ∙ ap (λ (g : Ground). steps_at (place_at (cells_of g)) (map step_of c.in-Some.route.steps.items)) same_ground in
-    last_route_answers c.args.airport.now c.args.class c.args.clearance (windows_of c.args.store.now) c.requires.rules c.requires.lists (numbers_of c.args.numbers.now) c.args.numbers.now.numbered c.requires.room (beginning_of c.args.start leave) c.args.to.now node among c.in_ok-values.field-0.route c.in-Some.route c.in-Some.is values
-    (subst (λ (p : Problem). AreExits p.network p.starts p.count (best_of c.in_ok-values.field-0.route) values) same c.in_ok-values.ensures.table)
-    (subst (λ (p : Problem). IfSome (best_of c.in_ok-values.field-0.route) (IsBestEnd p.network p.starts p.target)) same c.in_ok-values.ensures.best)
-    (subst (λ (p : Problem). IfSome c.in_ok-values.field-0.route (λ f. IsPickedRoute p.network p.starts ComesBefore p.target f.best (map step_of f.steps.items))) same c.in_ok-values.ensures.picked)
-    c.in_ok-steps-in-Some.steps c.in_ok-labels.labels steps rows reaches
+    let read = c.in_ok-labels.ensures.table in
+    let values : List CellValue = read.values in
+    let rows = read.are_told ∙ ap (λ (g : Ground). map (row_in g) values) same_ground in
+    let steps = c.in_ok-steps-in-Some.ensures ∙ ap (λ (walk : List CellStep). steps_at (place_at (cells_of ground)) (map step_of walk)) c.deref.ensures.value ∙ ap (λ (g : Ground). steps_at (place_at (cells_of g)) (map step_of c.in-Some.route.steps.items)) same_ground in
+    last_route_answers c.args.airport.now c.args.class c.args.clearance (windows_of c.args.store.now) c.requires.rules c.requires.lists (numbers_of c.args.numbers.now) c.args.numbers.now.numbered c.requires.room (beginning_of c.args.start leave) c.args.to.now node among c.in_ok-labels.field-0.route c.in-Some.route c.in-Some.is values
+    (subst (λ (p : Problem). AreExits p.network p.starts p.count (best_of c.in_ok-labels.field-0.route) values) same read.are_exits)
+    (subst (λ (p : Problem). IfSome (best_of c.in_ok-labels.field-0.route) (IsBestEnd p.network p.starts p.target)) same c.in_ok-labels.ensures.best)
+    (subst (λ (p : Problem). IfSome c.in_ok-labels.field-0.route (λ f. IsPickedRoute p.network p.starts ComesBefore p.target f.best (map step_of f.steps.items))) same c.in_ok-labels.ensures.picked)
+    c.in_ok-steps-in-Some.steps c.in_ok-labels.field-0.rows steps rows reaches

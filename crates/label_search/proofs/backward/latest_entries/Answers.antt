@@ -1,12 +1,19 @@
+use Rattle.std.proofs.Common.{map, sym, ◌∙◌}
+use Rattle.std.proofs.lemmas.Simd.{map-map}
 use Rattle.label_search.specs.Answer.{best_of}
+use Rattle.label_search.specs.Backward.{mirror_value}
 use Rattle.label_search.proofs.Mirroring.{values_in_mirror, best_in_mirror, none_in_mirror, route_in_mirror}
 use Rattle.label_search.proofs.backward.latest_entries.Goals as goal
 
 pub returns-clause-table : goal.returns-clause-table
 returns-clause-table g c =
-    rw (c.mirror_values.ensures, c.mirror_route.ensures.best)
-    (values_in_mirror (g.C.BackwardCells.backward c.args.cells.now) c.requires.sound c.in_ok-found.found.values.items (best_of c.in_ok-found.found.route)
-    c.in_ok-found.ensures.best c.in_ok-found.ensures.table)
+    let table = c.in_ok-found.ensures.table in
+    rw c.mirror_route.ensures.best (record {
+      values = map mirror_value table.values;
+      are_entries = values_in_mirror (g.C.BackwardCells.backward c.args.cells.now) c.requires.sound table.values (best_of c.in_ok-found.found.route)
+          c.in_ok-found.ensures.best table.are_exits;
+      are_told = table.are_told ∙ sym (map-map (g.C.BackwardCells.told c.args.cells.now) mirror_value table.values);
+    })
 
 pub returns-clause-best : goal.returns-clause-best
 returns-clause-best g c =

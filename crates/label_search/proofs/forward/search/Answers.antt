@@ -7,13 +7,23 @@ pub returns-clause-short : goal.returns-clause-short
 returns-clause-short g c =
     let p = g.C.ForwardCells.problem c.args.cells.now in
     let found = c.in_ok-found.found in
-    λ some. exits_short c.args.until p.network p.starts p.target p.count (best_of found.route) found.values.items some c.in_ok-found.ensures.best c.in_ok-found.ensures.table
+    let table = c.in_ok-found.ensures.table in
+    λ some. record {
+      values = table.values;
+      are_exits = exits_short c.args.until p.network p.starts p.target p.count (best_of found.route) table.values some c.in_ok-found.ensures.best table.are_exits;
+      are_told = table.are_told;
+    }
 
 pub returns-clause-all : goal.returns-clause-all
 returns-clause-all g c =
     let p = g.C.ForwardCells.problem c.args.cells.now in
     let found = c.in_ok-found.found in
-    λ past. exits_all c.args.until p.network p.starts p.count (best_of found.route) found.values.items (λ k. omega (arith, past, c.requires.sound.small_last k)) c.in_ok-found.ensures.table
+    let table = c.in_ok-found.ensures.table in
+    λ past. record {
+      values = table.values;
+      are_exits = exits_all c.args.until p.network p.starts p.count (best_of found.route) table.values (λ k. omega (arith, past, c.requires.sound.small_last k)) table.are_exits;
+      are_told = table.are_told;
+    }
 
 pub returns-clause-best : goal.returns-clause-best
 returns-clause-best g c =

@@ -1,12 +1,18 @@
+use Rattle.std.proofs.Common.{map, ap, ◌∙◌}
 use Rattle.label_search.specs.Labels.{standing}
+use Rattle.label_search.specs.Values.{rows_from, values_kept}
+use Rattle.label_search.specs.Answer.{end_of_goal}
 use Rattle.label_search.proofs.Ends.{end_values, end_best, end_none}
 use Rattle.label_search.proofs.forward.search_cells.Goals as goal
 
 pub returns-clause-table : goal.returns-clause-table
 returns-clause-table g c =
     let p = g.C.ForwardCells.problem c.args.cells.now in
-    rw (c.in_ok-route.ensures.same_end, c.in_ok-values.ensures, c.end_of_goal.ensures)
-    (end_values p c.requires.sound (standing c.settle-goal.new.labels) c.settle-goal.result c.settle-goal.ensures)
+    rw (c.in_ok-route.ensures.same_end) (record {
+      values = rows_from 0 (values_kept (end_of_goal c.settle-goal.result) (standing c.settle-goal.new.labels).known);
+      are_exits = end_values p c.requires.sound (standing c.settle-goal.new.labels) c.settle-goal.result c.settle-goal.ensures;
+      are_told = c.in_ok-rows.ensures ∙ ap (λ end. map (g.C.ForwardCells.told c.args.cells.now) (rows_from 0 (values_kept end (standing c.settle-goal.new.labels).known))) c.end_of_goal.ensures;
+    })
 
 pub returns-clause-best : goal.returns-clause-best
 returns-clause-best g c =

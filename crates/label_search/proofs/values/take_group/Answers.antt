@@ -1,22 +1,22 @@
-use Rattle.std.proofs.Common.{◌+◌, ◌<◌, ◌++◌, None, Some, length, take, min, sym, ap, ◌∙◌, arith, rules, w64}
+use Rattle.std.proofs.Common.{◌+◌, ◌<◌, None, Some, length, map, take, min, sym, ap, ◌∙◌, arith, rules, w64}
 use Rattle.std.specs.Int.{trailing_zeros}
 use Rattle.std.proofs.lemmas.List.{append-nil}
 use Rattle.std.proofs.lemmas.Nat.Bits.{bit_at-trailing_zeros}
 use Rattle.label_search.specs.Values.{rows_from, value_kept, values_kept}
 use Rattle.label_search.proofs.GroupLaws.{cleared_bit}
-use Rattle.label_search.proofs.ValueLaws.{row_of}
+use Rattle.label_search.proofs.ValueLaws.{told_more}
 use Rattle.label_search.proofs.Taking.{one_taken, one_row, rows_to_end}
 use Rattle.label_search.proofs.values.take_group.Goals as goal
 
 -- the lowest cell that is left is one of the cells
 pub take_label-requires : goal.take_label-requires
-take_label-requires c =
+take_label-requires g c =
     let so_far = c.cells.invariant.taken in
     let lowest = bit_at-trailing_zeros w64 c.cells.left (omega (arith, c.cells-test.true)) (search rules) in
     omega (arith, so_far.same_length, c.requires.inside (trailing_zeros w64 c.cells.left) lowest.0 (so_far.still (trailing_zeros w64 c.cells.left) lowest.0 lowest.1).0)
 
 pub overflow_add-cell : goal.overflow_add-cell
-overflow_add-cell c =
+overflow_add-cell g c =
     let so_far = c.cells.invariant.taken in
     let lowest = bit_at-trailing_zeros w64 c.cells.left (omega (arith, c.cells-test.true)) (search rules) in
     let on : c.args.first + trailing_zeros w64 c.cells.left < length c.cells.known =
@@ -24,17 +24,17 @@ overflow_add-cell c =
     search (rules, on)
 
 pub cells-smaller-in-Continue-1 : goal.cells-smaller-in-Continue-1
-cells-smaller-in-Continue-1 c =
+cells-smaller-in-Continue-1 g c =
     let lowest = bit_at-trailing_zeros w64 c.cells.left (omega (arith, c.cells-test.true)) (search rules) in
     (cleared_bit c.cells.left _ lowest.0 lowest.1).0
 
 pub cells-smaller : goal.cells-smaller
-cells-smaller c =
+cells-smaller g c =
     let lowest = bit_at-trailing_zeros w64 c.cells.left (omega (arith, c.cells-test.true)) (search rules) in
     (cleared_bit c.cells.left _ lowest.0 lowest.1).0
 
 pub cells-preserved-in-Continue-1 : goal.cells-preserved-in-Continue-1
-cells-preserved-in-Continue-1 c =
+cells-preserved-in-Continue-1 g c =
     let place = trailing_zeros w64 c.cells.left in
     let so_far = c.cells.invariant.taken in
     let lowest = bit_at-trailing_zeros w64 c.cells.left (omega (arith, c.cells-test.true)) (search rules) in
@@ -45,14 +45,14 @@ cells-preserved-in-Continue-1 c =
       done = c.args.first + place + 1;
       taken = one_taken c.args.marks c.args.first c.args.known.now c.cells.known c.cells.left c.cells.invariant.done so_far place _ lowest.0 lowest.1 lowest.2 on cleared.1 cleared.2;
       rows = λ all same long begun.
-          c.in_ok-push.ensures.items
-          ∙ ap (λ rs. rs ++ row_of (c.args.first + place) (Some c.in-Some.value)) (c.cells.invariant.rows all same long begun)
-          ∙ one_row c.args.marks c.args.first c.args.known.now c.cells.known c.cells.left c.cells.invariant.done so_far c.requires.unmarked c.args.bound all same long place lowest.0 lowest.1 lowest.2 on
-          (Some c.in-Some.value) (sym c.in-Some.is ∙ c.value_below.ensures ∙ ap (value_kept c.args.bound) c.take_label.ensures.label);
+          c.in_ok-push.ensures.ok
+          ∙ told_more (g.C.ForwardCells.told c.args.cells.now) _ _ _ _ (c.cells.invariant.rows all same long begun) c.tell.ensures
+          ∙ ap (map (g.C.ForwardCells.told c.args.cells.now)) (one_row c.args.marks c.args.first c.args.known.now c.cells.known c.cells.left c.cells.invariant.done so_far c.requires.unmarked c.args.bound all same long place lowest.0 lowest.1 lowest.2 on
+          (Some c.in-Some.value) (sym c.in-Some.is ∙ c.value_below.ensures ∙ ap (value_kept c.args.bound) c.take_label.ensures.label));
     })
 
 pub cells-preserved : goal.cells-preserved
-cells-preserved c =
+cells-preserved g c =
     let place = trailing_zeros w64 c.cells.left in
     let so_far = c.cells.invariant.taken in
     let lowest = bit_at-trailing_zeros w64 c.cells.left (omega (arith, c.cells-test.true)) (search rules) in
@@ -64,12 +64,12 @@ cells-preserved c =
       taken = one_taken c.args.marks c.args.first c.args.known.now c.cells.known c.cells.left c.cells.invariant.done so_far place _ lowest.0 lowest.1 lowest.2 on cleared.1 cleared.2;
       rows = λ all same long begun.
           c.cells.invariant.rows all same long begun
-          ∙ sym (append-nil (rows_from 0 (take (min c.cells.invariant.done (length all)) (values_kept c.args.bound all))))
+          ∙ ap (map (g.C.ForwardCells.told c.args.cells.now)) (sym (append-nil (rows_from 0 (take (min c.cells.invariant.done (length all)) (values_kept c.args.bound all))))
           ∙ one_row c.args.marks c.args.first c.args.known.now c.cells.known c.cells.left c.cells.invariant.done so_far c.requires.unmarked c.args.bound all same long place lowest.0 lowest.1 lowest.2 on
-          None (sym c.in_default.is ∙ c.value_below.ensures ∙ ap (value_kept c.args.bound) c.take_label.ensures.label);
+          None (sym c.in_default.is ∙ c.value_below.ensures ∙ ap (value_kept c.args.bound) c.take_label.ensures.label));
     })
 
-pub returns-clause-values : goal.returns-clause-values
-returns-clause-values c all same long begun =
+pub returns-clause-rows : goal.returns-clause-rows
+returns-clause-rows g c all same long begun =
     c.cells.invariant.rows all same long begun
-    ∙ sym (rows_to_end c.args.marks c.args.first c.args.known.now c.cells.known c.cells.left c.cells.invariant.done c.cells.invariant.taken c.requires.unmarked c.args.bound all same long (omega (arith, c.cells-test.false)))
+    ∙ ap (map (g.C.ForwardCells.told c.args.cells.now)) (sym (rows_to_end c.args.marks c.args.first c.args.known.now c.cells.known c.cells.left c.cells.invariant.done c.cells.invariant.taken c.requires.unmarked c.args.bound all same long (omega (arith, c.cells-test.false))))

@@ -1,4 +1,4 @@
-use Rattle.std.proofs.Common.{◌≡◌, ℕ, None, ◌-◌, ◌+◌, ◌*◌, ◌<◌, ◌≤◌, length, take, min, sym, ap, ◌∙◌, arith}
+use Rattle.std.proofs.Common.{◌≡◌, ℕ, None, ◌-◌, ◌+◌, ◌*◌, ◌<◌, ◌≤◌, length, map, take, min, sym, ap, ◌∙◌, arith}
 use Rattle.std.specs.Int.{bit_at}
 use Rattle.std.proofs.lemmas.List.{length-map}
 use Rattle.std.proofs.lemmas.Nat.Bits.{bit_at-zero}
@@ -11,20 +11,21 @@ use Rattle.label_search.proofs.values.take_marked.Goals as goal
 use Rattle.label_search.proofs.values.take_marked.Goals.{then-marks-ne0+in_ok-take_group, else-marks-ne0}
 
 pub returns-clause-taken : goal.returns-clause-taken
-returns-clause-taken c =
+returns-clause-taken g c =
     taken_all c.args.known.now c.loop-group.known c.args.groups.now c.loop-group.groups c.loop-group.group c.loop-group.invariant.taken
     (omega (arith, c.loop-group-test.false, c.loop-group.invariant.taken.as_many)) c.requires.counted
 
 pub take_group-requires-clause-inside : goal.take_group-requires-clause-inside
-take_group-requires-clause-inside c =
+take_group-requires-clause-inside g c =
     marked_inside c.args.known.now c.loop-group.known c.args.groups.now c.loop-group.groups c.loop-group.group c.loop-group.invariant.taken
 
 pub loop-group-preserved : goal.loop-group-preserved
-loop-group-preserved c =
+loop-group-preserved g c =
     let known = c.args.known.now in
     let now = c.loop-group.known in
     let groups = c.loop-group.groups in
     let bound = c.args.bound in
+    let told = g.C.ForwardCells.told c.args.cells.now in
     let group = c.loop-group.group in
     let so_far = c.loop-group.invariant.taken in
     let rest = c.loop-group.invariant.rest in
@@ -37,9 +38,9 @@ loop-group-preserved c =
             taken = taken_more known now c.args.groups.now groups group so_far w.take_group.new.known on w.take_group.ensures.length w.in_ok-take_group.ensures.taken w.take_group.ensures.others;
             rest = λ x from. w.take_group.ensures.rest x (omega (arith, from)) ∙ rest x (omega (arith, from));
             rows =
-                ap (λ v. v.items) w.values-is
-                ∙ w.in_ok-take_group.ensures.values known rest (sym so_far.same_length) rows
-                ∙ ap (λ n. rows_from 0 (take (min n (length known)) (values_kept bound known))) next;
+                w.rows-is
+                ∙ w.in_ok-take_group.ensures.rows known rest (sym so_far.same_length) rows
+                ∙ ap (λ n. map told (rows_from 0 (take (min n (length known)) (values_kept bound known)))) next;
           })
       | else-marks-ne0 w ↦ (
           let none : bits_of_group groups group ≡ 0 = omega (arith, w.if-marks-ne0.false) in
@@ -51,8 +52,8 @@ loop-group-preserved c =
             taken = taken_past known now c.args.groups.now groups group so_far none;
             rest = λ x from. rest x (omega (arith, from));
             rows =
-                ap (λ v. v.items) w.values-is ∙ rows
-                ∙ sym (rows_skip (values_kept bound known) (min (group * 64) (length known)) (min ((group + 1) * 64) (length known)) (omega arith) (omega (arith, long))
-                (λ x from less. none_kept bound known x (sym (rest x (omega (arith, from, less))) ∙ empty x (omega (arith, from, less)) (omega (arith, less)))));
+                w.rows-is ∙ rows
+                ∙ ap (map told) (sym (rows_skip (values_kept bound known) (min (group * 64) (length known)) (min ((group + 1) * 64) (length known)) (omega arith) (omega (arith, long))
+                (λ x from less. none_kept bound known x (sym (rest x (omega (arith, from, less))) ∙ empty x (omega (arith, from, less)) (omega (arith, less))))));
           }))
     ]

@@ -12,14 +12,14 @@ use Rattle.backward_search.proofs.cells.DepartureCellsBackwardCells.last_run.Goa
 pub part-requires : goal.part-requires
 part-requires c =
     let s = c.args.self.now in
-    let layout : Layout = s.ground.now.graph.now in
+    let layout : Layout = s.ground.graph.now in
     let read : get_or s.last.now c.args.run no_arc ≡ get_or (last_arcs layout s.to.now) c.args.run no_arc = ap (λ (list : List Arc). get_or list c.args.run no_arc) s.lasts in
     subst (λ (a : Arc). IsTrue (arc_exists layout a)) (sym read) (last_exist layout s.to.now c.args.run c.requires)
 
 pub returns : goal.returns
 returns c =
     let s = c.args.self.now in
-    let ground = s.ground.now in
+    let ground = s.ground in
     let g : Ground = ground_of ground in
     let lists : length g.windows ≡ length g.layout.links = windows_of-length ground.store.now ∙ ground.lists in
     let read : get_or s.last.now c.args.run no_arc ≡ get_or (last_arcs g.layout s.to.now) c.args.run no_arc = ap (λ (list : List Arc). get_or list c.args.run no_arc) s.lasts in

@@ -21,14 +21,14 @@ is_first layout s node earliest latest is leaving same i =
 pub part-requires : goal.part-requires
 part-requires c =
     let s = c.args.self.now in
-    let layout : Layout = s.ground.now.graph.now in
+    let layout : Layout = s.ground.graph.now in
     let read = is_first layout s.start c.in-Node.from c.in-Node.earliest c.in-Node.latest c.in-Node.is c.leaving.result.now c.leaving.ensures c.args.run in
     subst (λ (a : Arc). IsTrue (arc_exists layout a)) (sym read) (first_exist layout (beginning_of s.start 0) c.args.run c.requires)
 
 pub returns-in-Node : goal.returns-in-Node
 returns-in-Node c =
     let s = c.args.self.now in
-    let ground = s.ground.now in
+    let ground = s.ground in
     let g : Ground = ground_of ground in
     let lists : length g.windows ≡ length g.layout.links = windows_of-length ground.store.now ∙ ground.lists in
     let read = is_first g.layout s.start c.in-Node.from c.in-Node.earliest c.in-Node.latest c.in-Node.is c.leaving.result.now c.leaving.ensures c.args.run in
@@ -38,7 +38,7 @@ returns-in-Node c =
 pub returns-in-Frozen : goal.returns-in-Frozen
 returns-in-Frozen c =
     let s = c.args.self.now in
-    let ground = s.ground.now in
+    let ground = s.ground in
     let g : Ground = ground_of ground in
     let lists : length g.windows ≡ length g.layout.links = windows_of-length ground.store.now ∙ ground.lists in
     let on = subst (λ (t : Start). c.args.run < length (first_arcs g.layout (beginning_of t 0))) c.in-Frozen.is c.requires in

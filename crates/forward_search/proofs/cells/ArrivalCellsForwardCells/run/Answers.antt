@@ -12,7 +12,7 @@ use Rattle.forward_search.proofs.cells.ArrivalCellsForwardCells.run.Goals as goa
 
 pub part-requires : goal.part-requires
 part-requires c =
-    let g : Ground = ground_of c.args.self.now.ground.now in
+    let g : Ground = ground_of c.args.self.now.ground in
     let parts = run_parts (usable_in g c.args._cell) (length (next_arcs g.layout (arc_in g c.args._cell))) c.args.run c.requires.is_run in
     let read : get_or c.args.at.arcs.now c.args.run no_arc ≡ get_or (next_arcs g.layout (arc_in g c.args._cell)) c.args.run no_arc =
     beside_at g c.args._cell (next_arcs g.layout (arc_in g c.args._cell)) c.args.at c.requires.stands parts.0 c.args.run in
@@ -20,7 +20,7 @@ part-requires c =
 
 pub returns-clause-part : goal.returns-clause-part
 returns-clause-part c =
-    let s = c.args.self.now.ground.now in
+    let s = c.args.self.now.ground in
     let g : Ground = ground_of s in
     let lists : length g.windows ≡ length g.layout.links = windows_of-length s.store.now ∙ s.lists in
     let parts = run_parts (usable_in g c.args._cell) (length (next_arcs g.layout (arc_in g c.args._cell))) c.args.run c.requires.is_run in
