@@ -2,4 +2,5 @@ pub mod Keys
 pub mod Least
 pub mod Heap
 pub mod Places
+pub mod First
 pub mod Place

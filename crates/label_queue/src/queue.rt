@@ -4,7 +4,7 @@ ghost use Rattle.label_queue.specs.Keys.{lowered, without, IsEmpty};
 ghost use Rattle.label_queue.specs.Least.{IsLeast};
 
 use crate::heap;
-use crate::heap::Entry;
+use crate::heap::{Entry, First};
 use crate::place::Place;
 use std::alloc::Global;
 use std::marker::Model;
@@ -19,6 +19,9 @@ pub struct LabelQueue {
     heap: Vec<Entry>,
     // By label: where its entry lies in the heap.
     places: Vec<Place>,
+    // A label that is taken out leaves the first place open, and the next one that comes is put there, so that the heap is put in order
+    // once for both.
+    first: First,
 }
 
 impl Model for LabelQueue {
@@ -27,12 +30,13 @@ impl Model for LabelQueue {
     ghost Value = { List (Option ℕ) };
 
     ghost use Rattle.std.specs.Prelude.{◌<◌, ◌≤◌, ◌^◌, length, vec_capacity};
-    ghost use Rattle.label_queue.specs.Places.{keys_of, IsIndexedHeap};
+    ghost use Rattle.label_queue.specs.First.{IsHeapBelow};
+    ghost use Rattle.label_queue.specs.Places.{keys_of};
 
     ghost view = { λ q. keys_of q.heap.items q.places.items };
 
     ghost invariant = { λ q.
-        IsIndexedHeap q.heap.items q.places.items × (length q.places.items ≤ vec_capacity q.heap) × (length q.places.items < 2 ^ 32) };
+        IsHeapBelow q.first q.heap.items q.places.items × (length q.places.items ≤ vec_capacity q.heap) × (length q.places.items < 2 ^ 32) };
 }
 
 impl LabelQueue {
@@ -45,14 +49,21 @@ impl LabelQueue {
         }
         let heap = Vec::with_capacity(alloc, limit)?;
         let places = Vec::from_elem(alloc, Place::none(), limit)?;
-        Ok(LabelQueue { heap, places })
+        Ok(LabelQueue {
+            heap,
+            places,
+            first: First::Least,
+        })
     }
 
     /// Whether no label is in the queue.
     pub fn is_empty(&self) -> bool
         ensures { IsTrue result ↔ IsEmpty self.now }
     {
-        self.heap.is_empty()
+        match self.first {
+            First::Taken => self.heap.len() == 1,
+            _ => self.heap.is_empty(),
+        }
     }
 
     /// Gives the label this key, or leaves it the lesser one that it has. No memory is taken.
@@ -62,6 +73,32 @@ impl LabelQueue {
         ensures ok { IsOk result }
         ensures lowered { self.new ≡ lowered self.old label key }
     {
+        match self.places[label].get() {
+            None => {
+                if self.first == First::Taken {
+                    let entry = Entry {
+                        label: label as u32,
+                        key,
+                    };
+                    heap::put_first(&mut self.heap, &mut self.places, entry);
+                    self.first = First::New;
+                } else {
+                    self.put_among(label, key);
+                }
+            }
+            // Not one call for both: the compiler writes out what is called once, and the way above would not stay short.
+            Some(_) => self.put_among(label, key),
+        }
+        Ok(())
+    }
+
+    /// The same where the first place does not stand open, or the label is there already.
+    fn put_among(&mut self, label: usize, key: u32)
+        requires { label < length self.old }
+        ensures { self.new ≡ lowered self.old label key }
+    {
+        heap::put_in_order(&mut self.heap, &mut self.places, self.first);
+        self.first = First::Least;
         match self.places[label].get() {
             None => {
                 let entry = Entry {
@@ -76,7 +113,6 @@ impl LabelQueue {
                 }
             }
         }
-        Ok(())
     }
 
     /// Takes out the label with the least key, at a tie the least label.
@@ -87,10 +123,13 @@ impl LabelQueue {
         ensures least { IfSome result (λ pair. IsLeast self.old pair.0 pair.1) }
         ensures taken { IfSome result (λ pair. self.new ≡ without self.old pair.0) }
     {
+        heap::put_in_order(&mut self.heap, &mut self.places, self.first);
+        self.first = First::Least;
         if self.heap.is_empty() {
             return None;
         }
-        let first = heap::take_first(&mut self.heap, &mut self.places);
+        let first = heap::take_first(&self.heap, &mut self.places);
+        self.first = First::Taken;
         Some((first.label as usize, first.key))
     }
 
@@ -100,5 +139,6 @@ impl LabelQueue {
     {
         heap::forget(&self.heap, &mut self.places);
         self.heap.clear();
+        self.first = First::Least;
     }
 }

@@ -3,7 +3,12 @@ use Rattle.std.proofs.lemmas.List.{with_items_is}
 use Rattle.label_queue.specs.Places.{keys_of}
 use Rattle.label_queue.proofs.Indexing.{length-keys_of}
 use Rattle.label_queue.proofs.Changes.{keys_of-none}
+use Rattle.label_queue.proofs.OpenFirst.{HasEntries-below}
 use Rattle.label_queue.proofs.queue.LabelQueue.clear.Goals as goal
+
+pub forget-requires : goal.forget-requires
+forget-requires c =
+    rw (c.deref.ensures.value, c.deref_mut.ensures.value) (HasEntries-below c.self.inside.first c.self.inside.heap.items c.self.inside.places.items c.self.invariant.0)
 
 pub returns : goal.returns
 returns c =
