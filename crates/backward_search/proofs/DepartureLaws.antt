@@ -10,7 +10,7 @@ use Rattle.taxi_base.specs.Airport.{Layout, Ends, ends, arc_exists, head}
 use Rattle.label_core.specs.BackwardWalks.{Finish}
 use Rattle.label_search.specs.declared.cells.Run.{Run}
 use Rattle.label_search.specs.Problem.{IsIn, IsPartWith}
-use Rattle.label_search.specs.Backward.{IsBackwardProblem, CanEnd}
+use Rattle.label_search.specs.Backward.{IsBackwardProblem, CanEnd, MayGoFrom}
 use Rattle.walk_labels.specs.Places.{Place, place_at}
 use Rattle.taxi_base.specs.Choices.{OneOf}
 use Rattle.walk_labels.specs.Requests.{leads_to_one_of, finishes_at}
@@ -75,6 +75,13 @@ module _ (layout : Layout) where
   last_exist nodes i on =
       let arc : Arc = get_or (last_arcs layout nodes) i no_arc in
       last_arcs-exist nodes arc (i, on, get_or_default (last_arcs layout nodes) i arc no_arc on)
+
+-- ---- the cells from which walks may go on
+
+-- the class can use each
+pub go_from-usable : (g : Ground) (from : Node) (e : Ending) (k : ℕ) → MayGoFrom (departure_problem g from e) k → IsTrue (usable_in g k)
+go_from-usable g from e k (inl ends_here) = (finish_parts g.layout (usable_in g) (place_at (cells_of g)) e k ends_here.0 ends_here.1).0
+go_from-usable g from e k (inr goes_on) = (turn_parts g k goes_on.0 goes_on.1).0
 
 -- ---- the cells in which walks can end
 

@@ -1,8 +1,8 @@
 //! The cells of a departure's search.
-ghost use Rattle.std.specs.Prelude.{◌≡◌, ◌<◌, Some, option_map, IfOk};
+ghost use Rattle.std.specs.Prelude.{◌≡◌, ◌<◌, Some, option_map, IfOk, IsTrue};
 ghost use Rattle.taxi_base.specs.declared.numbers.Arc.{Arc as ArcNumber};
 ghost use Rattle.taxi_base.specs.declared.numbers.Node.{Node as NodeNumber};
-ghost use Rattle.taxi_base.specs.Airport.{head};
+ghost use Rattle.taxi_base.specs.Airport.{arc_exists, head};
 ghost use Rattle.label_search.specs.Backward.{BackwardProblem, finish_of};
 ghost use Rattle.place_cells.specs.Grounds.{ground_of};
 ghost use Rattle.place_cells.specs.Tells.{IsBackward, TellsCell};
@@ -45,6 +45,7 @@ pub(crate) fn last_arcs(
 impl DepartureCells<'_> {
     /// How a walk may end by the arc, if one may.
     fn closing_at(&self, arc: Arc) -> Option<Closing>
+        requires { IsTrue (arc_exists self.now.ground.graph.now arc) }
         ensures { option_map finish_of result ≡ finish_at self.now.ground.graph.now (record { to = self.now.to.now; earliest = self.now.earliest_out; latest = self.now.latest_out }) arc }
     {
         if self.ground.leads_to(arc, self.to) {

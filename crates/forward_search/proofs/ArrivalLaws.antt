@@ -1,5 +1,5 @@
 -- The numbered cells are what an arrival's search is asked.
-use Rattle.std.proofs.Common.{◌≡◌, ℕ, zero, suc, ◌<◌, ◌&&◌, ◌==◌, Bool, true, false, List, [], ◌∷◌, length, get_or, IsTrue, Some, None, cond, refl, sym, ◌∙◌, ap, subst, arith}
+use Rattle.std.proofs.Common.{◌≡◌, ℕ, zero, suc, ◌<◌, ◌&&◌, ◌==◌, Bool, true, false, List, [], ◌∷◌, length, get_or, inl, inr, IsTrue, Some, None, cond, refl, sym, ◌∙◌, ap, subst, arith}
 use Rattle.std.specs.Prelude.{Contains}
 use Rattle.std.proofs.lemmas.Bool.{and_parts, cond-true, eqb-true}
 use Rattle.std.proofs.lemmas.List.{get_or_default}
@@ -9,7 +9,7 @@ use Rattle.taxi_base.specs.declared.rows.Step.{Step}
 use Rattle.taxi_base.specs.Airport.{Layout, Ends, ends, arc_exists, tail, meet}
 use Rattle.label_core.specs.Walks.{Start as CellStart}
 use Rattle.label_search.specs.declared.cells.Run.{Run}
-use Rattle.label_search.specs.Problem.{IsProblem, IsIn, IsPartWith, CanBegin}
+use Rattle.label_search.specs.Problem.{IsProblem, IsIn, IsPartWith, CanBegin, MayComeTo}
 use Rattle.walk_labels.specs.Places.{Place, place_at}
 use Rattle.walk_labels.specs.Requests.{Beginning, starts_by}
 use Rattle.walk_labels.specs.Requests.Beginning.{at_node, resuming}
@@ -95,6 +95,13 @@ first_begun layout begun exit_from i on = at (arc_exists layout begun.arc) i on
     at true zero on = refl
     at true (suc i) on = absurd (omega arith)
     at false i on = absurd (omega arith)
+
+-- ---- the cells to which walks may come
+
+-- the class can use each
+pub come_to-usable : (g : Ground) (b : Beginning) (to : List Node) (k : ℕ) → MayComeTo (arrival_problem g b to) k → IsTrue (usable_in g k)
+come_to-usable g b to k (inl begins) = start_inside g.layout (usable_in g) (place_at (cells_of g)) b k begins.0 begins.1
+come_to-usable g b to k (inr comes) = (turn_parts g comes.0 k comes.1).1
 
 -- ---- the cells in which walks can begin
 

@@ -1,5 +1,5 @@
 -- A problem backward in time and its mirror: what is found in the one is found in the other.
-use Rattle.std.proofs.Common.{◌≡◌, ℕ, ◌-◌, ◌≤◌, List, [], ◌∷◌, get_or, map, reverse, Option, Some, None, option_map, IfSome, IfNone, refl, sym, ap, ◌∙◌, subst, arith}
+use Rattle.std.proofs.Common.{◌≡◌, ℕ, ◌-◌, ◌≤◌, List, [], ◌∷◌, get_or, map, reverse, Option, Some, None, option_map, IfSome, IfNone, refl, sym, ap, ◌∙◌, subst, inl, inr, arith}
 use mathlib.Core.List.{reverse_aux}
 use Rattle.std.proofs.lemmas.List.{length-map}
 use Rattle.label_core.specs.Walks.{Step}
@@ -15,10 +15,10 @@ use Rattle.label_search.specs.declared.cells.Run.{Run}
 use Rattle.label_search.specs.declared.values.CellValue.{CellValue}
 use Rattle.label_search.specs.declared.pick.CellStep.{CellStep}
 use Rattle.label_search.specs.declared.forward.Route.{Route}
-use Rattle.label_search.specs.Problem.{IsProblem, IsPartOf}
+use Rattle.label_search.specs.Problem.{IsProblem, IsPartOf, MayComeTo}
 use Rattle.label_search.specs.Values.{AreExits, AreEntries}
 use Rattle.label_search.specs.Answer.{step_of, best_of, ComesBefore}
-use Rattle.label_search.specs.Backward.{BackwardProblem, IsBackwardProblem, IsBackwardPartOf, mirror_second, mirror_problem, mirror_value, mirror_cell_step}
+use Rattle.label_search.specs.Backward.{BackwardProblem, IsBackwardProblem, IsBackwardPartOf, mirror_second, mirror_problem, mirror_value, mirror_cell_step, MayGoFrom}
 use Rattle.label_search.proofs.ValueLaws.{rows_from-map, get_or-option_map}
 
 -- steps, turned and seen in the mirror
@@ -36,6 +36,11 @@ part_in_mirror b fits c ready last whole part is_part = record {
   permitted = is_part.permitted;
   expansions_in = λ d t is e by. is_part.expansions_in d (mirror_second - t) is (expansion_from_mirror b.network b.finishes mirror_second fits c ready d t (omega (arith, e.still_held)) e) (omega (arith, by, fits.windows_last d));
 }
+
+-- where walks may come to a cell in the mirror, they may go on from it
+pub go_from_mirror : (b : BackwardProblem) (c : ℕ) → MayComeTo (mirror_problem b) c → MayGoFrom b c
+go_from_mirror b c (inl start) = let f = option_map_some (mirror_start mirror_second) (b.finishes c) start.0 start.1 in inl (f.0, f.1)
+go_from_mirror b c (inr turn) = inr turn
 
 module _ (b : BackwardProblem) (sound : IsBackwardProblem b) where
   pub up_to : IsUpTo mirror_second b.network b.finishes

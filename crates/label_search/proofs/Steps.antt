@@ -8,7 +8,7 @@ use Rattle.label_queue.specs.Least.{IsLeast}
 use Rattle.label_core.specs.Labels.{IsExpansion}
 use Rattle.label_core.proofs.SettledCells.{IsSettling}
 use Rattle.label_search.specs.declared.labels.Label.{Label}
-use Rattle.label_search.specs.Problem.{Problem, IsProblem}
+use Rattle.label_search.specs.Problem.{Problem, IsProblem, MayComeTo}
 use Rattle.label_search.specs.Labels.{Standing, label_of, HasValue, IsOffered, Same}
 use Rattle.label_search.specs.Labels.IsOffered.{first, lower, tied, kept}
 use Rattle.label_search.specs.Expanding.{WasExpandedTo, IsExpanded}
@@ -62,10 +62,18 @@ stays (kept old key by tie) x was is at =
     let same : old ≡ x = cc in
     omega (arith, tie, at, ap (λ y. y.value) same, ap (λ y. y.via) same)
 
--- a cell with a label that says why is below the count
+-- walks may come to a cell with a label that says why
+pub traced_come_to : (p : Problem) (Row : ℕ → ℕ → Type 0) (d : ℕ) (label : Label) → IsTraced p Row d label → MayComeTo p d
+traced_come_to p Row d label (inl start) = inl (start.start, start.here)
+traced_come_to p Row d label (inr before) = inr (label.via, before.1.expands.by_turn)
+
+-- and such a cell is below the count
+pub come_to_inside : (p : Problem) → IsProblem p → (d : ℕ) → MayComeTo p d → d < p.count
+come_to_inside p sound d (inl start) = sound.starts_inside d start.0 start.1
+come_to_inside p sound d (inr turn) = (sound.turns_inside turn.0 d turn.1).1
+
 pub traced_inside : (p : Problem) → IsProblem p → (Row : ℕ → ℕ → Type 0) (d : ℕ) (label : Label) → IsTraced p Row d label → d < p.count
-traced_inside p sound Row d label (inl start) = sound.starts_inside d start.start start.here
-traced_inside p sound Row d label (inr before) = (sound.turns_inside label.via d before.1.expands.by_turn).1
+traced_inside p sound Row d label traced = come_to_inside p sound d (traced_come_to p Row d label traced)
 
 -- and its value is small
 traced_small : (p : Problem) → IsProblem p → (Row : ℕ → ℕ → Type 0) (d : ℕ) (label : Label) → IsTraced p Row d label → label.value < 2 ^ 31
@@ -73,8 +81,11 @@ traced_small p sound Row d label (inl start) = omega (arith, start.in_time, soun
 traced_small p sound Row d label (inr before) = omega (arith, before.1.expands.in_time, sound.small_last d)
 
 module _ (p : Problem) (sound : IsProblem p) (s : Standing) (under : IsUnderway p s) (c k : ℕ) (least : IsLeast s.keys c k) where
+  pub cell_come_to : MayComeTo p c
+  cell_come_to = let known = least_known p sound s under c k least in traced_come_to p _ c known.0 (under.traced c known.0 known.1)
+
   pub cell_inside : c < p.count
-  cell_inside = let known = least_known p sound s under c k least in traced_inside p sound _ c known.0 (under.traced c known.0 known.1)
+  cell_inside = come_to_inside p sound c cell_come_to
 
   pub key_small : k < 2 ^ 31
   key_small = let known = least_known p sound s under c k least in omega (arith, traced_small p sound _ c known.0 (under.traced c known.0 known.1), known.2)

@@ -81,7 +81,8 @@ if_kept : (t : Bool) (x v : ℕ) → cond t (Some x) None ≡ Some v → (t ≡ 
 if_kept true x v e = (refl, cc)
 if_kept false x v e = absurd cc
 
-kept_some : (bound : Option ℕ) (o : Option Label) (v : ℕ) → value_kept bound o ≡ Some v → ((l : Label) × (o ≡ Some l) × (l.value ≡ v)) × IsBelow bound v
+-- a value that is kept is that of a label, and below the bound
+pub kept_some : (bound : Option ℕ) (o : Option Label) (v : ℕ) → value_kept bound o ≡ Some v → ((l : Label) × (o ≡ Some l) × (l.value ≡ v)) × IsBelow bound v
 kept_some bound None v e = absurd (let f : None ≡ Some v = e in cc)
 kept_some None (Some l) v e = (let f : Some l.value ≡ Some v = e in let same : l.value ≡ v = cc in ((l, refl, same), tt))
 kept_some (Some b) (Some l) v e =

@@ -1,5 +1,5 @@
 -- What is a search backward asked? A network of numbered cells, how walks may end, and where they shall begin.
-use Rattle.std.specs.Prelude.{◌≡◌, ℕ, ◌^◌, ◌-◌, ◌<◌, ◌≤◌, min, Bool, IsTrue, Option, Some}
+use Rattle.std.specs.Prelude.{◌≡◌, ℕ, ◌^◌, ◌-◌, ◌<◌, ◌≤◌, ◌⊎◌, min, Bool, IsTrue, Option, Some}
 use Rattle.label_core.specs.Walks.{Network}
 use Rattle.label_core.specs.BackwardWalks.{Finish}
 use Rattle.label_core.specs.BackwardLabels.{IsFinishEntry, IsExpansionBack}
@@ -36,6 +36,10 @@ pub record IsBackwardProblem (b : BackwardProblem) : Type 0 where
   pub finishes_inside : (c : ℕ) (f : Finish) → b.finishes c ≡ Some f → c < b.count
   pub finishes_in_runs : (c : ℕ) (f : Finish) → b.finishes c ≡ Some f → (k : ℕ) × (k < b.last_runs) × IsIn (b.last_run k) c
   pub last_runs_inside : (k : ℕ) → k < b.last_runs → (b.last_run k).until ≤ b.count
+
+-- walks may go on from the cell: one may end there, or it has a turn
+abbrev pub MayGoFrom : BackwardProblem → ℕ → Type 0
+MayGoFrom b c = ((f : Finish) × (b.finishes c ≡ Some f)) ⊎ ((d : ℕ) × IsTrue (b.network.turn c d))
 
 -- a walk can end in the cell
 abbrev pub CanEnd : BackwardProblem → ℕ → Type 0

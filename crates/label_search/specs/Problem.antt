@@ -1,5 +1,5 @@
 -- What is a search asked? A network of numbered cells, how walks may begin, and where they shall end.
-use Rattle.std.specs.Prelude.{◌≡◌, ℕ, ◌^◌, ◌<◌, ◌≤◌, Bool, IsTrue, Option, Some}
+use Rattle.std.specs.Prelude.{◌≡◌, ℕ, ◌^◌, ◌<◌, ◌≤◌, ◌⊎◌, Bool, IsTrue, Option, Some}
 use Rattle.label_core.specs.Walks.{Network, Start}
 use Rattle.label_core.specs.Labels.{entry, IsStartEntry, IsExpansion}
 use Rattle.label_search.specs.declared.cells.Cell.{Cell}
@@ -31,6 +31,10 @@ pub record IsPartWith (Wanted : ℕ → Type 0) (whole part : Run) : Type 0 wher
 -- a walk can begin in the cell
 abbrev pub CanBegin : Problem → ℕ → Type 0
 CanBegin p c = (t : ℕ) × IsStartEntry p.network p.starts c t
+
+-- walks may come to the cell: one may begin there, or a turn leads to it
+abbrev pub MayComeTo : Problem → ℕ → Type 0
+MayComeTo p c = ((s : Start) × (p.starts c ≡ Some s)) ⊎ ((b : ℕ) × IsTrue (p.network.turn b c))
 
 -- each cell takes a second or longer, times are small enough to be added, and turns and starts are at cells below the count
 pub record IsProblem (p : Problem) : Type 0 where

@@ -1,8 +1,8 @@
 //! What a search is asked: cells by their numbers, and which may follow which.
 ghost use Rattle.std.specs.Prelude.{◌≡◌, ℕ, ◌<◌, option_map};
-ghost use Rattle.label_search.specs.Problem.{Problem, cell_of, start_of, IsIn, IsPartOf, IsPartWith, CanBegin};
+ghost use Rattle.label_search.specs.Problem.{Problem, cell_of, start_of, IsIn, IsPartOf, IsPartWith, CanBegin, MayComeTo};
 ghost use Rattle.label_search.specs.declared.values.CellValue.{CellValue as Valued};
-ghost use Rattle.label_search.specs.Backward.{BackwardProblem, finish_of, IsBackwardPartOf, CanEnd};
+ghost use Rattle.label_search.specs.Backward.{BackwardProblem, finish_of, IsBackwardPartOf, CanEnd, MayGoFrom};
 
 use crate::values::CellValue;
 
@@ -79,8 +79,9 @@ pub trait ForwardCells {
         requires { cell < (problem self.now).count }
         ensures { option_map start_of result ≡ (problem self.now).starts cell };
 
+    /// What is read of a cell to which walks may come.
     fn place(&self, cell: usize) -> Self::Place
-        requires { cell < (problem self.now).count }
+        requires { MayComeTo (problem self.now) cell }
         ensures { stands self.now result cell };
 
     /// Whether a walk may end in the cell at this place.
@@ -128,6 +129,7 @@ pub trait ForwardCells {
 
     /// What is told of a cell and its value.
     fn tell(&self, value: CellValue) -> Self::Told
+        requires { MayComeTo (problem self.now) value.cell }
         ensures { result ≡ told self.now value };
 }
 
@@ -167,8 +169,9 @@ pub trait BackwardCells {
         requires { cell < (backward self.now).count }
         ensures { option_map finish_of result ≡ (backward self.now).finishes cell };
 
+    /// What is read of a cell from which walks may go on.
     fn place(&self, cell: usize) -> Self::Place
-        requires { cell < (backward self.now).count }
+        requires { MayGoFrom (backward self.now) cell }
         ensures { stands self.now result cell };
 
     /// Whether a walk may begin in the cell at this place.
@@ -216,5 +219,6 @@ pub trait BackwardCells {
 
     /// What is told of a cell and its value.
     fn tell(&self, value: CellValue) -> Self::Told
+        requires { MayGoFrom (backward self.now) value.cell }
         ensures { result ≡ told self.now value };
 }

@@ -1,7 +1,8 @@
 //! The values that are handed out of labels.
-ghost use Rattle.std.specs.Prelude.{◌≡◌, ℕ, ◌+◌, ◌/◌, ◌<◌, ◌≤◌, List, [], min, length, map, slice_set, Option, None, OnOk};
+ghost use Rattle.std.specs.Prelude.{◌≡◌, ℕ, ◌+◌, ◌/◌, ◌<◌, ◌≤◌, List, [], min, length, map, slice_set, Option, None, Some, OnOk};
 ghost use Rattle.std.specs.Int.{bit_at};
 ghost use Rattle.label_search.specs.declared.labels.Label.{Label as KnownLabel};
+ghost use Rattle.label_search.specs.Problem.{MayComeTo};
 ghost use Rattle.label_search.specs.Labels.{label_of};
 ghost use Rattle.label_search.specs.Groups.{AreMarked, HaveNothing};
 ghost use Rattle.label_search.specs.Values.{rows_from, value_kept, values_kept, AreAsBeforeFrom, AreRowsTo};
@@ -56,6 +57,7 @@ pub(crate) fn take_marked<C: ForwardCells>(
     groups: &mut [u64],
     bound: Option<u32>,
 ) -> Result<(), Memory>
+    requires come_to { (c : ℕ) (label : KnownLabel) → label_of known.old c ≡ Some label → MayComeTo (C.problem cells.now) c }
     requires none_yet { rows.old ≡ [] }
     requires counted { length groups.old ≡ length known.old / 64 + 1 }
     requires marked { AreMarked known.old groups.old }
@@ -85,6 +87,7 @@ fn take_group<C: ForwardCells>(
     first: usize,
     marks: u64,
 ) -> Result<(), Memory>
+    requires come_to { (c : ℕ) (label : KnownLabel) → first ≤ c → label_of known.old c ≡ Some label → MayComeTo (C.problem cells.now) c }
     requires inside { (k : ℕ) → k < 64 → bit_at marks k ≡ 1 → first + k < length known.old }
     requires unmarked { (k : ℕ) → k < 64 → bit_at marks k ≡ 0 → label_of known.old (first + k) ≡ None }
     ensures length { length known.new ≡ length known.old }

@@ -26,15 +26,22 @@ fn run_beside(cell: &ListedCell, run: usize) -> Run
 }
 
 /// The cell with this number; where the list has none, one that no step can leave.
-fn cell_of(cells: &[ListedCell], cell: usize) -> Cell
-    ensures { result ≡ (cell_at cells.now cell).cell }
+fn cell_at(cells: &[ListedCell], cell: usize) -> ListedCell
+    ensures { result ≡ cell_at cells.now cell }
 {
     match cells.get(cell) {
-        Some(listed) => listed.cell,
-        None => Cell {
-            from: 0,
-            last: 0,
-            seconds: 1,
+        Some(listed) => *listed,
+        None => ListedCell {
+            cell: Cell {
+                from: 0,
+                last: 0,
+                seconds: 1,
+            },
+            opening: None,
+            closing: None,
+            is_goal: false,
+            near: Run { first: 0, until: 0 },
+            far: Run { first: 0, until: 0 },
         },
     }
 }
@@ -83,7 +90,7 @@ impl ForwardCells for ForwardList<'_> {
 
     ghost problem = { λ l. listed_problem l.cells.now };
 
-    ghost stands = { λ l place cell. cell < length l.cells.now };
+    ghost stands = { λ l place cell. ⊤ };
 
     ghost tells = { λ l row cell. ⊤ };
 
@@ -108,11 +115,11 @@ impl ForwardCells for ForwardList<'_> {
     fn place(&self, _cell: usize) {}
 
     fn is_target(&self, cell: usize, _place: ()) -> bool {
-        self.cells[cell].is_goal
+        cell_at(self.cells, cell).is_goal
     }
 
     fn last(&self, cell: usize, _place: ()) -> u32 {
-        self.cells[cell].cell.last
+        cell_at(self.cells, cell).cell.last
     }
 
     fn first_runs(&self) -> usize {
@@ -132,13 +139,13 @@ impl ForwardCells for ForwardList<'_> {
 
     fn run(&self, cell: usize, _place: (), run: usize, _ready: u32, _last: u32) -> Part<()> {
         Part {
-            run: run_beside(&self.cells[cell], run),
+            run: run_beside(&cell_at(self.cells, cell), run),
             row: (),
         }
     }
 
     fn cell_in(&self, _row: (), cell: usize) -> Cell {
-        cell_of(self.cells, cell)
+        cell_at(self.cells, cell).cell
     }
 
     fn tell(&self, value: CellValue) -> CellValue {
@@ -161,7 +168,7 @@ impl BackwardCells for BackwardList<'_> {
 
     ghost backward = { λ l. listed_backward l.cells.now };
 
-    ghost stands = { λ l place cell. cell < length l.cells.now };
+    ghost stands = { λ l place cell. ⊤ };
 
     ghost tells = { λ l row cell. ⊤ };
 
@@ -186,11 +193,11 @@ impl BackwardCells for BackwardList<'_> {
     fn place(&self, _cell: usize) {}
 
     fn is_source(&self, cell: usize, _place: ()) -> bool {
-        self.cells[cell].is_goal
+        cell_at(self.cells, cell).is_goal
     }
 
     fn from(&self, cell: usize, _place: ()) -> u32 {
-        self.cells[cell].cell.from
+        cell_at(self.cells, cell).cell.from
     }
 
     fn last_runs(&self) -> usize {
@@ -210,13 +217,13 @@ impl BackwardCells for BackwardList<'_> {
 
     fn run_before(&self, cell: usize, _place: (), run: usize, _ready: u32, _from: u32) -> Part<()> {
         Part {
-            run: run_beside(&self.cells[cell], run),
+            run: run_beside(&cell_at(self.cells, cell), run),
             row: (),
         }
     }
 
     fn cell_in(&self, _row: (), cell: usize) -> Cell {
-        cell_of(self.cells, cell)
+        cell_at(self.cells, cell).cell
     }
 
     fn tell(&self, value: CellValue) -> CellValue {

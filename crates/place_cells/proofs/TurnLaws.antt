@@ -1,7 +1,7 @@
 -- The lists of the arcs that may follow, and that may come before, are the graph's.
-use Rattle.std.proofs.Common.{◌≡◌, ℕ, zero, suc, ◌*◌, ◌/◌, ◌<◌, ◌↔◌, Bool, false, List, [], ◌∷◌, length, inl, inr, IsTrue, Option, Some, None, is_some, option_map, refl, sym, ◌∙◌, ap, arith}
+use Rattle.std.proofs.Common.{◌≡◌, ℕ, zero, suc, ◌*◌, ◌/◌, ◌<◌, ◌↔◌, Bool, List, [], ◌∷◌, length, inl, inr, IsTrue, Option, Some, None, is_some, option_map, refl, sym, ◌∙◌, ap, arith}
 use Rattle.std.specs.Prelude.{AllPairs, Contains, filter}
-use Rattle.std.proofs.lemmas.Bool.{cases_lt, cases_Bool, false≢true}
+use Rattle.std.proofs.lemmas.Bool.{cases_lt}
 use Rattle.std.proofs.lemmas.Option.{slice_get_past}
 use Rattle.std.proofs.lemmas.List.Elements.{All-contains}
 use Rattle.taxi_base.specs.Lists.{AreAll}
@@ -9,9 +9,7 @@ use Rattle.taxi_base.proofs.InOrder.{AreAll-none, AreAll-same, AreAll-push, AreA
 use Rattle.taxi_base.specs.declared.numbers.Arc.{Arc}
 use Rattle.taxi_base.specs.declared.numbers.Node.{Node}
 use Rattle.taxi_base.specs.Airport.{Layout, Ends, ends, meet, permits, arc_exists, tail, head}
-use Rattle.walk_labels.specs.Requests.{leads_to_one_of}
-use Rattle.taxi_base.proofs.OneOfLaws.{OneOf-gives}
-use Rattle.walk_labels.proofs.RequestCells.{meet-same, leads-OneOf}
+use Rattle.walk_labels.proofs.RequestCells.{meet-same}
 use Rattle.taxi_base.proofs.ListLaws.{AllPairs-first, AllPairs-rest, Contains-first, Contains-rest, Contains-cons_cases}
 use Rattle.taxi_base.proofs.AirportLaws.{permits-exist}
 use Rattle.segment_graph.specs.Graphs.{AreArcs, AreNext, ArePrevious, AreLeaving, AreEntering}
@@ -115,11 +113,3 @@ module _ (layout : Layout) where
 
   pub entering_arcs-are : (node : Node) (arcs : List Arc) → AreEntering layout node arcs → arcs ≡ entering_arcs layout node
   entering_arcs-are node arcs are = AreAll-only (λ (a : Arc). a.0) (λ a. head layout a ≡ Some node) arcs (entering_arcs layout node) are (entering_arcs-all node)
-
-  -- an arc that isn't there leads nowhere
-  pub leads-none : (arc : Arc) → arc_exists layout arc ≡ false → (nodes : List Node) → leads_to_one_of layout nodes arc ≡ false
-  leads-none arc none nodes =
-      elim (cases_Bool (leads_to_one_of layout nodes arc)) [
-        | inl leads ↦ absurd (OneOf-gives (λ node. head layout arc ≡ Some node) ⊥ (λ node h. false≢true (sym none ∙ some-exists (λ (e : Ends). e.head) (ends layout arc) node h)) nodes ((leads-OneOf layout nodes arc).0 leads))
-        | inr not ↦ not
-      ]

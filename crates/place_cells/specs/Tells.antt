@@ -1,5 +1,5 @@
 -- What is told of cells that are read once?
-use Rattle.std.specs.Prelude.{ℕ, ◌≡◌, ◌-◌, ◌<◌, ◌≤◌, List, [], length, if◌then◌else◌}
+use Rattle.std.specs.Prelude.{ℕ, ◌≡◌, ◌-◌, ◌<◌, ◌≤◌, IsTrue, List, length}
 use Rattle.taxi_base.specs.declared.numbers.Arc.{Arc}
 use Rattle.window_store.specs.Rows.{span_in}
 use Rattle.walk_labels.specs.Places.{place_at}
@@ -16,10 +16,11 @@ pub record TellsCell (g : Ground) (row : ArcRow) (cell : ℕ) : Type 0 where
   pub window : span_in row.windows.now (cell - row.first) ≡ window_in g cell
   pub seconds : row.seconds ≡ (network_in g).seconds cell
 
--- the arc and the window are the number's, and beside it are these arcs, none where it is no cell's
+-- the number is that of a cell, the arc and the window are the cell's, and beside it are these arcs
 pub record IsBeside (g : Ground) (cell : ℕ) (may : List Arc) (b : Beside) : Type 0 where
+  pub usable : IsTrue (usable_in g cell)
   pub place : place_of b.place ≡ place_at (cells_of g) cell
-  pub arcs : b.arcs.now ≡ (if usable_in g cell then may else [])
+  pub arcs : b.arcs.now ≡ may
 
 -- beside it are those that may follow
 abbrev pub IsOnward : Ground → ℕ → Beside → Type 0

@@ -1,9 +1,9 @@
 //! What was found over cells, told of arcs and windows.
-ghost use Rattle.std.specs.Prelude.{◌≡◌, map, IfOk};
+ghost use Rattle.std.specs.Prelude.{◌≡◌, map, IfOk, IsTrue};
 ghost use Rattle.label_search.specs.Answer.{step_of};
 ghost use Rattle.walk_labels.specs.Places.{place_at};
 ghost use Rattle.walk_labels.specs.Requests.{steps_at};
-ghost use Rattle.place_cells.specs.Ground.{cells_of};
+ghost use Rattle.place_cells.specs.Ground.{cells_of, usable_in};
 ghost use Rattle.place_cells.specs.Grounds.{ground_of};
 ghost use Rattle.place_cells.specs.Found.{row_in};
 
@@ -32,12 +32,13 @@ pub fn steps_of(
 }
 
 impl<'a> SearchGround<'a> {
-    /// A cell's value by its arc and window.
+    /// A cell's value by its arc and window, where the class can use the cell.
     #[inline(always)]
     pub fn row(&self, value: CellValue) -> LabelRow
+        requires { IsTrue (usable_in (ground_of self.now) value.cell) }
         ensures { result ≡ row_in (ground_of self.now) value }
     {
-        let place = self.place(value.cell);
+        let place = self.place_in_use(value.cell);
         LabelRow {
             arc: place.arc,
             from: place.window.from,

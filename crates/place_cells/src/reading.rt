@@ -62,34 +62,39 @@ impl<'a> SearchGround<'a> {
         self.can_use(place.arc) && place.window.from < place.window.until
     }
 
-    /// A number's place, with the arcs that may follow.
+    /// The place of a cell that the class can use. Its window is there, and is read as it lies.
     #[inline(always)]
-    pub fn onward(&self, cell: usize) -> Beside<'a>
-        requires { cell < length (cells_of (ground_of self.now)) }
-        ensures { IsOnward (ground_of self.now) cell result }
+    pub(crate) fn place_in_use(&self, cell: usize) -> CellPlace
+        requires { IsTrue (usable_in (ground_of self.now) cell) }
+        ensures { place_of result ≡ place_at (cells_of (ground_of self.now)) cell }
     {
-        let place = self.place_of(cell);
-        if self.is_cell(place) {
-            let arcs = self.next(place.arc);
-            Beside { place, arcs }
-        } else {
-            Beside { place, arcs: &[] }
+        let spot = self.numbers.spots.at(cell);
+        CellPlace {
+            arc: spot.arc,
+            window: self.store.spans(spot.arc.segment())[spot.window],
         }
     }
 
-    /// A number's place, with the arcs that may come before.
+    /// A cell's place, with the arcs that may follow.
+    #[inline(always)]
+    pub fn onward(&self, cell: usize) -> Beside<'a>
+        requires { IsTrue (usable_in (ground_of self.now) cell) }
+        ensures { IsOnward (ground_of self.now) cell result }
+    {
+        let place = self.place_in_use(cell);
+        let arcs = self.next(place.arc);
+        Beside { place, arcs }
+    }
+
+    /// A cell's place, with the arcs that may come before.
     #[inline(always)]
     pub fn backward(&self, cell: usize) -> Beside<'a>
-        requires { cell < length (cells_of (ground_of self.now)) }
+        requires { IsTrue (usable_in (ground_of self.now) cell) }
         ensures { IsBackward (ground_of self.now) cell result }
     {
-        let place = self.place_of(cell);
-        if self.is_cell(place) {
-            let arcs = self.previous(place.arc);
-            Beside { place, arcs }
-        } else {
-            Beside { place, arcs: &[] }
-        }
+        let place = self.place_in_use(cell);
+        let arcs = self.previous(place.arc);
+        Beside { place, arcs }
     }
 
     /// The window of a spot, an empty one where there is none.
@@ -208,24 +213,23 @@ impl<'a> SearchGround<'a> {
         }
     }
 
-    /// Whether the graph has the arc, and it leads to one of some nodes.
+    /// Whether an arc leads to one of some nodes.
     #[inline(always)]
     pub fn leads_to(&self, arc: Arc, nodes: &[Node]) -> bool
+        requires { IsTrue (arc_exists (ground_of self.now).layout arc) }
         ensures { result ≡ leads_to_one_of (ground_of self.now).layout nodes.now arc }
     {
-        if !self.graph.exists(arc) {
-            return false;
-        }
         let head = self.graph.head(arc);
         nodes.iter().any(|node| head.0 == node.0)
     }
 
-    /// Whether the graph has the arc, and it leads away from the node.
+    /// Whether an arc leads away from the node.
     #[inline(always)]
     pub fn leaves(&self, arc: Arc, node: Node) -> bool
+        requires { IsTrue (arc_exists (ground_of self.now).layout arc) }
         ensures { result ≡ meet (tail (ground_of self.now).layout arc) (Some node) }
     {
-        self.graph.exists(arc) && self.graph.tail(arc).0 == node.0
+        self.graph.tail(arc).0 == node.0
     }
 
     /// Those cells of an arc that the class may use which do not end before one second nor begin after another.

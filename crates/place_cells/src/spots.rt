@@ -24,7 +24,7 @@ pub struct ArcRow<'a> {
     pub seconds: Time,
 }
 
-/// A cell from which a search goes on: its arc and window, and the arcs that may come next, none where it is no cell.
+/// A cell from which a search goes on: its arc and window, and the arcs that may come next.
 #[derive(Clone, Copy)]
 pub struct Beside<'a> {
     pub place: CellPlace,

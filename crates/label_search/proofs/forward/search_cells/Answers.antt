@@ -3,7 +3,13 @@ use Rattle.label_search.specs.Labels.{standing}
 use Rattle.label_search.specs.Values.{rows_from, values_kept}
 use Rattle.label_search.specs.Answer.{end_of_goal}
 use Rattle.label_search.proofs.Ends.{end_values, end_best, end_none}
+use Rattle.label_search.proofs.Steps.{traced_come_to}
 use Rattle.label_search.proofs.forward.search_cells.Goals as goal
+
+pub take_rows-requires : goal.take_rows-requires
+take_rows-requires g c = record {
+  come_to = λ d label is. traced_come_to (g.C.ForwardCells.problem c.args.cells.now) _ d label (c.settle-goal.ensures.traced d label is);
+}
 
 pub returns-clause-table : goal.returns-clause-table
 returns-clause-table g c =

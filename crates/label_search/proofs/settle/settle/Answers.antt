@@ -5,7 +5,7 @@ use Rattle.label_queue.specs.Least.{IsLeast}
 use Rattle.label_search.specs.Labels.{standing}
 use Rattle.label_search.specs.Expanding.{IsExpanded}
 use Rattle.label_search.proofs.Settling.{taken}
-use Rattle.label_search.proofs.Steps.{cell_inside, key_small, at_goal, underway_new, fewer_new}
+use Rattle.label_search.proofs.Steps.{cell_come_to, cell_inside, key_small, at_goal, underway_new, fewer_new}
 use Rattle.label_search.proofs.settle.settle.Goals as goal
 
 pub loop-cell-smaller : goal.loop-cell-smaller
@@ -32,7 +32,7 @@ pub place-place-requires : goal.place-place-requires
 place-place-requires g c =
     let p = g.C.ForwardCells.problem c.args.cells.now in
     let least : IsLeast c.loop-cell.labels.queue c.in-Some.cell c.in-Some.at = c.in-Some.ensures.least in
-    cell_inside p c.requires.sound (standing c.loop-cell.labels) c.loop-cell.invariant c.in-Some.cell c.in-Some.at least
+    cell_come_to p c.requires.sound (standing c.loop-cell.labels) c.loop-cell.invariant c.in-Some.cell c.in-Some.at least
 
 pub expand-requires-clause-ready : goal.expand-requires-clause-ready
 expand-requires-clause-ready g c =

@@ -4,7 +4,7 @@ use Rattle.std.proofs.lemmas.List.{append-nil}
 use Rattle.std.proofs.lemmas.Nat.Bits.{bit_at-trailing_zeros}
 use Rattle.label_search.specs.Values.{rows_from, value_kept, values_kept}
 use Rattle.label_search.proofs.GroupLaws.{cleared_bit}
-use Rattle.label_search.proofs.ValueLaws.{told_more}
+use Rattle.label_search.proofs.ValueLaws.{told_more, kept_some}
 use Rattle.label_search.proofs.Taking.{one_taken, one_row, rows_to_end}
 use Rattle.label_search.proofs.values.take_group.Goals as goal
 
@@ -14,6 +14,16 @@ take_label-requires g c =
     let so_far = c.cells.invariant.taken in
     let lowest = bit_at-trailing_zeros w64 c.cells.left (omega (arith, c.cells-test.true)) (search rules) in
     omega (arith, so_far.same_length, c.requires.inside (trailing_zeros w64 c.cells.left) lowest.0 (so_far.still (trailing_zeros w64 c.cells.left) lowest.0 lowest.1).0)
+
+-- what is told of the cell had a label
+pub tell-requires : goal.tell-requires
+tell-requires g c =
+    let place = trailing_zeros w64 c.cells.left in
+    let so_far = c.cells.invariant.taken in
+    let lowest = bit_at-trailing_zeros w64 c.cells.left (omega (arith, c.cells-test.true)) (search rules) in
+    let labelled = kept_some c.args.bound c.take_label.result c.in-Some.value (sym c.value_below.ensures ∙ c.in-Some.is) in
+    c.requires.come_to (c.args.first + place) labelled.0.0 (omega arith)
+    (sym (so_far.rest (c.args.first + place) (so_far.still place lowest.0 lowest.1).1) ∙ sym c.take_label.ensures.label ∙ labelled.0.1)
 
 pub overflow_add-cell : goal.overflow_add-cell
 overflow_add-cell g c =

@@ -19,6 +19,9 @@ pub take_group-requires-clause-inside : goal.take_group-requires-clause-inside
 take_group-requires-clause-inside g c =
     marked_inside c.args.known.now c.loop-group.known c.args.groups.now c.loop-group.groups c.loop-group.group c.loop-group.invariant.taken
 
+pub take_group-requires-clause-come_to : goal.take_group-requires-clause-come_to
+take_group-requires-clause-come_to g c x label from is = c.requires.come_to x label (sym (c.loop-group.invariant.rest x from) ∙ is)
+
 pub loop-group-preserved : goal.loop-group-preserved
 loop-group-preserved g c =
     let known = c.args.known.now in

@@ -15,7 +15,7 @@ part-requires c =
     let g : Ground = ground_of c.args.self.now.ground in
     let parts = run_parts (usable_in g c.args._cell) (length (previous_arcs g.layout (arc_in g c.args._cell))) c.args.run c.requires.is_run in
     let read : get_or c.args.at.arcs.now c.args.run no_arc ≡ get_or (previous_arcs g.layout (arc_in g c.args._cell)) c.args.run no_arc =
-    beside_at g c.args._cell (previous_arcs g.layout (arc_in g c.args._cell)) c.args.at c.requires.stands parts.0 c.args.run in
+    beside_at g c.args._cell (previous_arcs g.layout (arc_in g c.args._cell)) c.args.at c.requires.stands c.args.run in
     subst (λ (a : Arc). IsTrue (arc_exists g.layout a)) (sym read) (permits-exist g.layout (get_or (previous_arcs g.layout (arc_in g c.args._cell)) c.args.run no_arc) (arc_in g c.args._cell) (previous_permitted g (arc_in g c.args._cell) c.args.run parts.1)).0
 
 pub returns-clause-part : goal.returns-clause-part
@@ -25,7 +25,7 @@ returns-clause-part c =
     let lists : length g.windows ≡ length g.layout.links = windows_of-length s.store.now ∙ s.lists in
     let parts = run_parts (usable_in g c.args._cell) (length (previous_arcs g.layout (arc_in g c.args._cell))) c.args.run c.requires.is_run in
     let previous : Arc = get_or (previous_arcs g.layout (arc_in g c.args._cell)) c.args.run no_arc in
-    let read : get_or c.args.at.arcs.now c.args.run no_arc ≡ previous = beside_at g c.args._cell (previous_arcs g.layout (arc_in g c.args._cell)) c.args.at c.requires.stands parts.0 c.args.run in
+    let read : get_or c.args.at.arcs.now c.args.run no_arc ≡ previous = beside_at g c.args._cell (previous_arcs g.layout (arc_in g c.args._cell)) c.args.at c.requires.stands c.args.run in
     let permitted = previous_permitted g (arc_in g c.args._cell) c.args.run parts.1 in
     let exists = (permits-exist g.layout previous (arc_in g c.args._cell) permitted).0 in
     let part : IsArcPart g previous c.args.from c.args.ready c.part.result.run = subst (λ (a : Arc). IsArcPart g a c.args.from c.args.ready c.part.result.run) read c.part.ensures.part in
