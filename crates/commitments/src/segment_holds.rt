@@ -1,5 +1,5 @@
 //! The steps that hold one segment itself, in the order in which they begin.
-ghost use Rattle.std.specs.Prelude.{◌≡◌, ◌≢◌, ◌↔◌, ◌+◌, ◌<◌, ◌≤◌, [], ◌∷◌, length, Some, slice_get, All, Contains, IsTrue, IfSome, IfNone, OnOk};
+ghost use Rattle.std.specs.Prelude.{◌≡◌, ◌≢◌, ◌↔◌, ◌+◌, ◌<◌, ◌≤◌, [], ◌∷◌, length, Some, slice_get, All, Contains, IsTrue, IfSome, IfNone, IfOk, OnOk, vec_capacity};
 ghost use Rattle.taxi_base.specs.Faults.{first_name};
 ghost use Rattle.std.specs.List.{AllWithin};
 ghost use Rattle.std.specs.List.Sorted.{IsPermutation, IsNonDecreasingBy};
@@ -70,6 +70,9 @@ pub(crate) fn clearance_after(airport: &Airport, class: Option<Class>) -> Time
     class.map_or(0, |class| airport.clearance(class))
 }
 
+// Room for so many steps at least.
+const LEAST_ROOM: usize = 16;
+
 /// The steps that hold one segment, in the order in which they begin.
 #[derive(Drop)]
 pub(crate) struct SegmentHolds {
@@ -107,9 +110,12 @@ impl SegmentHolds {
         ensures steps { self.new.steps ≡ self.old.steps }
         ensures kept { self.old.capacity ≤ self.new.capacity }
     {
-        // A little more at once, so that a list rarely grows.
-        let lacking = wanted.saturating_sub(self.steps.len());
-        self.steps.reserve(lacking.max(16))?;
+        if self.steps.capacity() >= wanted {
+            return Ok(());
+        }
+        // A list rarely grows, since it gets room for more than is wanted. Growing in place would copy all of its room.
+        let room = wanted.saturating_add(wanted).max(LEAST_ROOM);
+        self.steps = moved(&self.steps, *self.steps.allocator(), room)?;
         Ok(())
     }
 
@@ -212,6 +218,19 @@ impl SegmentHolds {
         let past = (u64::from(second) + 1).saturating_sub(self.longest);
         &self.steps[begun_before(&self.steps, past)..]
     }
+}
+
+// The steps with room for so many.
+fn moved(steps: &[HeldStep], alloc: Global, room: usize) -> Result<Vec<HeldStep>, Memory>
+    requires { length steps.now ≤ room }
+    ensures steps { IfOk result (λ moved. moved.items ≡ steps.now) }
+    ensures room { IfOk result (λ moved. room ≤ vec_capacity moved) }
+{
+    let mut moved = Vec::with_capacity(alloc, room)?;
+    for step in steps {
+        moved.push_reserved(*step);
+    }
+    Ok(moved)
 }
 
 /// Of two names the one that stands before the other.

@@ -20,7 +20,7 @@ use taxi_base::Memory;
 // needs one node, so the first block is small. `block_size` repeats these numbers.
 const FIRST: usize = 2;
 
-const LATER: usize = 9;
+const LATER: usize = 17;
 
 /// All blocks, by their heads, the newest first, and their nodes that are not handed out: `left` of them side by side from
 /// `next` on. Where there are none, `next` means nothing.

@@ -12,6 +12,9 @@ use std::alloc::Global;
 use std::marker::Model;
 use taxi_base::{Memory, Span, Time};
 
+// Room for so many windows more is made at once, so that a row rarely grows.
+const AT_ONCE: usize = 16;
+
 /// A segment's free windows, also in a row, and the number of spans for which it is held.
 #[derive(Drop)]
 pub(crate) struct SegmentWindows {
@@ -94,7 +97,7 @@ impl SegmentWindows {
     {
         let lacking = wanted.saturating_sub(self.intervals.len());
         if self.row.capacity() < wanted {
-            self.row.reserve(lacking)?;
+            self.row.reserve(lacking.max(AT_ONCE))?;
         }
         self.intervals.reserve(ids, lacking)
     }

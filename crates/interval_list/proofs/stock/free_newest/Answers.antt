@@ -15,5 +15,5 @@ pub put_together-requires-else-older-eq0 : goal.put_together-requires-else-older
 put_together-requires-else-older-eq0 c =
     let heads = c.args.heads.now in let older = c.pop-head.new.self in
     let some : length older ≡ suc (length older - 1) = omega (arith, c.if-older-eq0.false, c.len-older.ensures, length-places heads, length-places older, ap length c.pop-head.ensures.places) in
-    let known = newest c.args.blocks.now.blocks heads older c.args.nodes.now.cells c.pop-head.result.at 9 c.requires.all c.pop-head.ensures.places (ap block_size some) in
+    let known = newest c.args.blocks.now.blocks heads older c.args.nodes.now.cells c.pop-head.result.at 17 c.requires.all c.pop-head.ensures.places (ap block_size some) in
     (omega arith, known)
