@@ -1,5 +1,6 @@
 pub mod Keys
 pub mod Least
+pub mod Entry
 pub mod Heap
 pub mod Places
 pub mod First

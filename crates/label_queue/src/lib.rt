@@ -3,6 +3,7 @@
 //! Labels are numbers below a limit. A contract sees the key of each.
 #![tactic(auto)]
 
+mod entry;
 mod heap;
 mod place;
 mod queue;

@@ -6,21 +6,21 @@ use std::marker::Model;
 /// The place of a label's entry in the heap, if it is there. It takes four bytes.
 #[derive(Clone, Copy)]
 pub(crate) struct Place {
-    // One more than the place, and 0 for none.
-    from_one: u32,
+    // The greatest number where there is none. No place has that number.
+    number: u32,
 }
 
 impl Model for Place {
     ghost use Rattle.std.specs.Prelude.{ℕ, Option};
-    ghost use Rattle.label_queue.specs.Place.{place_before, one_past, one_past-place_before};
+    ghost use Rattle.label_queue.specs.Place.{place_told, told_place, told_place-place_told};
 
     ghost Value = { Option ℕ };
 
-    ghost view = { λ p. place_before p.from_one };
+    ghost view = { λ p. place_told p.number };
 
-    ghost inverse = { λ place. record { from_one = one_past place } };
+    ghost inverse = { λ place. record { number = told_place place } };
 
-    ghost inverse_ok = { λ p h i. record { from_one = one_past-place_before p.from_one i } };
+    ghost inverse_ok = { λ p h i. record { number = told_place-place_told p.number i } };
 }
 
 impl Place {
@@ -28,25 +28,23 @@ impl Place {
     pub(crate) fn none() -> Place
         ensures { result ≡ None }
     {
-        Place { from_one: 0 }
+        Place { number: u32::MAX }
     }
 
     pub(crate) fn at(at: usize) -> Place
         requires { at + 1 < 2 ^ 32 }
         ensures { result ≡ Some at }
     {
-        Place {
-            from_one: at as u32 + 1,
-        }
+        Place { number: at as u32 }
     }
 
     pub(crate) fn get(self) -> Option<usize>
         ensures { result ≡ self }
     {
-        if self.from_one == 0 {
+        if self.number == u32::MAX {
             None
         } else {
-            Some(self.from_one as usize - 1)
+            Some(self.number as usize)
         }
     }
 }

@@ -3,8 +3,9 @@ ghost use Rattle.std.specs.Prelude.{◌≡◌, ◌<◌, ◌↔◌, None, length,
 ghost use Rattle.label_queue.specs.Keys.{lowered, without, IsEmpty};
 ghost use Rattle.label_queue.specs.Least.{IsLeast};
 
+use crate::entry::Entry;
 use crate::heap;
-use crate::heap::{Entry, First};
+use crate::heap::First;
 use crate::place::Place;
 use std::alloc::Global;
 use std::marker::Model;
@@ -76,10 +77,7 @@ impl LabelQueue {
         match self.places[label].get() {
             None => {
                 if self.first == First::Taken {
-                    let entry = Entry {
-                        label: label as u32,
-                        key,
-                    };
+                    let entry = Entry::new(label as u32, key);
                     heap::put_first(&mut self.heap, &mut self.places, entry);
                     self.first = First::New;
                 } else {
@@ -101,14 +99,11 @@ impl LabelQueue {
         self.first = First::Least;
         match self.places[label].get() {
             None => {
-                let entry = Entry {
-                    label: label as u32,
-                    key,
-                };
+                let entry = Entry::new(label as u32, key);
                 heap::add(&mut self.heap, &mut self.places, entry);
             }
             Some(at) => {
-                if key < self.heap[at].key {
+                if key < self.heap[at].key() {
                     heap::lower(&mut self.heap, &mut self.places, at, key);
                 }
             }
@@ -130,7 +125,7 @@ impl LabelQueue {
         }
         let first = heap::take_first(&self.heap, &mut self.places);
         self.first = First::Taken;
-        Some((first.label as usize, first.key))
+        Some((first.label() as usize, first.key()))
     }
 
     /// Empty again, with the same limit. It costs what the queue holds, and not the limit.

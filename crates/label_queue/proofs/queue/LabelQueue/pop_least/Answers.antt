@@ -1,8 +1,9 @@
 use Rattle.std.proofs.Common.{refl, sym, ◌∙◌, ◌≡◌, ap, subst, length, arith}
+use Rattle.std.specs.Vec.{with_items}
 use Rattle.std.proofs.lemmas.Bool.{eqb-true}
 use Rattle.std.proofs.lemmas.List.{with_items_is}
 use Rattle.std.proofs.lemmas.Option.{none-some}
-use Rattle.label_queue.specs.Keys.{IsEmpty}
+use Rattle.label_queue.specs.Keys.{IsEmpty, without}
 use Rattle.label_queue.specs.Least.{IsLeast}
 use Rattle.label_queue.specs.Places.{keys_of}
 use Rattle.label_queue.proofs.Changes.{empty-keys}
@@ -13,13 +14,14 @@ use Rattle.label_queue.proofs.queue.LabelQueue.pop_least.Goals.{After-put_in_ord
 same : (c : After-put_in_order) → keys_of c.put_in_order.new.heap.items c.put_in_order.new.places ≡ c.args.self.now
 same c = c.put_in_order.ensures.keys ∙ ap (keys_of c.self.inside.heap.items) c.deref_mut.ensures.value ∙ c.self.view_is
 
-least : (c : After-take_first-first) → IsLeast c.args.self.now c.take_first-first.result.label c.take_first-first.result.key
-least c =
-    let first = c.take_first-first in
+-- and so they are where the first is taken out
+lent : (c : After-take_first-first) → keys_of c.deref.result.now c.deref_mut-2.result.now ≡ c.args.self.now
+lent c =
     let written = with_items_is c.self.inside.places c.put_in_order.new.places (c.put_in_order.auto.places ∙ c.deref_mut.ensures.len) in
-    let lent = c.deref_mut-2.ensures.value ∙ written in
-    subst (λ keys. IsLeast keys first.result.label first.result.key)
-    ((λ i. keys_of (c.deref.ensures.value i) (lent i)) ∙ c.put_in_order.ensures.keys ∙ ap (keys_of c.self.inside.heap.items) c.deref_mut.ensures.value ∙ c.self.view_is) first.ensures.least
+    (λ i. keys_of (c.deref.ensures.value i) ((c.deref_mut-2.ensures.value ∙ written) i)) ∙ c.put_in_order.ensures.keys ∙ ap (keys_of c.self.inside.heap.items) c.deref_mut.ensures.value ∙ c.self.view_is
+
+least : (c : After-take_first-first) → IsLeast c.args.self.now c.take_first-first.result.label c.take_first-first.result.key
+least c = subst (λ keys. IsLeast keys c.take_first-first.result.label c.take_first-first.result.key) (lent c) c.take_first-first.ensures.least
 
 pub returns-then-is_empty-clause-none : goal.returns-then-is_empty-clause-none
 returns-then-is_empty-clause-none c =
@@ -36,4 +38,12 @@ returns-clause-none c =
     (λ e. absurd cc, λ none. absurd (none-some first.key (sym (none first.label) ∙ has_key)))
 
 pub returns-clause-least : goal.returns-clause-least
-returns-clause-least c = least (goal.at.returns-clause-least c).After-take_first-first
+returns-clause-least c = rw (c.label.ensures, c.key.ensures) (least (goal.at.returns-clause-least c).After-take_first-first)
+
+pub returns-clause-taken : goal.returns-clause-taken
+returns-clause-taken c =
+    let first = c.take_first-first in
+    let told = with_items_is (with_items c.self.inside.places c.put_in_order.new.places) first.new.places (first.auto.places ∙ c.deref_mut-2.ensures.len) in
+    (λ i. keys_of (sym c.deref.ensures.value i) (told i))
+    ∙ first.ensures.keys
+    ∙ (λ i. without (lent (goal.at.returns-clause-taken c).After-take_first-first i) (sym c.label.ensures i))

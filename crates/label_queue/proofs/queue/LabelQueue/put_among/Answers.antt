@@ -1,7 +1,7 @@
-use Rattle.std.proofs.Common.{◌≡◌, ◌<◌, length, get_or, Some, None, ap, subst, sym, ◌∙◌, arith}
+use Rattle.std.proofs.Common.{◌≡◌, ◌<◌, length, get_or, Some, None, ap, sym, ◌∙◌, arith}
 use Rattle.std.specs.Vec.{with_items}
 use Rattle.std.proofs.lemmas.List.{with_items_is, get_or_read}
-use Rattle.label_queue.specs.declared.heap.Entry.{Entry}
+use Rattle.label_queue.specs.Entry.{Entry}
 use Rattle.label_queue.specs.Heap.{entry_at}
 use Rattle.label_queue.specs.Keys.{lowered}
 use Rattle.label_queue.specs.Places.{place_of, keys_of}
@@ -27,7 +27,7 @@ pub index-requires-in-Some : goal.index-requires-in-Some
 index-requires-in-Some c = omega (arith, (filled (goal.at.index-requires-in-Some c).In-Some).0, c.put_in_order.new.heap.ok.0)
 
 pub lower-requires-clause-within : goal.lower-requires-clause-within
-lower-requires-clause-within c = omega (arith, (filled (goal.at.lower-requires-clause-within c).In-Some).0, ap length c.deref_mut-then-key-index.ensures.value)
+lower-requires-clause-within c = omega (arith, (filled (goal.at.lower-requires-clause-within c).In-Some).0, ap length c.deref_mut-then-key.ensures.value)
 
 pub lower-requires-clause-lesser : goal.lower-requires-clause-lesser
 lower-requires-clause-lesser c =
@@ -35,15 +35,15 @@ lower-requires-clause-lesser c =
     let at = c.in-Some.at in
     let at_in = (filled (goal.at.lower-requires-clause-lesser c).In-Some).0 in
     let entry_is : c.index-in-Some.result.now ≡ entry_at heap at = get_or_read heap at _ at_in c.index-in-Some.ensures _ in
-    let less = subst (λ (e : Entry). c.args.key < e.key) (entry_is ∙ ap (λ l. entry_at l at) (sym c.deref_mut-then-key-index.ensures.value)) c.if-key-index.true in
-    omega (arith, less)
+    let less = ap (λ (e : Entry). e.key) (entry_is ∙ ap (λ l. entry_at l at) (sym c.deref_mut-then-key.ensures.value)) in
+    omega (arith, less, c.key.ensures, c.if-key.true)
 
-pub returns-then-key-index : goal.returns-then-key-index
-returns-then-key-index c =
+pub returns-then-key : goal.returns-then-key
+returns-then-key c =
     let ordered = c.put_in_order in
-    let of_label = (filled (goal.at.returns-then-key-index c).In-Some).1 in
-    let lent_heap = c.deref_mut-then-key-index.ensures in
-    let lent_places = c.deref_mut-then-key-index-2.ensures in
+    let of_label = (filled (goal.at.returns-then-key c).In-Some).1 in
+    let lent_heap = c.deref_mut-then-key.ensures in
+    let lent_places = c.deref_mut-then-key-2.ensures in
     let written = with_items_is c.self.inside.places ordered.new.places (ordered.auto.places ∙ c.deref_mut.ensures.len) in
     let heap_is = with_items_is ordered.new.heap c.lower.new.heap (c.lower.auto.heap ∙ lent_heap.len) in
     let places_is = with_items_is (with_items c.self.inside.places ordered.new.places) c.lower.new.places (c.lower.auto.places ∙ lent_places.len) in
