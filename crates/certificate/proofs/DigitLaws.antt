@@ -1,14 +1,10 @@
--- The digits of a number and the byte behind them, as two tables have them.
+-- The digits of a number and the byte behind them, as a table has them.
 use Rattle.std.proofs.Common.{◌≡◌, ℕ, zero, suc, ◌+◌, ◌*◌, ◌/◌, ◌%◌, ◌<◌, ◌≤◌, Bool, true, ◌&&◌, T, eqb, List, [], ◌∷◌, ◌++◌, length, take, drop, length-append, get_or, decimal, ◌∙◌, sym, ap, eqb→eq, refl, arith}
 use Rattle.std.proofs.lemmas.List.{get_or-drop, get_or-take}
 use Rattle.std.proofs.lemmas.Fmt.{decimal_step}
-use Rattle.itoa.proofs.Decimal.{PAIRS_at, pair, decimal_two, decimal_pair}
+use Rattle.itoa.proofs.Decimal.{pair, decimal_two, decimal_pair}
 use lib.Ieee.Fits.{and_l, and_r}
-use Rattle.certificate.specs.declared.digits.TheConstants.{PAIRS, TRIPLES}
-
--- the two digits of a number below 100, which itoa keeps in the same order
-pub pair_at : (p : ℕ) → p < 100 → (get_or PAIRS (p * 2) 0 ≡ 48 + p / 10) × (get_or PAIRS (p * 2 + 1) 0 ≡ 48 + p % 10)
-pair_at p low = PAIRS_at p low
+use Rattle.certificate.specs.declared.digits.TheConstants.{TRIPLES}
 
 -- the three digits of a number below 1,000, and a blank
 abbrev pub triple : ℕ → List ℕ
@@ -63,6 +59,13 @@ pub triple_at : (t : ℕ) → t < 1000
 triple_at t low =
     let long : length TRIPLES ≡ 4000 = refl in
     triple_in TRIPLES tt t (omega (arith, low, long))
+
+-- the two digits of a number below 100, behind a nought
+pub pair_at : (p : ℕ) → p < 100 → (get_or TRIPLES (p * 4 + 1) 0 ≡ 48 + p / 10) × (get_or TRIPLES (p * 4 + 2) 0 ≡ 48 + p % 10)
+pair_at p low =
+    let t = triple_at p (omega arith) in
+    let tens : p / 10 % 10 ≡ p / 10 = omega arith in
+    (t.1 ∙ ap (λ (n : ℕ). 48 + n) tens, t.2)
 
 -- a number of five digits
 pub decimal_five : (n : ℕ) → 10000 ≤ n → n ≤ 99999 → decimal n ++ 32 ∷ [] ≡ pair (n / 1000) ++ triple (n % 1000)

@@ -19,9 +19,15 @@ line_text-and_words first (word ∷ words) =
 
 -- ---- a line that is written from its end
 
-pub has-room : (start : ℕ) (bytes old : List ℕ) → start ≤ 1536 → length bytes ≡ 1536 → drop start bytes ≡ old → length old + 21 ≤ 1536
-    → (21 ≤ start) × (start ≤ length bytes)
-has-room start bytes old low long is room = (omega (arith, ap length is, room, long, low, length-drop start bytes), omega (arith, low, long))
+pub has-room : (more start : ℕ) (bytes old : List ℕ) → start ≤ 1536 → length bytes ≡ 1536 → drop start bytes ≡ old → length old + more ≤ 1536
+    → (more ≤ start) × (start ≤ length bytes)
+has-room more start bytes old low long is room = (omega (arith, ap length is, room, long, low, length-drop start bytes), omega (arith, low, long))
+
+-- a number and a byte take up 21 bytes at most
+pub number-starts : (n start end : ℕ) → n < 2 ^ 64 → start + length (decimal n) + 1 ≡ end → (start ≤ end) × (end ≤ start + 21)
+number-starts n start end fits is =
+    let long = length-decimal-le 20 n (omega arith) (omega (arith, fits)) fits in
+    (omega (arith, is), omega (arith, is, long))
 
 pub length-with_number : (n byte : ℕ) (old new : List ℕ) → n < 2 ^ 64 → new ≡ decimal n ++ byte ∷ old → length new ≤ length old + 21
 length-with_number n byte old new fits is =

@@ -3,10 +3,6 @@ ghost use Rattle.std.specs.Prelude.{◌≡◌, ◌+◌, ◌/◌, ◌%◌, ◌<�
 
 use itoa::write_digits;
 
-// The two digits of each number below 100.
-static PAIRS: [u8; 200] =
-    *b"00010203040506070809101112131415161718192021222324252627282930313233343536373839404142434445464748495051525354555657585960616263646566676869707172737475767778798081828384858687888990919293949596979899";
-
 // The three digits of each number below 1,000, and a blank.
 static TRIPLES: [u8; 4_000] = *b"\
 000 001 002 003 004 005 006 007 008 009 010 011 012 013 014 015 016 017 018 019 020 021 022 023 024 \
@@ -94,14 +90,23 @@ fn write_triple(triple: u64, bytes: &mut [u8], at: usize)
     bytes[at] = hundreds;
 }
 
-// Two digits from a place on.
+// Two digits from a place on. They are those of three that a nought begins, so that one table serves both.
 #[inline(always)]
 fn write_pair(pair: u64, bytes: &mut [u8], at: usize)
     requires { (pair < 100) × (at + 2 ≤ length bytes.old) }
     ensures { drop at bytes.new ≡ (48 + pair / 10) ∷ (48 + pair % 10) ∷ drop (at + 2) bytes.old }
 {
-    let from = pair as usize * 2;
-    let (tens, ones) = (PAIRS[from], PAIRS[from + 1]);
-    bytes[at] = tens;
-    bytes[at + 1] = ones;
+    let from = pair as usize * 4;
+    let (tens, ones) = (TRIPLES[from + 1], TRIPLES[from + 2]);
+    write_two(tens, ones, bytes, at);
+}
+
+/// Two bytes from a place on.
+#[inline(always)]
+pub(crate) fn write_two(first: u8, second: u8, bytes: &mut [u8], at: usize)
+    requires { at + 2 ≤ length bytes.old }
+    ensures { drop at bytes.new ≡ first ∷ second ∷ drop (at + 2) bytes.old }
+{
+    bytes[at] = first;
+    bytes[at + 1] = second;
 }

@@ -5,7 +5,7 @@ ghost use Rattle.std.specs.Prelude.{◌≡◌, ◌+◌, ◌≤◌, ◌∷◌, �
 ghost use Rattle.airport_file.specs.Words.{class_word, segment_word, word_of_arc};
 ghost use Rattle.certificate.specs.Printable.{HasArc, HasSegment, HasClass};
 
-use crate::digits::{write_last_number, write_number};
+use crate::digits::{write_last_number, write_number, write_two};
 use airport_file::Airport;
 use std::marker::Model;
 use taxi_base::{Arc, Class, Name, Segment};
@@ -97,6 +97,19 @@ impl LineBuffer {
         self.start = write_last_number(number, &mut self.bytes, self.start);
     }
 
+    /// Three numbers before what is written, a blank behind each of the first two and a line feed behind the last.
+    #[inline(always)]
+    pub(crate) fn put_last_three(&mut self, first: u64, second: u64, third: u64)
+        requires { length self.old + 63 ≤ 1536 }
+        ensures text { self.new ≡ decimal first ++ 32 ∷ decimal second ++ 32 ∷ decimal third ++ 10 ∷ self.old }
+        ensures length { length self.new ≤ length self.old + 63 }
+    {
+        // Where the lines start is written once, and not after each number.
+        let third_start = write_last_number(third, &mut self.bytes, self.start);
+        let second_start = write_number(second, &mut self.bytes, third_start);
+        self.start = write_number(first, &mut self.bytes, second_start);
+    }
+
     /// A name and a blank before what is written.
     pub(crate) fn put_name(&mut self, name: &Name)
         requires { length self.old + 17 ≤ 1536 }
@@ -114,10 +127,7 @@ impl LineBuffer {
         ensures text { self.new ≡ name.now ++ self.old }
         ensures length { length self.new ≤ length self.old + 16 }
     {
-        let text = name.bytes();
-        let start = self.start - text.len();
-        write_short(text, &mut self.bytes, start);
-        self.start = start;
+        self.start = write_name(name, &mut self.bytes, self.start);
     }
 
     /// The name of a segment and a blank before what is written.
@@ -158,10 +168,25 @@ impl LineBuffer {
         ensures text { self.new ≡ word_of_arc airport.now arc ++ 32 ∷ self.old }
         ensures length { length self.new ≤ length self.old + 18 }
     {
-        self.put_byte(b' ');
-        self.put_byte(if arc.is_forward() { b'+' } else { b'-' });
-        self.put_name_alone(&airport.segment_name(arc.segment()));
+        let sign = if arc.is_forward() { b'+' } else { b'-' };
+        let end = self.start - 2;
+        write_two(sign, b' ', &mut self.bytes, end);
+        self.start = write_name(&airport.segment_name(arc.segment()), &mut self.bytes, end);
     }
+}
+
+// A name, written so that it ends at `end`, and where it starts.
+#[inline(always)]
+fn write_name(name: &Name, bytes: &mut [u8], end: usize) -> usize
+    requires { (16 ≤ end) × (end ≤ length bytes.old) }
+    ensures start { result + length name.now ≡ end }
+    ensures short { end ≤ result + 16 }
+    ensures written { drop result bytes.new ≡ name.now ++ drop end bytes.old }
+{
+    let text = name.bytes();
+    let start = end - text.len();
+    write_short(text, bytes, start);
+    start
 }
 
 // A text of at most 16 bytes, written from a place on: its last bytes and its first, which meet. So no call copies them.

@@ -106,9 +106,7 @@ fn write_route_head(flight: &Name, second: Time, steps: usize, labels: usize, li
     ensures { line.new ≡ line_text (codes "route" ∷ flight.now ∷ decimal second ∷ decimal steps ∷ decimal labels ∷ []) }
 {
     line.clear();
-    line.put_last_number(labels as u64);
-    line.put_number(steps as u64);
-    line.put_number(u64::from(second));
+    line.put_last_three(u64::from(second), steps as u64, labels as u64);
     line.put_name(flight);
     line.put(b"route ");
 }

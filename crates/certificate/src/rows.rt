@@ -45,9 +45,11 @@ impl Row for LabelRow {
     ghost IsWritableRow = { λ airport label. HasArc airport label.arc };
 
     fn write(&self, airport: &Airport, line: &mut LineBuffer) {
-        line.put_last_number(u64::from(self.value));
-        line.put_number(u64::from(self.until));
-        line.put_number(u64::from(self.from));
+        line.put_last_three(
+            u64::from(self.from),
+            u64::from(self.until),
+            u64::from(self.value),
+        );
         line.put_arc(airport, self.arc);
         line.put(b"label ");
     }

@@ -3,7 +3,7 @@ use Rattle.certificate.proofs.LineLaws.{has-room, length-with_number}
 use Rattle.certificate.proofs.line_buffer.LineBuffer.put_number.Goals as goal
 
 pub write_number-self-inside-requires : goal.write_number-self-inside-requires
-write_number-self-inside-requires c = has-room c.self.inside.start c.self.inside.bytes _ c.self.invariant c.self.told c.self.view_is c.requires
+write_number-self-inside-requires c = has-room 21 c.self.inside.start c.self.inside.bytes _ c.self.invariant c.self.told c.self.view_is c.requires
 
 pub returns-clause-length : goal.returns-clause-length
 returns-clause-length c =
