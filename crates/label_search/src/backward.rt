@@ -1,6 +1,6 @@
 //! The search backward in time: latest entries, and the route with the latest begin. It is the search forward in a mirror
 //! of time, with the same order of cells.
-ghost use Rattle.std.specs.Prelude.{◌≡◌, ◌<◌, ◌-◌, option_map, map, reverse, IfSome, IfNone, IfOk};
+ghost use Rattle.std.specs.Prelude.{◌≡◌, ◌<◌, ◌≤◌, ◌-◌, option_map, map, reverse, IfSome, IfNone, IfOk};
 ghost use Rattle.label_core.specs.BackwardBest.{IsBestBegin, HasNoWalkFrom, IsPickedRouteOn};
 ghost use Rattle.label_core.specs.Mirror.{mirror_start, IsUpTo};
 ghost use Rattle.label_search.specs.Problem.{start_of};
@@ -69,7 +69,7 @@ impl<C: BackwardCells> ForwardCells for Mirror<'_, C> {
     }
 
     fn last(&self, cell: usize, place: C::Place) -> u32 {
-        MIRROR.saturating_sub(self.cells.from(cell, place))
+        MIRROR - self.cells.from(cell, place)
     }
 
     fn first_runs(&self) -> usize {
@@ -101,11 +101,12 @@ impl<C: BackwardCells> ForwardCells for Mirror<'_, C> {
 
 /// The cell in the mirror.
 fn mirror_cell(cell: Cell) -> Cell
+    requires { (cell.from ≤ mirror_second) × (cell.last ≤ mirror_second) }
     ensures { result ≡ mirror_cell cell }
 {
     Cell {
-        from: MIRROR.saturating_sub(cell.last),
-        last: MIRROR.saturating_sub(cell.from),
+        from: MIRROR - cell.last,
+        last: MIRROR - cell.from,
         seconds: cell.seconds,
     }
 }
