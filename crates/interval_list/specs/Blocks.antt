@@ -35,7 +35,7 @@ bodies (b ∷ bs) = body b ++ bodies bs
 abbrev pub IsNewest : Block → List Block → List Cell → Type 0
 IsNewest b blocks cells = (blocks ≡ b ∷ drop 1 blocks) × IsPermutation (places cells) (bodies blocks)
 
--- a list's first block has a head and one node more, and the others a head and eight
+-- a list's first block has a head and one node more, and the others a head and sixteen
 abbrev pub block_size : ℕ → ℕ
 block_size zero = 2
 block_size (suc older) = 17

@@ -1,7 +1,7 @@
 -- A list of fit cells is a problem, forward and backward.
-use Rattle.std.proofs.Common.{◌≡◌, ℕ, zero, suc, ◌<◌, ◌^◌, Bool, true, false, ◌&&◌, ◌||◌, nat_le, nat_lt, List, length, get_or, Option, Some, None, option_map, IfSome, All, refl, sym, ap, ◌∙◌, subst, ◌⊎◌, inl, inr, arith}
-use Rattle.std.proofs.lemmas.Bool.{cases_lt, false≢true, leb-true, ltb-true, le-leb, lt-ltb}
-use Rattle.std.proofs.lemmas.List.{get_or_past, get_or_default}
+use Rattle.std.proofs.Common.{◌≡◌, ℕ, zero, suc, ◌<◌, ◌^◌, Bool, true, false, ◌&&◌, ◌||◌, nat_le, nat_lt, List, length, Option, Some, None, option_map, IfSome, All, refl, sym, ap, ◌∙◌, subst, ◌⊎◌, inl, inr, arith}
+use Rattle.std.proofs.lemmas.Bool.{cases_lt, false≢true, leb-true, ltb-true}
+use Rattle.std.proofs.lemmas.List.{get_or_past}
 use Rattle.label_core.specs.Walks.{Start}
 use Rattle.label_core.specs.BackwardWalks.{Finish}
 use Rattle.label_core.proofs.MirroredWalks.{option_map_some}
@@ -20,20 +20,10 @@ first_of : (a b : Bool) → (a && b) ≡ true → (a ≡ true) × (b ≡ true)
 first_of true b e = (refl, e)
 first_of false b e = absurd (false≢true e)
 
-left_or : (a b : Bool) → a ≡ true → (a || b) ≡ true
-left_or a b e = rw e refl
-
-right_or : (a b : Bool) → b ≡ true → (a || b) ≡ true
-right_or true b e = refl
-right_or false b e = e
-
 in_run : (run : Run) (c : ℕ) → run_has run c ≡ true → IsIn run c
 in_run run c has =
     let both = first_of (nat_le run.first c) (nat_lt c run.until) has in
     record { from_first = leb-true run.first c both.0; until_end = ltb-true c run.until both.1 }
-
-run_of_in : (run : Run) (c : ℕ) → IsIn run c → run_has run c ≡ true
-run_of_in run c is = rw (le-leb run.first c is.from_first, lt-ltb c run.until is.until_end) refl
 
 -- a cell beside another is in one of its two runs
 beside_in : (x : ListedCell) (c : ℕ) → is_beside x c ≡ true → (k : ℕ) × (k < 2) × IsIn (run_of x k) c
@@ -42,15 +32,7 @@ beside_in x c beside = elim (either (run_has x.near c) (run_has x.far c) beside)
   | inr far ↦ (1, omega arith, in_run x.far c far)
 ]
 
-pub in_beside : (x : ListedCell) (k c : ℕ) → IsIn (run_of x k) c → is_beside x c ≡ true
-in_beside x zero c is = left_or (run_has x.near c) (run_has x.far c) (run_of_in x.near c is)
-in_beside x (suc k) c is = right_or (run_has x.near c) (run_has x.far c) (run_of_in x.far c is)
-
 module _ (cells : List ListedCell) where
-  -- a cell of the list that was read
-  pub cell_is : (c : ℕ) (x : ListedCell) → c < length cells → x ≡ get_or cells c x → x ≡ cell_at cells c
-  cell_is c x inside is = is ∙ get_or_default cells c x no_cell inside
-
   -- what isn't in the list is beside no cell
   beside_inside : (c d : ℕ) → is_beside (cell_at cells c) d ≡ true → c < length cells
   beside_inside c d beside = elim (cases_lt c (length cells)) [

@@ -1,5 +1,5 @@
 //! A list of cells as a network, forward and backward.
-ghost use Rattle.std.specs.Prelude.{◌≡◌, ◌<◌, ◌^◌, ◌↔◌, length, IsTrue, All, IfSome, ⊤};
+ghost use Rattle.std.specs.Prelude.{◌≡◌, ◌↔◌, length, IsTrue, All, ⊤};
 ghost use Rattle.label_search.specs.Problem.{IsProblem};
 ghost use Rattle.label_search.specs.Backward.{IsBackwardProblem};
 ghost use Rattle.listed_cells.specs.Listed.{listed_problem, listed_backward, cell_at, run_of, IsFit};
