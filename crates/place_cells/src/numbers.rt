@@ -1,5 +1,5 @@
 //! Numbering the cells: each arc has a block of numbers with room for windows to come, which is kept from search to search.
-ghost use Rattle.std.specs.Prelude.{◌≡◌, ◌*◌, ◌<◌, ◌≤◌, ◌^◌, length, All, OnOk, IfOk, IsOk, IsTrue};
+ghost use Rattle.std.specs.Prelude.{◌≡◌, ◌+◌, ◌*◌, ◌<◌, ◌≤◌, ◌^◌, length, All, OnOk, IfOk, IsOk, IsTrue};
 ghost use Rattle.taxi_base.specs.Windows.{AreApart};
 ghost use Rattle.place_cells.specs.Laid.{windows_of, AreNumbered, HaveNumbers};
 ghost use Rattle.place_cells.specs.Blocks.{stretches_for};
@@ -7,6 +7,7 @@ ghost use Rattle.place_cells.specs.Twins.{AreTwins};
 
 use crate::blocks::{STRETCH, SpotBlocks};
 use std::alloc::Global;
+use std::cell::Cell;
 use taxi_base::{Arc, Memory, Segment};
 use window_store::WindowStore;
 
@@ -17,8 +18,11 @@ use window_store::WindowStore;
 pub struct CellNumbers {
     pub spots: SpotBlocks,
     pub first: Vec<u32>,
+    // By segment: which of its windows was found last. It is where the next one is looked for first, and may be any number.
+    pub found: Vec<Cell<usize>>,
     ghost numbered: { AreNumbered spots.items first.items },
     ghost twins: { AreTwins first.items },
+    ghost guessed: { length first.items ≤ 2 * length found.items + 1 },
 }
 
 impl CellNumbers {
@@ -27,6 +31,7 @@ impl CellNumbers {
         CellNumbers {
             spots: SpotBlocks::new(alloc),
             first: Vec::new(alloc),
+            found: Vec::new(alloc),
         }
     }
 
@@ -79,8 +84,24 @@ impl CellNumbers {
             spots.push_block(Arc(arc as u32), stretches_for(windows))?;
             first.push(spots.len() as u32)?;
         }
-        Ok(CellNumbers { spots, first })
+        let found = no_guesses(alloc, arcs / 2)?;
+        Ok(CellNumbers {
+            spots,
+            first,
+            found,
+        })
     }
+}
+
+/// For so many segments, that none of its windows was found yet.
+fn no_guesses(alloc: Global, segments: usize) -> Result<Vec<Cell<usize>>, Memory>
+    ensures { IfOk result (λ found. length found.items ≡ segments) }
+{
+    let mut found = Vec::with_capacity(alloc, segments)?;
+    for _ in 0..segments {
+        found.push(Cell::new(0))?;
+    }
+    Ok(found)
 }
 
 /// How many stretches a block has for so many windows: half as many numbers more, for windows to come.

@@ -243,8 +243,10 @@ impl<'a> SearchGround<'a> {
             None => no_cells(),
             Some(seconds) => {
                 let first = self.numbers.first[arc.0 as usize] as usize;
-                let windows = self.store.spans(arc.segment());
-                let part = part_between(windows, low, high);
+                let segment = arc.segment();
+                let windows = self.store.spans(segment);
+                let found = &self.numbers.found[segment.0 as usize];
+                let part = part_between(windows, low, high, found);
                 Part {
                     run: Run {
                         first: first + part.first,

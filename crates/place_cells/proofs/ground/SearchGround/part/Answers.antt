@@ -25,7 +25,21 @@ index-requires c =
 pub spans-windows-requires : goal.spans-windows-requires
 spans-windows-requires c =
     let s = c.args.self.now in
-    omega (arith, exists-below s.graph.now c.args.arc c.requires, s.lists, ap (λ (t : Segment). t.0) c.segment.ensures)
+    omega (arith, exists-below s.graph.now c.args.arc c.requires, s.lists, ap (λ (t : Segment). t.0) c.segment-segment.ensures)
+
+pub index-found-requires : goal.index-found-requires
+index-found-requires c =
+    let s = c.args.self.now in
+    omega (
+      arith,
+      exists-below s.graph.now c.args.arc c.requires,
+      s.lists,
+      windows_of-length s.store.now,
+      s.room.arcs,
+      s.numbers.now.guessed,
+      s.numbers.now.found.ok.0,
+      ap (λ (t : Segment). t.0) c.segment-segment.ensures,
+    )
 
 first_is : (s : SearchGround) (arc : Arc) → IsTrue (arc_exists s.graph.now arc) → (first : ℕ) → first ≡ get_or s.numbers.now.first.items arc.0 first → first ≡ first_in s.numbers.now.first.items arc.0
 first_is s arc exists first read =
@@ -44,7 +58,7 @@ pub returns-in-Some-clause-part : goal.returns-in-Some-clause-part
 returns-in-Some-clause-part c =
     let s = c.args.self.now in
     let below : c.args.arc.0 < 2 * length (windows_of s.store.now) = omega (arith, exists-below s.graph.now c.args.arc c.requires, s.lists, windows_of-length s.store.now) in
-    let row = row_is s c.args.arc c.segment.result c.spans-windows.result.now c.segment.ensures c.spans-windows.ensures.spans in
+    let row = row_is s c.args.arc c.segment-segment.result c.spans-windows.result.now c.segment-segment.ensures c.spans-windows.ensures.spans in
     let timed : seconds_in s.classes.now.table s.class (segment_of c.args.arc) ≡ Some c.in-Some.seconds = sym c.time_on.ensures ∙ c.in-Some.is in
     let can : IsTrue (can_use_in (ground_of s) c.args.arc) = and_from _ _ c.requires (ap is_some timed) in
     subst (λ (n : ℕ). IsArcPart (ground_of s) c.args.arc c.args.low c.args.high (record { first = n + c.part_between-part.result.first; until = n + c.part_between-part.result.until }))
@@ -57,7 +71,7 @@ returns-in-Some-clause-told c k on =
     let s = c.args.self.now in
     let below : c.args.arc.0 < 2 * length (windows_of s.store.now) = omega (arith, exists-below s.graph.now c.args.arc c.requires, s.lists, windows_of-length s.store.now) in
     let first = first_is s c.args.arc c.requires c.index.result.now c.index.ensures in
-    let row = row_is s c.args.arc c.segment.result c.spans-windows.result.now c.segment.ensures c.spans-windows.ensures.spans in
+    let row = row_is s c.args.arc c.segment-segment.result c.spans-windows.result.now c.segment-segment.ensures c.spans-windows.ensures.spans in
     let timed : seconds_in s.classes.now.table s.class (segment_of c.args.arc) ≡ Some c.in-Some.seconds = sym c.time_on.ensures ∙ c.in-Some.is in
     arc_told (ground_of s) s.numbers.now.numbered s.room c.args.arc below _ first row timed k
     (record { from_first = omega (arith, on.from_first, first); until_end = omega (arith, on.until_end, first, c.part_between-part.ensures.within, ap length row) })

@@ -35,4 +35,4 @@ returns-clause-apart c _ =
 pub invariant_of-result : goal.invariant_of-result
 invariant_of-result c =
     let to : AreNumberedTo (windows_of c.args.store.now) c.loop-arc.arc c.loop-arc.spots.items c.loop-arc.first.items = c.loop-arc.invariant in
-    record { numbered = to.are; twins = twins (windows_of c.args.store.now) c.loop-arc.arc c.loop-arc.spots.items c.loop-arc.first.items to }
+    record { numbered = to.are; twins = twins (windows_of c.args.store.now) c.loop-arc.arc c.loop-arc.spots.items c.loop-arc.first.items to; guessed = omega (arith, to.count, c.loop-arc-test.false, c.loop-arc.auto.arc-end, c.in_ok-found.ensures, c.requires.arcs) }

@@ -1,6 +1,7 @@
 use Rattle.std.proofs.Common.{subst}
 use Rattle.taxi_text.specs.declared.command.Command.TheVariants as command
 use Rattle.certificate.proofs.ChoiceNames.{nodes_named-are}
+use Rattle.certificate.proofs.RefusalLaws.{departure_any-has_room}
 use Rattle.taxi_engine.specs.Engine.{EngineState}
 use Rattle.command_refusals.specs.Accepted.{IsRefused}
 use Rattle.taxi_engine.specs.Done.{IsDoneOrMemory}
@@ -9,6 +10,11 @@ use Rattle.taxi_engine.proofs.engine.Engine.route_departure_any.Goals as goal
 
 pub find_departure_any-chosen-requires-clause-nodes : goal.find_departure_any-chosen-requires-clause-nodes
 find_departure_any-chosen-requires-clause-nodes c = (nodes_named-are c.self.inside.airport c.args.nodes.now c.in-Ok.asked.nodes c.in-Ok.ensures.named.nodes_known).exist
+
+pub tell_chosen-requires-clause-new : goal.tell_chosen-requires-clause-new
+tell_chosen-requires-clause-new c =
+    let room = departure_any-has_room c.self.inside.airport c.self.inside.ledger.state c.args.flight.now c.args.class.now c.args.from.now c.args.nodes.now 0 0 c.in-Ok.ensures.ok in
+    record { absent = room.absent; few = room.room }
 
 pub returns-in-Ok : goal.returns-in-Ok
 returns-in-Ok c =
