@@ -151,7 +151,8 @@ fn near_have_rows<H: HoldsOf>(
 {
     let segment = arc.segment();
     known.make(airport, holds, segment)?;
-    let windows = windows_between(known.of(segment), reach.from, reach.by);
+    let found = known.found(segment);
+    let windows = windows_between(known.of(segment), reach.from, reach.by, found);
     Ok(windows_have_rows(airport, class, windows, table, near, reach, arc, seconds))
 }
 

@@ -12,6 +12,7 @@ use airport_file::Airport;
 use held_spans::HoldsOf;
 use segment_windows::{cut_windows, fill_windows};
 use std::alloc::Global;
+use std::cell::Cell;
 use std::mem::replace;
 use taxi_base::{LabelRow, Memory, Segment, Span, Step, Time};
 
@@ -30,6 +31,8 @@ pub struct KnownWindows {
 struct SegmentWindows {
     windows: Vec<Span>,
     is_made: bool,
+    // Where one of them was found last, or any number.
+    found: Cell<usize>,
 }
 
 impl KnownWindows {
@@ -44,6 +47,7 @@ impl KnownWindows {
             lists.push(SegmentWindows {
                 windows,
                 is_made: false,
+                found: Cell::new(0),
             })?;
             // An arc each way.
             firsts.push(0)?;
@@ -121,6 +125,14 @@ impl KnownWindows {
         ensures { (segments : ℕ) (free : Segment → ℕ → Bool) → AreKnown segments free self.now → AreWindows (free segment) result.now }
     {
         &self.lists[segment.0 as usize].windows
+    }
+
+    /// Where one of a segment's windows was found last, or any number.
+    #[inline(always)]
+    pub(crate) fn found(&self, segment: Segment) -> &Cell<usize>
+        requires { IsTrue (is_known self.now segment) }
+    {
+        &self.lists[segment.0 as usize].found
     }
 
     /// Cuts what some steps hold out of the windows that are known.

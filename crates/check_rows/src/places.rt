@@ -49,7 +49,8 @@ fn is_at_place<H: HoldsOf>(
     }
     let segment = row.arc.segment();
     known.make(airport, holds, segment)?;
-    Ok(has_window(known.of(segment), window_of(row)))
+    let windows = known.of(segment);
+    Ok(has_window(windows, window_of(row), known.found(segment)))
 }
 
 /// Whether an arc exists, and the class has seconds on its segment.

@@ -21,10 +21,11 @@ use Rattle.label_search.specs.Problem.{IsIn}
 use Rattle.walk_labels.specs.Places.{Place}
 use Rattle.walk_labels.specs.PlacesInWindows.{AreWindowLists}
 use Rattle.window_store.specs.Rows.{span_in}
-use Rattle.window_store.proofs.Rows.{apart_at}
+use Rattle.window_rows.specs.declared.rows.Part.{Part}
+use Rattle.window_rows.specs.Rows.{IsCut}
+use Rattle.window_rows.proofs.RowLaws.{apart_at}
 use Rattle.place_cells.specs.Laid.{Numbers, first_in, AreNumbered, HaveNumbers}
 use Rattle.place_cells.specs.declared.spots.ArcRow.{ArcRow}
-use Rattle.place_cells.specs.Cut.{IsCut}
 use Rattle.place_cells.specs.Tells.{TellsCell}
 use Rattle.place_cells.specs.Turns.{next_arcs, previous_arcs, no_arc}
 use Rattle.place_cells.specs.Ground.{Ground, ground_in, cells_of, run_of_arc, IsSound, seconds_on, last_in, arc_in, window_in, can_use_in, usable_in, network_in, IsArcPart}
@@ -42,7 +43,7 @@ last_in-within horizon clearance w =
 module _ (g : Ground) where
   -- what is cut from an arc's windows is a part of its cells
   pub arc_part : AreNumbered g.numbers.spots g.numbers.first → HaveNumbers g.windows g.numbers.first → (arc : Arc) → arc.0 < 2 * length g.windows → AreApart 0 (row_of g arc)
-      → IsTrue (can_use_in g arc) → (low high : ℕ) (part : Run) → IsCut (row_of g arc) low high part
+      → IsTrue (can_use_in g arc) → (low high : ℕ) (part : Part) → IsCut (row_of g arc) low high part
       → IsArcPart g arc low high (record { first = first_in g.numbers.first arc.0 + part.first; until = first_in g.numbers.first arc.0 + part.until })
   arc_part numbered room arc below apart can low high part cut = record {
     within = λ k on. (inside k on, usable k (inside k on));

@@ -1,6 +1,5 @@
 pub mod LaidLaws
 mod StretchLaws
-mod CutLaws
 pub mod RunLaws
 pub mod TurnLaws
 pub mod GroundLaws

@@ -16,7 +16,7 @@ use Rattle.walk_labels.specs.Places.{Place, IsPlace, ArePlaces, no_place, place_
 use Rattle.walk_labels.specs.PlacesInWindows.{AreWindowLists, can_use}
 use Rattle.label_search.specs.Problem.{IsIn}
 use Rattle.window_store.specs.Rows.{no_span, span_in}
-use Rattle.window_store.proofs.Rows.{apart_in_order}
+use Rattle.window_rows.proofs.RowLaws.{apart_in_order}
 use Rattle.place_cells.specs.Laid.{Numbers, first_in, AreNumbered, HaveNumbers}
 use Rattle.place_cells.specs.Ground.{Ground, ground_in, cells_of, run_of_arc, arc_in, window_in}
 use Rattle.place_cells.proofs.RunLaws.{row_of, length-cells, cell_is, whole_window, in_run, run_inside}

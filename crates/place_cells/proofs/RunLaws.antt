@@ -11,7 +11,7 @@ use Rattle.taxi_base.proofs.ListLaws.{All-at}
 use Rattle.label_search.specs.Problem.{IsIn}
 use Rattle.walk_labels.specs.Places.{Place, no_place, place_at}
 use Rattle.window_store.specs.Rows.{no_span, span_in}
-use Rattle.window_store.proofs.Rows.{apart_at}
+use Rattle.window_rows.proofs.RowLaws.{apart_at}
 use Rattle.place_cells.specs.declared.spots.Spot.{Spot}
 use Rattle.place_cells.specs.Laid.{no_spot, spot_in, first_in, place_of_spot, window_of_spot, AreNumbered, HaveNumbers}
 use Rattle.place_cells.specs.Ground.{Ground, cells_of, run_of_arc, arc_in, window_in, can_use_in, usable_in}

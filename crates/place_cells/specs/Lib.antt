@@ -2,7 +2,6 @@ pub mod Laid
 pub mod Blocks
 pub mod Stretches
 pub mod Twins
-pub mod Cut
 pub mod Turns
 pub mod Ground
 pub mod Grounds

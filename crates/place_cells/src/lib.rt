@@ -4,7 +4,6 @@
 
 mod answer;
 mod blocks;
-mod cut;
 mod ground;
 mod numbers;
 mod reading;

@@ -12,12 +12,12 @@ ghost use Rattle.place_cells.specs.Ground.{last_in, network_in, cells_of, arc_in
 ghost use Rattle.place_cells.specs.Tells.{TellsCell, IsOnward, IsBackward};
 ghost use Rattle.place_cells.specs.Grounds.{ground_of, place_of};
 
-use crate::cut::part_between;
 use crate::ground::SearchGround;
 use crate::spots::{ArcRow, Beside, CellPlace, Spot};
 use aircraft_class::time_in;
 use label_search::{Cell, Part, Run};
 use taxi_base::{Arc, Node, Span, Time};
+use window_rows::part_between;
 
 impl<'a> SearchGround<'a> {
     /// How many numbers there are.

@@ -1,12 +1,14 @@
--- Windows that lie apart are in order, and one of them is found by its begin.
-use Rattle.std.proofs.Common.{◌≡◌, ◌↔◌, ℕ, zero, suc, ◌+◌, ◌<◌, ◌≤◌, true, false, List, [], ◌∷◌, length, get_or, inl, inr, IsTrue, sym, ◌∙◌, ap, subst, arith}
-use Rattle.std.specs.Prelude.{◌&&◌, ◌==◌, nat_lt, Contains}
-use Rattle.std.specs.List.Sorted.{IsPartitionPoint, IsNonDecreasingBy}
-use Rattle.std.proofs.lemmas.Bool.{cases_lt, both_ways, and_parts, and_from, eqb-true, eq-eqb, ltb-true, lt-ltb}
+-- Windows that lie apart are in order, and one of them is found by its end.
+use Rattle.std.proofs.Common.{◌≡◌, ◌↔◌, ℕ, zero, suc, ◌+◌, ◌<◌, ◌≤◌, List, [], ◌∷◌, length, get_or, inl, inr, IsTrue, sym, ◌∙◌, ap, subst, arith}
+use Rattle.std.specs.Prelude.{◌&&◌, ◌==◌, Contains}
+use Rattle.std.specs.List.Sorted.{IsNonDecreasingBy}
+use Rattle.std.proofs.lemmas.Bool.{cases_lt, and_parts, and_from, eqb-true, eq-eqb}
 use Rattle.std.proofs.lemmas.List.{get_or_default}
 use Rattle.taxi_base.specs.declared.rows.Span.{Span}
 use Rattle.taxi_base.specs.Windows.{AreApart}
 use Rattle.taxi_base.proofs.WindowLaws.{Span-same}
+use Rattle.window_rows.specs.Rows.{no_window, window_at, IsFirstNotOver}
+use Rattle.window_rows.proofs.RowLaws.{apart_in_order}
 
 apart-low : (low : ℕ) (ws : List Span) → AreApart low ws → (i : ℕ) (d : Span) → i < length ws → low ≤ (get_or ws i d).from
 apart-low low (w ∷ ws) apart zero d on = apart.0
@@ -49,18 +51,19 @@ apart-ends_ordered ws apart i j d le on =
       | inr above ↦ (let e : i ≡ j = omega arith in subst (λ k. (get_or ws i d).until ≤ (get_or ws k d).until) e (omega arith))
     ]
 
-module _ (ws : List Span) (window : Span) (apart : AreApart 0 ws) (at : ℕ)
-    (point : IsPartitionPoint (λ w. nat_lt w.from window.from ≡ true) (λ w. nat_lt w.from window.from ≡ false) ws at) where
+module _ (ws : List Span) (window : Span) (apart : AreApart 0 ws) (at : ℕ) (not_over : IsFirstNotOver ws window.until at) where
+  -- a window stands where the first is that does not end before it
   window-there : Contains ws window → (at < length ws) × (get_or ws at window ≡ window)
   window-there there =
       let k = there.0 in
-      let begins : (get_or ws k window).from ≡ window.from = ap (λ w. w.from) there.2 in
+      let here : window_at ws k ≡ window = get_or_default ws k no_window window there.1 ∙ there.2 in
+      let ends : (window_at ws k).until ≡ window.until = ap (λ (w : Span). w.until) here in
       elim (cases_lt k at) [
-        | inl below ↦ absurd (omega (arith, begins, ltb-true _ _ (point.0 k window (omega arith) below)))
+        | inl below ↦ absurd (omega (arith, ends, not_over.over k below))
         | inr above ↦ elim (cases_lt at k) [
           | inl beyond ↦
-              let rising = apart-rising 0 ws apart at k window beyond there.1 in
-              absurd (both_ways _ (point.1 at window (omega arith) (omega (arith, there.1))) (lt-ltb _ _ (omega (arith, begins, rising))))
+              let later = apart_in_order 0 ws apart at k beyond there.1 in
+              absurd (omega (arith, ends, not_over.rest at (omega arith) (omega (arith, there.1, beyond)), later.1, later.2))
           | inr same_place ↦ (let e : k ≡ at = omega arith in (omega (arith, there.1), subst (λ n. get_or ws n window ≡ window) e there.2))
         ]
       ]

@@ -7,30 +7,9 @@ use Rattle.taxi_base.specs.declared.rows.Span.{Span}
 use Rattle.taxi_base.specs.Windows.{AreApart}
 use Rattle.interval_list.specs.Intervals.{span, before, behind, without_span, hull, with_span}
 use Rattle.interval_list.proofs.Seconds.{before-yes, before-no, behind-yes, behind-no, without_span-after, with_span-stops, with_span-past, with_span-joins}
+use Rattle.window_rows.proofs.RowLaws.{apart_at, apart_in_order}
 use Rattle.window_store.specs.Kept.{LiesInOne}
 use Rattle.window_store.specs.Rows.{no_span, AreOverBy, span_in, cut_in}
-
--- spans that lie apart begin no sooner than their bound, and none is empty
-pub apart_at : (low : ℕ) (ws : List Span) → AreApart low ws → (k : ℕ) → k < length ws → (low ≤ (span_in ws k).from) × ((span_in ws k).from < (span_in ws k).until)
-apart_at low [] apart k on = absurd (omega arith)
-apart_at low (w ∷ ws) apart zero on = (apart.0, apart.1)
-apart_at low (w ∷ ws) apart (suc k) on = let h = apart_at (w.until + 1) ws apart.2 k (omega arith) in (omega (arith, apart.0, apart.1, h.0), h.1)
-
--- and later ones begin after earlier ones end
-pub apart_in_order : (low : ℕ) (ws : List Span) → AreApart low ws → (j k : ℕ) → j < k → k < length ws
-    → ((span_in ws j).from < (span_in ws j).until) × ((span_in ws j).until < (span_in ws k).from) × ((span_in ws k).from < (span_in ws k).until)
-apart_in_order low [] apart j k earlier on = absurd (omega arith)
-apart_in_order low (w ∷ ws) apart j zero earlier on = absurd (omega arith)
-apart_in_order low (w ∷ ws) apart zero (suc k) earlier on = let h = apart_at (w.until + 1) ws apart.2 k (omega arith) in (apart.1, omega (arith, h.0), h.1)
-apart_in_order low (w ∷ ws) apart (suc j) (suc k) earlier on = apart_in_order (w.until + 1) ws apart.2 j k (omega arith) (omega arith)
-
--- no later one ends sooner
-pub apart_rising : (low : ℕ) (ws : List Span) → AreApart low ws → (j k : ℕ) → j ≤ k → k < length ws → (span_in ws j).until ≤ (span_in ws k).until
-apart_rising low [] apart j k le on = absurd (omega arith)
-apart_rising low (w ∷ ws) apart zero zero le on = omega arith
-apart_rising low (w ∷ ws) apart (suc j) zero le on = absurd (omega arith)
-apart_rising low (w ∷ ws) apart zero (suc k) le on = let h = apart_at (w.until + 1) ws apart.2 k (omega arith) in omega (arith, h.0, h.1)
-apart_rising low (w ∷ ws) apart (suc j) (suc k) le on = apart_rising (w.until + 1) ws apart.2 j k (omega arith) (omega arith)
 
 -- ---- in which span of a row another lies
 

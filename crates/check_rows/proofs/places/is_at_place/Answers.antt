@@ -18,18 +18,18 @@ make-requires-clause-on g c =
 pub has_window-requires : goal.has_window-requires
 has_window-requires g c =
     let free : Segment → ℕ → Bool = free_among c.args.airport.now (g.H.HoldsOf.held c.args.holds.now) in
-    (c.of.ensures (length c.args.airport.now.segments) free c.make.ensures.known).apart
+    (c.of-windows.ensures (length c.args.airport.now.segments) free c.make.ensures.known).apart
 
 pub returns-clause-there : goal.returns-clause-there
 returns-clause-there g c =
     let free : Segment → ℕ → Bool = free_among c.args.airport.now (g.H.HoldsOf.held c.args.holds.now) in
-    let are = subst (λ (s : Segment). AreWindows (free s) c.of.result.now) c.segment-segment.ensures (c.of.ensures (length c.args.airport.now.segments) free c.make.ensures.known) in
-    let same = subst (λ (w : Span). IsTrue c.has_window.result ↔ Contains c.of.result.now w) c.window_of.ensures c.has_window.ensures in
+    let are = subst (λ (s : Segment). AreWindows (free s) c.of-windows.result.now) c.segment-segment.ensures (c.of-windows.ensures (length c.args.airport.now.segments) free c.make.ensures.known) in
+    let same = subst (λ (w : Span). IsTrue c.has_window.result ↔ Contains c.of-windows.result.now w) c.window_of.ensures c.has_window.ensures in
     let parts = and_parts _ _ (sym c.can_use.ensures ∙ c.if-not-can_use.false) in (
       λ holds. record {
         on_arc = parts.0;
         timed = parts.1;
-        window = AreWindows-member (free (segment_of c.args.row.arc)) c.of.result.now _ are (same.0 holds);
+        window = AreWindows-member (free (segment_of c.args.row.arc)) c.of-windows.result.now _ are (same.0 holds);
       },
-      λ is. same.1 (AreWindows-whole (free (segment_of c.args.row.arc)) c.of.result.now _ are is.window),
+      λ is. same.1 (AreWindows-whole (free (segment_of c.args.row.arc)) c.of-windows.result.now _ are is.window),
     )

@@ -5,7 +5,7 @@ use Rattle.std.proofs.lemmas.List.{get_or_default}
 use Rattle.std.proofs.lemmas.Fn.{always_returns_same}
 use Rattle.taxi_base.specs.declared.rows.Span.{Span}
 use Rattle.window_store.specs.Rows.{no_span, span_in}
-use Rattle.window_store.proofs.Rows.{apart_rising}
+use Rattle.window_rows.proofs.RowLaws.{apart_rising}
 use Rattle.window_store.proofs.row.over_by_halves.Goals as goal
 
 pub returns : goal.returns
@@ -13,7 +13,7 @@ returns c =
     let row = c.args.row.now in let second = c.args.second in
     let parted : IsPartitionedBy (λ (x : Span). leb x.until second) row = λ i j d le on over.
     let at_j : leb (span_in row j).until second ≡ true = subst (λ (x : Span). leb x.until second ≡ true) (get_or_default row j d no_span on) over in
-    let at_i : leb (span_in row i).until second ≡ true = le-leb (span_in row i).until second (omega (arith, apart_rising 0 row c.requires i j le on, leb-true (span_in row j).until second at_j)) in
+    let at_i : leb (span_in row i).until second ≡ true = le-leb (span_in row i).until second (omega (arith, apart_rising row c.requires i j le on, leb-true (span_in row j).until second at_j)) in
     subst (λ (x : Span). leb x.until second ≡ true) (get_or_default row i no_span d (omega (arith, le, on))) at_i in
     let point = c.partition_point.ensures.partitioned (λ x. leb x.until second) (always_returns_same _ _ _ (λ a r f k. search (rules))) parted in
     record {

@@ -6,10 +6,10 @@ use Rattle.taxi_base.specs.declared.numbers.Segment.{Segment}
 use Rattle.taxi_base.specs.declared.rows.Span.{Span}
 use Rattle.taxi_base.specs.Airport.{arc_exists, segment_of, seconds_in}
 use Rattle.taxi_base.specs.Windows.{AreApart}
+use Rattle.window_rows.specs.Rows.{IsCut}
 use Rattle.window_store.specs.Store.{spans_at}
 use Rattle.place_cells.specs.declared.ground.SearchGround.{SearchGround}
 use Rattle.place_cells.specs.Laid.{windows_of, first_in}
-use Rattle.place_cells.specs.Cut.{IsCut}
 use Rattle.place_cells.specs.Ground.{can_use_in, IsArcPart}
 use Rattle.place_cells.specs.Grounds.{ground_of}
 use Rattle.place_cells.proofs.LaidLaws.{windows_of-at, windows_of-length}
