@@ -33,7 +33,7 @@ impl Model for Airport {
 }
 
 impl Airport {
-    /// The last second, from 1 to 604,800.
+    /// The second at which the day ends, from 1 to 604,800. No segment is free from then on, and a step may still leave at it.
     pub fn horizon(&self) -> Time
         ensures horizon { result ≡ self.now.horizon }
         ensures rules { IsWellFormed self.now }
@@ -41,6 +41,7 @@ impl Airport {
         self.horizon
     }
 
+    /// The nodes with the segments between them.
     pub fn graph(&self) -> &Graph
         ensures { result.now ≡ layout_of self.now }
     {
@@ -62,12 +63,14 @@ impl Airport {
         self.classes.clearance(class)
     }
 
+    /// Which segments conflict.
     pub fn conflicts(&self) -> &Conflicts
         ensures { result.now ≡ record { segments = length self.now.segments; sets = self.now.conflicts } }
     {
         &self.conflicts
     }
 
+    /// What a node is.
     pub fn kind(&self, node: Node) -> Kind
         requires { node.0 < length self.now.nodes }
         ensures { option_map (λ n. n.kind) (slice_get self.now.nodes node.0) ≡ Some result }
@@ -75,6 +78,7 @@ impl Airport {
         self.plan.kinds()[node.0 as usize]
     }
 
+    /// The name of a node.
     pub fn node_name(&self, node: Node) -> Name
         requires { node.0 < length self.now.nodes }
         ensures { node_name self.now node ≡ Some result }
@@ -82,6 +86,7 @@ impl Airport {
         self.plan.nodes().name(node.0 as usize)
     }
 
+    /// The name of a class.
     pub fn class_name(&self, class: Class) -> Name
         requires { class.0 < length self.now.classes }
         ensures { class_name self.now class ≡ Some result }
@@ -89,6 +94,7 @@ impl Airport {
         self.plan.classes().name(class.0 as usize)
     }
 
+    /// The name of a segment.
     pub fn segment_name(&self, segment: Segment) -> Name
         requires { segment.0 < length self.now.segments }
         ensures { segment_name self.now segment ≡ Some result }

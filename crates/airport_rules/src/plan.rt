@@ -70,12 +70,14 @@ impl Plan {
         }
     }
 
+    /// The second at which the day ends, if it was given yet.
     pub fn horizon(&self) -> Option<Time>
         ensures { result ≡ self.now.horizon }
     {
         self.horizon
     }
 
+    /// The names of the nodes, in the order of the file.
     pub fn nodes(&self) -> &NameList
         ensures { result.now ≡ self.now.nodes }
     {
@@ -89,24 +91,28 @@ impl Plan {
         self.kinds.as_slice()
     }
 
+    /// The names of the classes, in the order of the file.
     pub fn classes(&self) -> &NameList
         ensures { result.now ≡ self.now.classes }
     {
         &self.classes
     }
 
+    /// The names of the segments, in the order of the file.
     pub fn segments(&self) -> &NameList
         ensures { result.now ≡ self.now.segments }
     {
         &self.segments
     }
 
+    /// Gives the second at which the day ends.
     pub fn set_horizon(&mut self, horizon: Time)
         ensures { self.new ≡ record self.old { horizon = Some horizon } }
     {
         self.horizon = Some(horizon);
     }
 
+    /// One more node. Where memory runs out the plan stays as it is, here and below.
     pub fn add_node(&mut self, name: Name, kind: Kind) -> Result<(), Memory>
         requires fresh { place_of name self.old.nodes ≡ None }
         requires room { length self.old.nodes < 10000 }
@@ -121,6 +127,7 @@ impl Plan {
         Ok(())
     }
 
+    /// One more class.
     pub fn add_class(&mut self, name: Name) -> Result<(), Memory>
         requires fresh { place_of name self.old.classes ≡ None }
         requires room { length self.old.classes < 32 }
@@ -155,6 +162,7 @@ impl Plan {
             || self.ends[way.to.0 as usize] > MOST_ENDS - new
     }
 
+    /// One more segment, and where it leads.
     pub fn add_segment(&mut self, name: Name, way: &Taxiway) -> Result<(), Memory>
         requires fresh { place_of name self.old.segments ≡ None }
         requires room { length self.old.segments < 10000 }
@@ -179,6 +187,7 @@ impl Plan {
         self.timed.contains(&time_key(segment, class))
     }
 
+    /// One more least time.
     pub fn add_time(&mut self, row: &TimeRow) -> Result<(), Memory>
         ensures ok { OnOk result (self.new ≡ record self.old { times = self.old.times ++ row.now ∷ [] }) }
         ensures err { OnErr result (self.new ≡ self.old) }
@@ -203,6 +212,7 @@ impl Plan {
         self.clearances.iter().any(|row| row.class.0 == class.0)
     }
 
+    /// One more clearance.
     pub fn add_clearance(&mut self, row: &ClearanceRow) -> Result<(), Memory>
         ensures ok { OnOk result (self.new ≡ record self.old { clearances = self.old.clearances ++ row.now ∷ [] }) }
         ensures err { OnErr result (self.new ≡ self.old) }
@@ -242,6 +252,7 @@ impl Plan {
         }
     }
 
+    /// Whether the turn from one arc to another was forbidden.
     pub fn is_forbidden(&self, x: Arc, y: Arc) -> bool
         ensures { result ≡ is_forbidden self.now.forbidden x y }
     {
@@ -266,6 +277,7 @@ impl Plan {
         self.forbidden.len()
     }
 
+    /// Forbids the turn from one arc to another.
     pub fn forbid(&mut self, x: Arc, y: Arc) -> Result<(), Memory>
         requires fresh { is_forbidden self.old.forbidden x y ≡ false }
         ensures ok { OnOk result (self.new ≡ record self.old { forbidden = with_pair (x, y) self.old.forbidden }) }
@@ -282,6 +294,7 @@ impl Plan {
         self.conflicts.as_slice()
     }
 
+    /// One more set of segments that conflict.
     pub fn add_conflict(&mut self, set: List<Segment>) -> Result<(), Memory>
         ensures ok { OnOk result (self.new ≡ record self.old { conflicts = self.old.conflicts ++ set ∷ [] }) }
         ensures err { OnErr result (self.new ≡ self.old) }

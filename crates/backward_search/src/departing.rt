@@ -17,40 +17,8 @@ use window_store::WindowStore;
 
 /// The picked one of the walks in the store's windows that end so and leave the node latest, with the labels past its begin;
 /// or that there is no walk, with all labels. Each step keeps the clearance after it inside its window, but no longer than to
-/// the horizon.
+/// the horizon. What an earlier search left in the room does not matter.
 pub fn depart(
-    alloc: Global,
-    airport: &Airport,
-    store: &WindowStore,
-    from: Node,
-    to: Node,
-    class: Class,
-    earliest_out: Time,
-    latest_out: Time,
-    clearance: Time,
-) -> Result<Found, Memory>
-    requires segments { length store.now.lists ≡ length airport.now.segments }
-    requires horizon { All (All (λ w. w.until ≤ airport.now.horizon)) (windows_of store.now) }
-    requires times { earliest_out < 2 ^ 31 }
-    ensures { IfOk result (AnswersDeparture (conditions_in_windows airport.now class clearance (windows_of store.now)) from (ReachesNodeWithin (layout_of airport.now) to earliest_out latest_out)) }
-{
-    let mut room = SearchRoom::new(alloc)?;
-    depart_in(
-        alloc,
-        &mut room,
-        airport,
-        store,
-        from,
-        to,
-        class,
-        earliest_out,
-        latest_out,
-        clearance,
-    )
-}
-
-/// The same in kept room. What was left there by an earlier search does not matter.
-pub fn depart_in(
     alloc: Global,
     room: &mut SearchRoom,
     airport: &Airport,

@@ -6,13 +6,13 @@ use taxi_base::{FlightRow, HeldRow, LabelRow, List, Name, Refusal, Segment, Span
 pub enum Block {
     /// The command changes nothing, and why.
     Refused(Refusal),
-    /// A route given by hand is in force from `start` to `end`.
+    /// A route given by hand, or a work party, is in force from `start` to `end`.
     Filed {
         flight: Name,
         start: Time,
         end: Time,
     },
-    /// The flight is no longer in force.
+    /// The flight or the work party is no longer in force.
     Cancelled {
         flight: Name,
     },

@@ -26,7 +26,7 @@ pub fn nodes_named(
     Ok(Some(nodes))
 }
 
-/// Whether a name is none of a stand's.
+/// Whether a name is not that of a stand.
 pub fn is_no_stand(airport: &Airport, name: &Name) -> bool
     ensures { result ≡ not (is_node_of is_stand airport.now name.now) }
 {
@@ -36,7 +36,7 @@ pub fn is_no_stand(airport: &Airport, name: &Name) -> bool
     }
 }
 
-/// Whether a name is none of a runway node's.
+/// Whether a name is not that of a runway node.
 pub fn is_no_runway(airport: &Airport, name: &Name) -> bool
     ensures { result ≡ not (is_node_of is_runway airport.now name.now) }
 {
@@ -46,14 +46,14 @@ pub fn is_no_runway(airport: &Airport, name: &Name) -> bool
     }
 }
 
-/// Whether one of some names is none of a stand's.
+/// Whether one of some names is not that of a stand.
 pub fn has_no_stand(airport: &Airport, names: &[Name]) -> bool
     ensures { result ≡ list_any (λ name. not (is_node_of is_stand airport.now name)) names.now }
 {
     names.iter().any(|name| is_no_stand(airport, name))
 }
 
-/// Whether one of some names is none of a runway node's.
+/// Whether one of some names is not that of a runway node.
 pub fn has_no_runway(airport: &Airport, names: &[Name]) -> bool
     ensures { result ≡ list_any (λ name. not (is_node_of is_runway airport.now name)) names.now }
 {

@@ -22,28 +22,8 @@ use window_store::WindowStore;
 
 /// The picked one of the walks in the store's windows that begin so and reach the node soonest, with the labels short of its
 /// end; or that there is no walk, with all labels. Each step keeps the clearance after it inside its window, but no longer
-/// than to the horizon.
+/// than to the horizon. What an earlier search left in the room does not matter.
 pub fn arrive(
-    alloc: Global,
-    airport: &Airport,
-    store: &WindowStore,
-    start: Start,
-    class: Class,
-    to: Node,
-    clearance: Time,
-) -> Result<Found, Memory>
-    requires segments { length store.now.lists ≡ length airport.now.segments }
-    requires horizon { All (All (λ w. w.until ≤ airport.now.horizon)) (windows_of store.now) }
-    ensures { (leave : ℕ) → IfOk result (AnswersArrival (conditions_in_windows airport.now class clearance (windows_of store.now)) (BeginsBy (layout_of airport.now) (beginning_of start leave)) to) }
-{
-    let mut room = SearchRoom::new(alloc)?;
-    arrive_in(
-        alloc, &mut room, airport, store, start, class, to, clearance,
-    )
-}
-
-/// The same in kept room. What was left there by an earlier search does not matter.
-pub fn arrive_in(
     alloc: Global,
     room: &mut SearchRoom,
     airport: &Airport,

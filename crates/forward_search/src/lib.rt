@@ -5,5 +5,5 @@ mod arriving;
 mod cells;
 mod starting;
 
-pub use arriving::{arrive, arrive_in, arrive_to_one_of};
+pub use arriving::{arrive, arrive_to_one_of};
 pub use starting::Start;

@@ -53,7 +53,7 @@ impl Labels {
         Ok(())
     }
 
-    /// No label again. It costs what the labels of the last search took up.
+    /// No label again. It goes over the room for all cells, and is called only where memory ran out in the search before.
     fn clear(&mut self)
         ensures known { length self.new.known.items ≡ length self.old.known.items }
         ensures queue { self.new.queue ≡ replicate (length self.old.queue) None }

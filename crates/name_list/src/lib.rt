@@ -42,6 +42,7 @@ impl NameList {
         }
     }
 
+    /// How many names there are, at most 10,000.
     pub fn len(&self) -> usize
         ensures count { result ≡ length self.now }
         ensures few { length self.now ≤ 10000 }

@@ -7,4 +7,4 @@ mod rerouting;
 mod searching;
 
 pub use refused::RerouteRefused;
-pub use rerouting::{again, again_in};
+pub use rerouting::again;

@@ -17,29 +17,9 @@ use std::alloc::Global;
 use taxi_base::{Found, Memory, Name, Node, Time};
 
 /// The best of the walks that the flight of a name may take from a time on among the others, to another node or to the one
-/// that it asked for; or that there is none. The flight keeps its old route, also after an error.
+/// that it asked for; or that there is none. The flight keeps its old route, also after an error. What an earlier search left in
+/// the room does not matter.
 pub fn again(
-    alloc: Global,
-    airport: &Airport,
-    ledger: &mut Ledger,
-    name: &Name,
-    time: Time,
-    to: Option<Node>,
-) -> Result<Found, RerouteRefused>
-    requires fits { Fits airport.now ledger.old }
-    requires unlifted { ledger.old.lifted ≡ None }
-    requires meets { ForSome (flight_named name.now ledger.old.state.flights) (λ flight. Meets (conditions_of airport.now ledger.old.state flight) flight.request flight.steps) }
-    ensures refused { MatchOption (again_refusal ledger.old.state.flights name.now time to) (IsOkUnless result refused.Memory) (λ why. result ≡ Err why) }
-    ensures found { IfOk result (λ found. IsSomeAnd (flight_named name.now ledger.old.state.flights) (λ flight. IsFoundAnew (conditions_of airport.now ledger.old.state flight) flight time to found)) }
-    ensures as_before { IsAsBefore airport.now ledger.old ledger.new }
-{
-    check_again(ledger, name, time, to)?;
-    let mut room = SearchRoom::new(alloc)?;
-    Ok(find_lifted(alloc, &mut room, airport, ledger, name, time, to)?)
-}
-
-/// The same in kept room. What was left there by an earlier search does not matter.
-pub fn again_in(
     alloc: Global,
     room: &mut SearchRoom,
     airport: &Airport,

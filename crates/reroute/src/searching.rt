@@ -11,8 +11,8 @@ ghost use Rattle.reroute.specs.Anew.{IsMeant};
 
 use crate::joining::{after_steps, under_way};
 use airport_file::Airport;
-use backward_search::depart_in;
-use forward_search::{Start, arrive_in};
+use backward_search::depart;
+use forward_search::{Start, arrive};
 use place_cells::SearchRoom;
 use std::alloc::Global;
 use taxi_base::{Flight, Found, Memory, Node, Request, Step, Time};
@@ -50,7 +50,7 @@ pub(crate) fn find_anew(
             let target = to.unwrap_or(own);
             let way = under_way(flight.steps.as_slice(), time);
             let start = start_anew(way, time, from, asked, hold);
-            let rest = arrive_in(alloc, room, airport, store, start, class, target, clearance)?;
+            let rest = arrive(alloc, room, airport, store, start, class, target, clearance)?;
             match way {
                 None => Ok(rest),
                 Some((_, done)) => after_steps(alloc, done, rest),
@@ -64,7 +64,7 @@ pub(crate) fn find_anew(
         } => {
             let target = to.unwrap_or(own);
             let earliest = asked.saturating_sub(queue);
-            depart_in(
+            depart(
                 alloc, room, airport, store, from, target, class, earliest, asked, clearance,
             )
         }

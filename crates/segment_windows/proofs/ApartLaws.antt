@@ -1,5 +1,5 @@
 -- Windows that lie apart are in order, and one of them is found by its end.
-use Rattle.std.proofs.Common.{◌≡◌, ◌↔◌, ℕ, zero, suc, ◌+◌, ◌<◌, ◌≤◌, List, [], ◌∷◌, length, get_or, inl, inr, IsTrue, sym, ◌∙◌, ap, subst, arith}
+use Rattle.std.proofs.Common.{◌≡◌, ◌↔◌, ℕ, ◌<◌, ◌≤◌, List, length, get_or, inl, inr, IsTrue, sym, ◌∙◌, ap, subst, arith}
 use Rattle.std.specs.Prelude.{◌&&◌, ◌==◌, Contains}
 use Rattle.std.specs.List.Sorted.{IsNonDecreasingBy}
 use Rattle.std.proofs.lemmas.Bool.{cases_lt, and_parts, and_from, eqb-true, eq-eqb}
@@ -8,48 +8,22 @@ use Rattle.taxi_base.specs.declared.rows.Span.{Span}
 use Rattle.taxi_base.specs.Windows.{AreApart}
 use Rattle.taxi_base.proofs.WindowLaws.{Span-same}
 use Rattle.window_rows.specs.Rows.{no_window, window_at, IsFirstNotOver}
-use Rattle.window_rows.proofs.RowLaws.{apart_in_order}
-
-apart-low : (low : ℕ) (ws : List Span) → AreApart low ws → (i : ℕ) (d : Span) → i < length ws → low ≤ (get_or ws i d).from
-apart-low low (w ∷ ws) apart zero d on = apart.0
-apart-low low (w ∷ ws) apart (suc i) d on = let later = apart-low (w.until + 1) ws apart.2 i d (omega arith) in omega (arith, apart.0, apart.1)
-apart-low low [] apart i d on = absurd (omega arith)
+use Rattle.window_rows.proofs.RowLaws.{apart_at, apart_in_order, apart_rising, from_rising}
 
 pub apart-some : (low : ℕ) (ws : List Span) → AreApart low ws → (i : ℕ) (d : Span) → i < length ws → (get_or ws i d).from < (get_or ws i d).until
-apart-some low [] apart i d on = absurd (omega arith)
-apart-some low (w ∷ ws) apart zero d on = apart.1
-apart-some low (w ∷ ws) apart (suc i) d on = apart-some (w.until + 1) ws apart.2 i d (omega arith)
-
-pub apart-rising : (low : ℕ) (ws : List Span) → AreApart low ws → (i j : ℕ) (d : Span) → i < j → j < length ws → (get_or ws i d).from < (get_or ws j d).from
-apart-rising low [] apart i j d below on = absurd (omega arith)
-apart-rising low (w ∷ ws) apart zero zero d below on = absurd (omega arith)
-apart-rising low (w ∷ ws) apart (suc i) zero d below on = absurd (omega arith)
-apart-rising low (w ∷ ws) apart zero (suc j) d below on = let later = apart-low (w.until + 1) ws apart.2 j d (omega arith) in omega (arith, apart.1)
-apart-rising low (w ∷ ws) apart (suc i) (suc j) d below on = apart-rising (w.until + 1) ws apart.2 i j d (omega arith) (omega arith)
+apart-some low ws apart i d on = subst (λ (w : Span). w.from < w.until) (get_or_default ws i no_window d on) (apart_at low ws apart i on).1
 
 pub apart-ordered : (ws : List Span) → AreApart 0 ws → IsNonDecreasingBy (λ w. w.from) ws
 apart-ordered ws apart i j d le on =
-    elim (cases_lt i j) [
-      | inl below ↦ (let rising = apart-rising 0 ws apart i j d below on in omega arith)
-      | inr above ↦ (let e : i ≡ j = omega arith in subst (λ k. (get_or ws i d).from ≤ (get_or ws k d).from) e (omega arith))
-    ]
-
-apart-ends : (low : ℕ) (ws : List Span) → AreApart low ws → (i j : ℕ) (d : Span) → i < j → j < length ws → (get_or ws i d).until < (get_or ws j d).until
-apart-ends low [] apart i j d below on = absurd (omega arith)
-apart-ends low (w ∷ ws) apart zero zero d below on = absurd (omega arith)
-apart-ends low (w ∷ ws) apart (suc i) zero d below on = absurd (omega arith)
-apart-ends low (w ∷ ws) apart zero (suc j) d below on =
-    let later = apart-low (w.until + 1) ws apart.2 j d (omega arith) in
-    let some = apart-some (w.until + 1) ws apart.2 j d (omega arith) in
-    omega arith
-apart-ends low (w ∷ ws) apart (suc i) (suc j) d below on = apart-ends (w.until + 1) ws apart.2 i j d (omega arith) (omega arith)
+    let one = ap (λ (w : Span). w.from) (get_or_default ws i no_window d (omega (arith, le, on))) in
+    let other = ap (λ (w : Span). w.from) (get_or_default ws j no_window d on) in
+    omega (arith, one, other, from_rising ws apart i j le on)
 
 pub apart-ends_ordered : (ws : List Span) → AreApart 0 ws → IsNonDecreasingBy (λ w. w.until) ws
 apart-ends_ordered ws apart i j d le on =
-    elim (cases_lt i j) [
-      | inl below ↦ (let rising = apart-ends 0 ws apart i j d below on in omega arith)
-      | inr above ↦ (let e : i ≡ j = omega arith in subst (λ k. (get_or ws i d).until ≤ (get_or ws k d).until) e (omega arith))
-    ]
+    let one = ap (λ (w : Span). w.until) (get_or_default ws i no_window d (omega (arith, le, on))) in
+    let other = ap (λ (w : Span). w.until) (get_or_default ws j no_window d on) in
+    omega (arith, one, other, apart_rising ws apart i j le on)
 
 module _ (ws : List Span) (window : Span) (apart : AreApart 0 ws) (at : ℕ) (not_over : IsFirstNotOver ws window.until at) where
   -- a window stands where the first is that does not end before it

@@ -18,31 +18,9 @@ use window_store::WindowStore;
 
 /// Of the nodes, the one that a walk in the store's windows reaches soonest, and of several that are reached then the first by
 /// name, with the route that is picked to it and the labels short of its end; or that no walk reaches any of them, with all
-/// labels. Walks leave `from` and enter their first arc from `earliest` to `latest`. A node that is named twice counts once.
+/// labels. Walks leave `from` and enter their first arc from `earliest` to `latest`. A node that is named twice counts once. What
+/// an earlier search left in the room does not matter.
 pub fn choose_arrival(
-    alloc: Global,
-    airport: &Airport,
-    store: &WindowStore,
-    from: Node,
-    to: &[Node],
-    class: Class,
-    earliest: Time,
-    latest: Time,
-    clearance: Time,
-) -> Result<Chosen, Memory>
-    requires segments { length store.now.lists ≡ length airport.now.segments }
-    requires horizon { All (All (λ w. w.until ≤ airport.now.horizon)) (windows_of store.now) }
-    requires nodes { All (λ n. n.0 < length airport.now.nodes) to.now }
-    ensures { IfOk result (AnswersArrivalChoice (conditions_in_windows airport.now class clearance (windows_of store.now)) (LeavesNodeWithin (layout_of airport.now) from earliest latest) to.now) }
-{
-    let mut room = SearchRoom::new(alloc)?;
-    choose_arrival_in(
-        alloc, &mut room, airport, store, from, to, class, earliest, latest, clearance,
-    )
-}
-
-/// The same in kept room. What was left there by an earlier search does not matter.
-pub fn choose_arrival_in(
     alloc: Global,
     room: &mut SearchRoom,
     airport: &Airport,

@@ -10,7 +10,7 @@ ghost use Rattle.stand_choice.specs.Ways.{AreNodes, IsFirstByName, IsLeftForAt, 
 
 use crate::nodes::{named_before, node_at_end};
 use airport_file::Airport;
-use backward_search::{depart_in, depart_to_one_of};
+use backward_search::{depart, depart_to_one_of};
 use place_cells::SearchRoom;
 use std::alloc::Global;
 use taxi_base::{Chosen, Class, Found, List, Memory, Node, Step, Time, begin_of};
@@ -19,41 +19,8 @@ use window_store::WindowStore;
 /// Of the nodes, the one for which a walk in the store's windows leaves `from` latest, and of several the first by name, with the
 /// route that is picked to it alone, and past its begin the latest entries of the walks to any of the nodes; or that no walk
 /// reaches any of them, with all entries. Walks leave their last step from `earliest_out` to `latest_out`. A node that is named
-/// twice counts once.
+/// twice counts once. What an earlier search left in the room does not matter.
 pub fn choose_departure(
-    alloc: Global,
-    airport: &Airport,
-    store: &WindowStore,
-    from: Node,
-    to: &[Node],
-    class: Class,
-    earliest_out: Time,
-    latest_out: Time,
-    clearance: Time,
-) -> Result<Chosen, Memory>
-    requires segments { length store.now.lists ≡ length airport.now.segments }
-    requires horizon { All (All (λ w. w.until ≤ airport.now.horizon)) (windows_of store.now) }
-    requires nodes { All (λ n. n.0 < length airport.now.nodes) to.now }
-    requires times { earliest_out < 2 ^ 31 }
-    ensures { IfOk result (AnswersDepartureChoice (conditions_in_windows airport.now class clearance (windows_of store.now)) from to.now earliest_out latest_out) }
-{
-    let mut room = SearchRoom::new(alloc)?;
-    choose_departure_in(
-        alloc,
-        &mut room,
-        airport,
-        store,
-        from,
-        to,
-        class,
-        earliest_out,
-        latest_out,
-        clearance,
-    )
-}
-
-/// The same in kept room. What was left there by an earlier search does not matter.
-pub fn choose_departure_in(
     alloc: Global,
     room: &mut SearchRoom,
     airport: &Airport,
@@ -149,7 +116,7 @@ fn route_to(
     ensures best { IfOk result (BeginsLatest (IsRoute (conditions_in_windows airport.now asked.class asked.clearance (windows_of store.now)) (LeavesNode (layout_of airport.now) asked.from) (ReachesNodeWithin (layout_of airport.now) node asked.earliest_out asked.latest_out))) }
     ensures picked { IfOk result (IsPickedDeparture (conditions_in_windows airport.now asked.class asked.clearance (windows_of store.now)) (ReachesNodeWithin (layout_of airport.now) node asked.earliest_out asked.latest_out) asked.from) }
 {
-    let found = depart_in(
+    let found = depart(
         alloc,
         room,
         airport,

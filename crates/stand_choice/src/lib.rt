@@ -5,5 +5,5 @@ mod arriving;
 mod departing;
 mod nodes;
 
-pub use arriving::{choose_arrival, choose_arrival_in};
-pub use departing::{choose_departure, choose_departure_in};
+pub use arriving::choose_arrival;
+pub use departing::choose_departure;

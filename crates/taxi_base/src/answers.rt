@@ -1,7 +1,8 @@
 //! What a flight asks for, and what is answered.
 use crate::{Class, LabelRow, List, Name, Node, Segment, Step, Time};
 
-/// What a flight asked for.
+/// What a flight asked for. An arrival begins at `time` or up to `hold` seconds later; a departure reaches its node at `time` or up to
+/// `queue` seconds sooner.
 #[derive(Clone, Copy, Debug, PartialEq, Eq)]
 pub enum Request {
     Filed,

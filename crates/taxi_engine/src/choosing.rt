@@ -14,7 +14,7 @@ use airport_file::Airport;
 use command_refusals::{AskedAny, asked_arrival_any, asked_departure_any};
 use commitments::Ledger;
 use place_cells::SearchRoom;
-use stand_choice::{choose_arrival_in, choose_departure_in};
+use stand_choice::{choose_arrival, choose_departure};
 use std::alloc::Global;
 use taxi_base::{Chosen, Flight, Memory, Name, Node, Refusal, Request, Time};
 
@@ -182,7 +182,7 @@ fn find_arrival_any(
     let store = ledger.store();
     let nodes = asked.nodes.as_slice();
     let latest = time + hold;
-    choose_arrival_in(
+    choose_arrival(
         alloc,
         room,
         airport,
@@ -216,7 +216,7 @@ fn find_departure_any(
     let clearance = airport.clearance(asked.class);
     let store = ledger.store();
     let nodes = asked.nodes.as_slice();
-    choose_departure_in(
+    choose_departure(
         alloc,
         room,
         airport,

@@ -59,6 +59,7 @@ impl Engine {
         })
     }
 
+    /// The airport for which it answers.
     pub fn airport(&self) -> &Airport
         ensures airport { result.now ≡ self.now.airport }
         ensures sound { IsSound self.now.airport self.now.state }
@@ -66,6 +67,7 @@ impl Engine {
         &self.airport
     }
 
+    /// The flights and work parties in force, and what they hold.
     pub fn ledger(&self) -> &Ledger
         ensures state { result.now.state ≡ self.now.state }
         ensures fits { Fits self.now.airport result.now }

@@ -40,6 +40,7 @@ impl ReplyText {
         }
     }
 
+    /// The bytes of the reply.
     pub fn bytes(&self) -> &[u8]
         ensures { result.now ≡ self.now }
     {

@@ -13,7 +13,7 @@ use crate::Engine;
 use crate::routing::prepare_route;
 use command_refusals::is_stand;
 use commitments::Ledger;
-use reroute::{RerouteRefused, again_in};
+use reroute::{RerouteRefused, again};
 use taxi_base::{Flight, Found, LabelRow, List, Name, Node, Refusal, Request, Step, Time};
 
 impl Engine {
@@ -46,7 +46,7 @@ impl Engine {
         // The airport keeps its rules, so each label is of one of its arcs.
         let _ = self.airport.horizon();
         let (airport, ledger) = (&self.airport, &mut self.ledger);
-        match again_in(self.alloc, &mut self.room, airport, ledger, name, time, to) {
+        match again(self.alloc, &mut self.room, airport, ledger, name, time, to) {
             Ok(Found::Route { steps, labels }) => {
                 let flight = on_another_route(&self.ledger, name, to, steps);
                 self.change_route(flight, &labels);

@@ -17,11 +17,11 @@ use crate::Engine;
 use crate::reply::ReplyText;
 use crate::texts::second_of;
 use airport_file::Airport;
-use backward_search::depart_in;
+use backward_search::depart;
 use certificate::Block;
 use command_refusals::{Asked, asked_arrival, asked_departure};
 use commitments::Ledger;
-use forward_search::{Start, arrive_in};
+use forward_search::{Start, arrive};
 use place_cells::SearchRoom;
 use std::alloc::Global;
 use taxi_base::{Class, Flight, Found, LabelRow, List, Memory, Name, Refusal, Request, Time};
@@ -183,7 +183,7 @@ fn find_arrival(
         latest: time + hold,
     };
     let clearance = airport.clearance(asked.class);
-    arrive_in(
+    arrive(
         alloc,
         room,
         airport,
@@ -214,7 +214,7 @@ fn find_departure(
     let clearance = airport.clearance(asked.class);
     let store = ledger.store();
     let Asked { class, from, to } = *asked;
-    depart_in(
+    depart(
         alloc, room, airport, store, from, to, class, earliest, time, clearance,
     )
 }

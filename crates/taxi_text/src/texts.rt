@@ -66,6 +66,7 @@ impl ShortText {
         self.len = end;
     }
 
+    /// The bytes of the text, at most 64.
     pub fn bytes(&self) -> &[u8]
         ensures same { result.now ≡ self.now }
         ensures short { length self.now ≤ 64 }

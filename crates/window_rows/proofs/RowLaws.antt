@@ -28,7 +28,7 @@ apart_rising row apart j k le on =
     ]
 
 -- nor begins sooner
-from_rising : (row : List Span) → AreApart 0 row → (j k : ℕ) → j ≤ k → k < length row → (window_at row j).from ≤ (window_at row k).from
+pub from_rising : (row : List Span) → AreApart 0 row → (j k : ℕ) → j ≤ k → k < length row → (window_at row j).from ≤ (window_at row k).from
 from_rising row apart j k le on =
     elim (cases_eq j k) [
       | inl same ↦ omega (arith, ap (λ (n : ℕ). (window_at row n).from) same)

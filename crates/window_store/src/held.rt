@@ -35,7 +35,7 @@ pub trait OtherHolds {
         requires order { from ≤ until }
         ensures { IsFirstHeld (spans_in_conflict conflicts.now.sets segment (holds self.now)) from until result };
 
-    /// Up to when holds in conflict have each second from one on, at least; that second where none has it.
+    /// Up to when holds in conflict have each second from one on, at least. Where one of them has that second, it is a later one.
     fn held_until(&self, conflicts: &Conflicts, segment: Segment, from: Time) -> Time
         requires { segment.0 < conflicts.now.segments }
         ensures { ReachesUpTo (spans_in_conflict conflicts.now.sets segment (holds self.now)) from result };

@@ -55,8 +55,11 @@ fn a_label_whose_key_is_lowered_goes_first(rt: HostRuntime) -> Result<(), Fail> 
     let mut queue = LabelQueue::new(rt.alloc(), 4)?;
     queue.insert_or_lower(2, 50)?;
     queue.insert_or_lower(1, 50)?;
+    queue.insert_or_lower(3, 40)?;
     queue.insert_or_lower(2, 30)?;
-    for least in [Some((2usize, 30u32)), Some((1, 50)), None] {
+    // A greater key is offered in vain.
+    queue.insert_or_lower(3, 60)?;
+    for least in [Some((2usize, 30u32)), Some((3, 40)), Some((1, 50)), None] {
         assert_eq!(rt; queue.pop_least(), least);
     }
     Ok(())

@@ -1,5 +1,6 @@
-//! Walks along an interval list in both directions, against seconds in a plain vector.
-ghost use Rattle.std.specs.Prelude.{◌<◌, length};
+//! Walks along an interval list in both directions, against seconds in a plain vector; and the nodes that a list keeps spare.
+ghost use Rattle.std.specs.Prelude.{◌≡◌, ◌<◌, [], ◌∷◌, length};
+ghost use Rattle.interval_list.specs.Intervals.{span, spans_of};
 
 use interval_list::{Ids, IntervalList};
 use std::alloc::{AllocError, Global};
@@ -105,5 +106,35 @@ fn walks_in_both_directions_agree_with_the_seconds(rt: HostRuntime) -> Result<()
         assert_eq!(rt; spans(alloc, &list)?, expected, "seed 20261127");
         assert_eq!(rt; spans_back(alloc, &list)?, expected, "seed 20261127");
     }
+    Ok(())
+}
+
+// With three nodes: all seconds up to 3600, but for those of two spans.
+fn part_twice(list: &mut IntervalList)
+    requires empty { list.old.windows ≡ [] }
+    requires three { length list.old.spare ≡ 3 }
+    ensures { spans_of list.new.windows ≡ span 0 100 ∷ span 130 200 ∷ span 230 3600 ∷ [] }
+{
+    list.add(0, 3600);
+    list.subtract(100, 130);
+    list.subtract(200, 230);
+}
+
+fn span(from: Time, until: Time) -> Span {
+    Span { from, until }
+}
+
+#[test]
+fn windows_that_become_one_leave_their_nodes_spare(rt: HostRuntime) -> Result<(), Fail> {
+    let alloc = rt.alloc();
+    let mut list = IntervalList::new(alloc);
+    list.reserve(&mut Ids { next: 0 }, 3)?;
+    part_twice(&mut list);
+    let parted = [span(0, 100), span(130, 200), span(230, 3600)];
+    assert_eq!(rt; spans(alloc, &list)?.as_slice(), parted.as_slice());
+    assert_eq!(rt; list.spare(), 0);
+    list.add(90, 240);
+    assert_eq!(rt; spans(alloc, &list)?.as_slice(), [span(0, 3600)].as_slice());
+    assert_eq!(rt; list.spare(), 2);
     Ok(())
 }

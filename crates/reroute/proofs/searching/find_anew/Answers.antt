@@ -7,8 +7,8 @@ use Rattle.place_cells.specs.Laid.{windows_of}
 use Rattle.reroute.proofs.FoundAnew.{IsAnswerAnew, departure-early, begins-anew, goes-on}
 use Rattle.reroute.proofs.searching.find_anew.Goals as goal
 
-pub depart_in-requires-clause-times : goal.depart_in-requires-clause-times
-depart_in-requires-clause-times c =
+pub depart-requires-clause-times : goal.depart-requires-clause-times
+depart-requires-clause-times c =
     let early = departure-early _ c.in-Departure.from c.in-Departure.own c.in-Departure.asked c.in-Departure.queue c.args.flight.now.steps (rw c.in-Departure.is at c.requires.met) in
     omega (arith, early, c.horizon-horizon.ensures.rules.horizon.1, c.saturating_sub-earliest.ensures)
 

@@ -7,16 +7,16 @@ use Rattle.certificate.specs.Asked.{arrival_any, AnswersChoice}
 use Rattle.taxi_engine.proofs.SearchedLaws.{windows-by, conditions-found}
 use Rattle.taxi_engine.proofs.choosing.find_arrival_any.Goals as goal
 
-pub choose_arrival_in-requires-clause-horizon : goal.choose_arrival_in-requires-clause-horizon
-choose_arrival_in-requires-clause-horizon c =
+pub choose_arrival-requires-clause-horizon : goal.choose_arrival-requires-clause-horizon
+choose_arrival-requires-clause-horizon c =
     subst (λ store. All (All (λ w. w.until ≤ c.args.airport.now.horizon)) (windows_of store)) (sym c.store-store.ensures)
     (windows-by c.args.airport.now c.args.ledger.now c.requires.fits c.requires.unlifted)
 
-pub choose_arrival_in-requires-clause-nodes : goal.choose_arrival_in-requires-clause-nodes
-choose_arrival_in-requires-clause-nodes c = subst (λ (nodes : List Node). All (λ n. n.0 < length c.args.airport.now.nodes) nodes) (sym c.as_slice-nodes.ensures) c.requires.nodes
+pub choose_arrival-requires-clause-nodes : goal.choose_arrival-requires-clause-nodes
+choose_arrival-requires-clause-nodes c = subst (λ (nodes : List Node). All (λ n. n.0 < length c.args.airport.now.nodes) nodes) (sym c.as_slice-nodes.ensures) c.requires.nodes
 
 pub returns : goal.returns
 returns c =
     let same = conditions-found c.args.airport.now c.args.ledger.now c.requires.fits c.requires.unlifted c.args.asked.now.class c.clearance-clearance.result c.store-store.result.now c.clearance-clearance.ensures.clearance c.store-store.ensures in
-    subst (λ (nodes : List Node). IfOk c.choose_arrival_in.result (AnswersChoice (conditions_in c.args.airport.now c.args.asked.now.class c.args.ledger.now.state) (arrival_any c.args.asked.now.from nodes c.args.time c.args.hold))) c.as_slice-nodes.ensures
-    (subst (λ k. IfOk c.choose_arrival_in.result (AnswersChoice k (arrival_any c.args.asked.now.from c.as_slice-nodes.result.now c.args.time c.args.hold))) same c.choose_arrival_in.ensures)
+    subst (λ (nodes : List Node). IfOk c.choose_arrival.result (AnswersChoice (conditions_in c.args.airport.now c.args.asked.now.class c.args.ledger.now.state) (arrival_any c.args.asked.now.from nodes c.args.time c.args.hold))) c.as_slice-nodes.ensures
+    (subst (λ k. IfOk c.choose_arrival.result (AnswersChoice k (arrival_any c.args.asked.now.from c.as_slice-nodes.result.now c.args.time c.args.hold))) same c.choose_arrival.ensures)

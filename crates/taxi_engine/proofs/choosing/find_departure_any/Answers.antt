@@ -7,18 +7,18 @@ use Rattle.place_cells.specs.Laid.{windows_of}
 use Rattle.taxi_engine.proofs.SearchedLaws.{windows-by, conditions-found}
 use Rattle.taxi_engine.proofs.choosing.find_departure_any.Goals as goal
 
-pub choose_departure_in-requires-clause-horizon : goal.choose_departure_in-requires-clause-horizon
-choose_departure_in-requires-clause-horizon c =
+pub choose_departure-requires-clause-horizon : goal.choose_departure-requires-clause-horizon
+choose_departure-requires-clause-horizon c =
     subst (λ store. All (All (λ w. w.until ≤ c.args.airport.now.horizon)) (windows_of store)) (sym c.store-store.ensures)
     (windows-by c.args.airport.now c.args.ledger.now c.requires.fits c.requires.unlifted)
 
-pub choose_departure_in-requires-clause-nodes : goal.choose_departure_in-requires-clause-nodes
-choose_departure_in-requires-clause-nodes c = subst (λ (nodes : List Node). All (λ n. n.0 < length c.args.airport.now.nodes) nodes) (sym c.as_slice-nodes.ensures) c.requires.nodes
+pub choose_departure-requires-clause-nodes : goal.choose_departure-requires-clause-nodes
+choose_departure-requires-clause-nodes c = subst (λ (nodes : List Node). All (λ n. n.0 < length c.args.airport.now.nodes) nodes) (sym c.as_slice-nodes.ensures) c.requires.nodes
 
 pub returns : goal.returns
 returns c =
     let same = conditions-found c.args.airport.now c.args.ledger.now c.requires.fits c.requires.unlifted c.args.asked.now.class c.clearance-clearance.result c.store-store.result.now c.clearance-clearance.ensures.clearance c.store-store.ensures in
     let k = conditions_in c.args.airport.now c.args.asked.now.class c.args.ledger.now.state in
-    subst (λ (earliest : ℕ). IfOk c.choose_departure_in.result (AnswersDepartureChoice k c.args.asked.now.from c.args.asked.now.nodes earliest c.args.time)) c.saturating_sub-earliest.ensures
-    (subst (λ (nodes : List Node). IfOk c.choose_departure_in.result (AnswersDepartureChoice k c.args.asked.now.from nodes c.saturating_sub-earliest.result c.args.time)) c.as_slice-nodes.ensures
-    (subst (λ k. IfOk c.choose_departure_in.result (AnswersDepartureChoice k c.args.asked.now.from c.as_slice-nodes.result.now c.saturating_sub-earliest.result c.args.time)) same c.choose_departure_in.ensures))
+    subst (λ (earliest : ℕ). IfOk c.choose_departure.result (AnswersDepartureChoice k c.args.asked.now.from c.args.asked.now.nodes earliest c.args.time)) c.saturating_sub-earliest.ensures
+    (subst (λ (nodes : List Node). IfOk c.choose_departure.result (AnswersDepartureChoice k c.args.asked.now.from nodes c.saturating_sub-earliest.result c.args.time)) c.as_slice-nodes.ensures
+    (subst (λ k. IfOk c.choose_departure.result (AnswersDepartureChoice k c.args.asked.now.from c.as_slice-nodes.result.now c.saturating_sub-earliest.result c.args.time)) same c.choose_departure.ensures))

@@ -7,14 +7,14 @@ use Rattle.place_cells.specs.Laid.{windows_of}
 use Rattle.taxi_engine.proofs.SearchedLaws.{windows-by, conditions-found}
 use Rattle.taxi_engine.proofs.routing.find_arrival.Goals as goal
 
-pub arrive_in-requires-clause-horizon : goal.arrive_in-requires-clause-horizon
-arrive_in-requires-clause-horizon c =
+pub arrive-requires-clause-horizon : goal.arrive-requires-clause-horizon
+arrive-requires-clause-horizon c =
     subst (λ store. All (All (λ w. w.until ≤ c.args.airport.now.horizon)) (windows_of store)) (sym c.store.ensures)
     (windows-by c.args.airport.now c.args.ledger.now c.requires.fits c.requires.unlifted)
 
 pub returns : goal.returns
 returns c =
-    subst (λ k. IfOk c.arrive_in.result (AnswersArrival k (LeavesNodeWithin (layout_of c.args.airport.now) c.args.asked.now.from c.args.time (c.args.time + c.args.hold)) c.args.asked.now.to))
+    subst (λ k. IfOk c.arrive.result (AnswersArrival k (LeavesNodeWithin (layout_of c.args.airport.now) c.args.asked.now.from c.args.time (c.args.time + c.args.hold)) c.args.asked.now.to))
     (conditions-found c.args.airport.now c.args.ledger.now c.requires.fits c.requires.unlifted c.args.asked.now.class c.clearance-clearance.result c.store.result.now
     c.clearance-clearance.ensures.clearance c.store.ensures)
-    (c.arrive_in.ensures 0)
+    (c.arrive.ensures 0)

@@ -8,8 +8,8 @@ use Rattle.place_cells.specs.Laid.{windows_of}
 use Rattle.taxi_engine.proofs.SearchedLaws.{windows-by, conditions-found}
 use Rattle.taxi_engine.proofs.routing.find_departure.Goals as goal
 
-pub depart_in-requires-clause-horizon : goal.depart_in-requires-clause-horizon
-depart_in-requires-clause-horizon c =
+pub depart-requires-clause-horizon : goal.depart-requires-clause-horizon
+depart-requires-clause-horizon c =
     subst (λ store. All (All (λ w. w.until ≤ c.args.airport.now.horizon)) (windows_of store)) (sym c.store-store.ensures)
     (windows-by c.args.airport.now c.args.ledger.now c.requires.fits c.requires.unlifted)
 
@@ -19,6 +19,6 @@ returns c =
     let class = c.args.asked.now.class in
     let same = conditions-found airport c.args.ledger.now c.requires.fits c.requires.unlifted class c.clearance-clearance.result c.store-store.result.now
     c.clearance-clearance.ensures.clearance c.store-store.ensures in
-    subst (λ (earliest : ℕ). IfOk c.depart_in.result (AnswersDeparture (conditions_in airport class c.args.ledger.now.state) c.args.asked.now.from (ReachesNodeWithin (layout_of airport) c.args.asked.now.to earliest c.args.time)))
+    subst (λ (earliest : ℕ). IfOk c.depart.result (AnswersDeparture (conditions_in airport class c.args.ledger.now.state) c.args.asked.now.from (ReachesNodeWithin (layout_of airport) c.args.asked.now.to earliest c.args.time)))
     c.saturating_sub-earliest.ensures
-    (subst (λ k. IfOk c.depart_in.result (AnswersDeparture k c.args.asked.now.from (ReachesNodeWithin (layout_of airport) c.args.asked.now.to c.saturating_sub-earliest.result c.args.time))) same c.depart_in.ensures)
+    (subst (λ k. IfOk c.depart.result (AnswersDeparture k c.args.asked.now.from (ReachesNodeWithin (layout_of airport) c.args.asked.now.to c.saturating_sub-earliest.result c.args.time))) same c.depart.ensures)

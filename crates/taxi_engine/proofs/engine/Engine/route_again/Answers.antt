@@ -11,15 +11,15 @@ use Rattle.taxi_engine.specs.Rerouted.{request_to, IsToldAgain}
 use Rattle.taxi_engine.proofs.ReroutedTold.{flight-meets, IsFoundFor, found-unrefused, found-arcs, made-another, route-told, no_route-told}
 use Rattle.taxi_engine.proofs.engine.Engine.route_again.Goals as goal
 
-pub again_in-requires-clause-meets : goal.again_in-requires-clause-meets
-again_in-requires-clause-meets c x there = flight-meets c.self.inside.airport c.self.inside.ledger.state c.self.invariant.0 c.args.name.now x there
+pub again-requires-clause-meets : goal.again-requires-clause-meets
+again-requires-clause-meets c x there = flight-meets c.self.inside.airport c.self.inside.ledger.state c.self.invariant.0 c.args.name.now x there
 
 pub change_route-requires-clause-another : goal.change_route-requires-clause-another
 change_route-requires-clause-another c =
     let airport = c.self.inside.airport in
-    let same = c.again_in.ensures.as_before.state in
+    let same = c.again.ensures.as_before.state in
     let told = rw c.in-Ok-Route.field-0-is at c.in-Ok-Route.ensures.found in
-    made-another airport c.again_in.new.ledger.state c.args.name.now c.args.time c.args.to
+    made-another airport c.again.new.ledger.state c.args.name.now c.args.time c.args.to
     (subst (IsSound airport) (sym same) c.self.invariant.0) c.in-Ok-Route.steps c.in-Ok-Route.labels
     (subst (λ (s : State). IsFoundFor airport s c.args.name.now c.args.time c.args.to (found.Route c.in-Ok-Route.steps c.in-Ok-Route.labels)) (sym same) told)
     c.on_another_route-flight.result c.on_another_route-flight.ensures
@@ -41,7 +41,7 @@ returns-in-Ok-Route c =
     let flight = c.on_another_route-flight.result in
     let steps = c.in-Ok-Route.steps in
     let labels = c.in-Ok-Route.labels in
-    let same = c.again_in.ensures.as_before.state in
+    let same = c.again.ensures.as_before.state in
     let none = found-unrefused (again_refusal c.self.inside.ledger.state.flights name c.args.time c.args.to) c.in-Ok-Route.field-0 c.in-Ok-Route.ensures.refused in
     let told = rw c.in-Ok-Route.field-0-is at c.in-Ok-Route.ensures.found in
     let made = subst (λ (s : State). IfSome (flight_named name s.flights) (λ f. flight ≡ record f { name = name; request = request_to c.args.to f.request; steps = steps })) same c.on_another_route-flight.ensures in
@@ -55,7 +55,7 @@ returns-in-Ok-NoRoute c =
     let airport = c.self.inside.airport in
     let name = c.args.name.now in
     let labels = c.in-Ok-NoRoute.labels in
-    let same = c.again_in.ensures.as_before.state in
+    let same = c.again.ensures.as_before.state in
     let none = found-unrefused (again_refusal c.self.inside.ledger.state.flights name c.args.time c.args.to) c.in-Ok-NoRoute.field-0 c.in-Ok-NoRoute.ensures.refused in
     let told = rw c.in-Ok-NoRoute.field-0-is at c.in-Ok-NoRoute.ensures.found in
     subst (λ (s : EngineState). IsToldAgain name c.args.time c.args.to s c.tell_no_route.new.self) c.self.view_is

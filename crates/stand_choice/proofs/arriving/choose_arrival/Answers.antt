@@ -12,7 +12,7 @@ use Rattle.forward_search.specs.Reached.{LeadsTo}
 use Rattle.stand_choice.specs.Ways.{IsFirstByName, IsReachedAt}
 use Rattle.stand_choice.proofs.EndNodes.{end-exists}
 use Rattle.stand_choice.proofs.ArrivalWays.{way-among, way-is, way-none_earlier, way-chosen}
-use Rattle.stand_choice.proofs.arriving.choose_arrival_in.Goals as goal
+use Rattle.stand_choice.proofs.arriving.choose_arrival.Goals as goal
 
 pub way_of-best-requires : goal.way_of-best-requires
 way_of-best-requires c =

@@ -9,7 +9,7 @@ use Rattle.stand_choice.specs.Ways.{IsFirstByName, IsLeftForAt}
 use Rattle.stand_choice.proofs.FirstNames.{alone}
 use Rattle.stand_choice.proofs.EndNodes.{within-one}
 use Rattle.stand_choice.proofs.DepartureWays.{found-read, left-among, left-for, left-chosen, alone-chosen}
-use Rattle.stand_choice.proofs.departing.choose_departure_in.Goals as goal
+use Rattle.stand_choice.proofs.departing.choose_departure.Goals as goal
 
 pub returns-then-to-eq1 : goal.returns-then-to-eq1
 returns-then-to-eq1 c =
