@@ -22,7 +22,7 @@ use std::rt::Files;
 use std::{env, io};
 use taxi_base::Memory;
 use taxi_io::{FileShelf, OutputSink};
-use top::taxi;
+use top::exit_of;
 
 // Makes the call with these words over the machine's files and standard output, and ends with the number of its status.
 fn call<R: Files + Input + Print + AllocGlobal>(
@@ -36,7 +36,7 @@ fn call<R: Files + Input + Print + AllocGlobal>(
         Ok(words) => {
             let mut shelf = FileShelf::new(rt);
             let mut out = OutputSink::new(io::writer(rt));
-            exit_code(taxi(rt.alloc(), words.as_slice(), &mut shelf, &mut out))
+            exit_of(rt.alloc(), words.as_slice(), &mut shelf, &mut out)
         }
         Err(Memory) => exit_code(Status::Memory),
     }

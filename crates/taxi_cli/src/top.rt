@@ -1,20 +1,23 @@
 //! The call that the program makes.
 ghost use Rattle.std.specs.Prelude.{◌≡◌, ◌⊎◌, ◌≤◌, ℕ, List, map, string_bytes, Some, None};
+ghost use Rattle.std.specs.Process.{exit_status};
 ghost use Rattle.taxi_io.specs.Counts.{Rose};
 ghost use Rattle.taxi_io.specs.Files.{Files};
 ghost use Rattle.program_words.specs.Asked.{FileNames, Traffic, Route, Check, Generate, Migrate, Import, IsNamed, asked_by};
 ghost use Rattle.program_files.specs.Inputs.{IsInOrder};
 ghost use Rattle.taxi_cli.specs.Due.{IsDueOf};
 ghost use Rattle.taxi_cli.specs.Endings.{Ends};
+ghost use Rattle.taxi_cli.specs.Exit.{ExitsWith};
 ghost use Rattle.taxi_cli.specs.Headline.{Headline};
 ghost use Rattle.taxi_cli.specs.Pace.{HaveBegun, KeepsPace, commands_left};
 
 use crate::checking::check;
 use crate::generating::generate;
 use crate::routing::route;
-use program_endings::{Status, write_last};
+use program_endings::{Status, exit_code, write_last};
 use program_words::{Asked, asked_by, usage_line};
 use std::alloc::Global;
+use std::process::ExitCode;
 use taxi_io::{Shelf, Sink};
 use text_verbs::{import, migrate};
 
@@ -84,4 +87,22 @@ pub fn taxi<S: Shelf, K: Sink>(
         Some(Asked::Import { airport, schedule }) => import(alloc, airport, schedule, shelf, out),
         None => write_last(out, usage_line(), Status::Usage),
     }
+}
+
+/// Does what the words ask for, and gives the number of the status with which it ends as the program's exit status.
+pub fn exit_of<S: Shelf, K: Sink>(
+    alloc: Global,
+    words: &[String],
+    shelf: &mut S,
+    out: &mut K,
+) -> ExitCode
+    requires known { (name : List ℕ) → IsNamed (asked_by (map string_bytes words.now)) name → S.knows shelf.old name }
+    ensures number { ExitsWith (record {
+      files = S.files shelf.old;
+      reads = (S.faults shelf.old, S.faults shelf.new);
+      writes = (K.faults out.old, K.faults out.new);
+      taken = (K.written out.old, K.written out.new);
+    }) (asked_by (map string_bytes words.now)) (exit_status result) }
+{
+    exit_code(taxi(alloc, words, shelf, out))
 }
