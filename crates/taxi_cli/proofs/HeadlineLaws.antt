@@ -168,7 +168,7 @@ whole-answer told names text t = record {
 -- ---- the call
 
 -- of a told airport file there is one judgement
-one-judgement : (files : Files) (name : List ℕ) (a b : Result Airport RecordFault) → IsJudged (Some files) name a → IsJudged (Some files) name b → a ≡ b
+pub one-judgement : (files : Files) (name : List ℕ) (a b : Result Airport RecordFault) → IsJudged (Some files) name a → IsJudged (Some files) name b → a ≡ b
 one-judgement files name a b one two =
     let x = one.file in
     let y = two.file in
@@ -176,7 +176,7 @@ one-judgement files name a b one two =
     sym one.judged ∙ ap airport_of same ∙ two.judged
 
 -- a told file within a limit has no more bytes than that
-not-longer : (files : Files) (name bytes : List ℕ) (limit : ℕ) → IsFile (Some files) name bytes → length bytes ≤ limit → IsLonger (Some files) name limit → ⊥
+pub not-longer : (files : Files) (name bytes : List ℕ) (limit : ℕ) → IsFile (Some files) name bytes → length bytes ≤ limit → IsLonger (Some files) name limit → ⊥
 not-longer files name bytes limit file within longer =
     let x = longer.1 in
     let same : bytes ≡ longer.0 = cc in

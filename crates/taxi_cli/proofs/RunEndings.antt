@@ -7,7 +7,7 @@ use Rattle.taxi_base.specs.Airport.{Airport}
 use Rattle.taxi_base.specs.State.{no_holder}
 use Rattle.taxi_text.specs.Lines.{commands_of, lines_of}
 use Rattle.taxi_io.specs.Counts.{Rose}
-use Rattle.taxi_io.specs.Files.{Files, IsFile, Begins, BeganMore, Gave}
+use Rattle.taxi_io.specs.Files.{Files, IsFile, IsLonger, Begins, BeganMore, Gave}
 use Rattle.taxi_io.specs.Written.{Grew, GrewInPart}
 use Rattle.taxi_io.specs.declared.trouble.Trouble.{Trouble}
 use Rattle.taxi_io.specs.declared.trouble.Trouble.TheVariants as trouble
@@ -25,15 +25,16 @@ use Rattle.program_files.specs.declared.stop.Stop.TheVariants as stop
 use Rattle.program_endings.specs.declared.status.Status.{Status}
 use Rattle.program_endings.specs.declared.status.Status.TheVariants as status
 use Rattle.program_words.specs.Asked.{FileNames, Route}
-use Rattle.program_files.specs.Inputs.{commands_limit, IsJudged}
+use Rattle.program_files.specs.Inputs.{airport_limit, commands_limit, IsJudged}
 use Rattle.program_files.specs.Lines.{refusal_line}
 use Rattle.program_endings.specs.Lines.{read_fault_line, too_large_line}
 use Rattle.taxi_cli.specs.Endings.{Call, IsDueText, IsWhole, IsCutShort, Ends}
 use Rattle.program_endings.specs.LastLine.{status_after, IsWriting, EndsWith}
 use Rattle.program_files.specs.Stops.{IsCauseOfAirport, StopsWith, IsCauseOfBegin}
 use Rattle.taxi_cli.specs.RunEnds.{HaltsWith, HasOutcome, IsRunEnd}
-use Rattle.taxi_cli.specs.Pace.{HaveBegun, bytes_told, left_of, commands_left, IsHalted, IsCaughtUp, KeepsPace}
+use Rattle.taxi_cli.specs.Pace.{HaveBegun, bytes_told, left_of, commands_left, IsHalted, IsCaughtUp, IsCutInStep, KeepsPace, KeepsPaceOnceBegun}
 use Rattle.taxi_cli.proofs.EndingLaws.{writing-ends, last-ends}
+use Rattle.taxi_cli.proofs.HeadlineLaws.{one-judgement, not-longer}
 
 -- ---- what is written behind blocks
 
@@ -105,13 +106,13 @@ line-told line whole ended faults taken ends is no_fault no_memory = go ends.0 (
   go (Err trouble.Failed) same writing = absurd (no_fault same)
   go (Err trouble.Memory) same writing = absurd (no_memory same)
 
--- a front of it is written
+-- a front of it is written, and not the whole
 front-told : (line : List ℕ) (whole ended : Status) (faults : ℕ × ℕ) (taken : Told) → EndsWith line whole faults taken ended → ended ≡ status.WriteFault
-    → (whole ≡ status.WriteFault → ⊥) → (front : List ℕ) × Grew taken.0 taken.1 front
+    → (whole ≡ status.WriteFault → ⊥) → GrewInPart taken.0 taken.1 line
 front-told line whole ended faults taken ends is no_whole = go ends.0 (sym ends.2 ∙ is) ends.1 where
-  go : (written : Result (Unit {0}) Trouble) → status_after written whole ≡ status.WriteFault → IsWriting line faults taken written → (front : List ℕ) × Grew taken.0 taken.1 front
+  go : (written : Result (Unit {0}) Trouble) → status_after written whole ≡ status.WriteFault → IsWriting line faults taken written → GrewInPart taken.0 taken.1 line
   go (Ok done) same writing = absurd (no_whole same)
-  go (Err trouble.Failed) same writing = (writing.front.0, writing.front.4)
+  go (Err trouble.Failed) same writing = writing.front
   go (Err trouble.Memory) same writing = absurd (cc same)
 
 -- ---- before a command is read
@@ -173,7 +174,7 @@ module _ (call : Call) (names : FileNames) (airport : Airport) (accepted : IsJud
         after = halted.after;
         answered = rw (append-nil (ended_commands_of (take commands_limit taken))) halted.answered;
         front = front.0;
-        grew = front.1;
+        grew = front.4;
       }
 
   halted-told : (taken line : List ℕ) (whole ended : Status) (faults : ℕ × ℕ) → IsHaltedRun airport commands_limit (rest, left) (call.taken.0, between) taken
@@ -220,7 +221,7 @@ module _ (call : Call) (names : FileNames) (airport : Airport) (accepted : IsJud
                 ∙ ap (λ (t : List ℕ). ended_commands_of t ++ commands_among first.0) (sym bytes),
           )
 
-      caught_up : (front : List ℕ) × Grew between call.taken.1 front → IsCaughtUp airport (rest, left) call.taken
+      caught_up : GrewInPart between call.taken.1 line → IsCaughtUp airport (rest, left) call.taken
       caught_up front = record {
         taken = whole.bytes;
         gave = whole.gave;
@@ -230,7 +231,7 @@ module _ (call : Call) (names : FileNames) (airport : Airport) (accepted : IsJud
         after = whole.after;
         answered = subst (λ (c : List (List ℕ)). AreAnswered airport no_holder c (call.taken.0, between) count whole.after) others.1 whole.answered;
         front = front.0;
-        grew = front.1;
+        grew = front.4;
       }
 
   pub halt-pace : (why : RunRefused) (ended : Status) (faults : ℕ × ℕ) → IsStopped airport commands_limit (rest, left) (call.taken.0, between) why
@@ -395,3 +396,50 @@ run-ends call names airport told begun left before ended accepted same earlier (
       subst (λ (l : Option (List ℕ)). KeepsPace call names (bytes_told call.files names.commands, l) ended) rest
           (subst (λ (f : Option (List ℕ)). KeepsPace call names (f, left) ended) whole both.1),
     )
+
+-- ---- pace from when the command file is begun
+
+module _ (call : Call) (names : FileNames) (left : Told) (ended : Status) where
+  pub pace-begun : KeepsPace call names left ended → KeepsPaceOnceBegun call names left ended
+  pace-begun pace = record {
+    fault = λ is. inr (pace.fault is);
+    large = λ is. inr (pace.large is);
+    late = λ is files told airport accepted. inr (late (pace.late is).0 (pace.late is).1 (pace.late is).2 files told airport accepted);
+  }
+    where
+      late : (mine : Airport) → IsJudged call.files names.airport (Ok mine) → IsCutInStep mine left call.taken → (files : Files) → call.files ≡ Some files
+          → (airport : Airport) → IsJudged call.files names.airport (Ok airport) → IsCutInStep airport left call.taken
+      late mine judged cut files told airport accepted =
+          let one = subst (λ (t : Option Files). IsJudged t names.airport (Ok mine)) told judged in
+          let two = subst (λ (t : Option Files). IsJudged t names.airport (Ok airport)) told accepted in
+          let same = one-judgement files names.airport (Ok mine) (Ok airport) one two in
+          let is : mine ≡ airport = cc same in
+          subst (λ (a : Airport). IsCutInStep a left call.taken) is cut
+
+  -- the airport file ends the call before the command file is begun
+  pub airport-pace : (why : Stop) → IsCauseOfAirport call.files names.airport call.reads why → StopsWith why call.writes call.taken ended → KeepsPaceOnceBegun call names left ended
+  airport-pace (stop.Refused at why) cause stops =
+      let line : List ℕ = refusal_line (record { at = at; why = why }) in
+      record {
+        fault = λ is. absurd (other-status line status.AirportRefused ended status.ReadFault call.writes call.taken stops is (λ e. cc e) (λ e. cc e) (λ e. cc e));
+        large = λ is. absurd (other-status line status.AirportRefused ended status.TooLarge call.writes call.taken stops is (λ e. cc e) (λ e. cc e) (λ e. cc e));
+        late = λ is files told airport accepted.
+            let one = subst (λ (t : Option Files). IsJudged t names.airport (Ok airport)) told accepted in
+            let two = subst (λ (t : Option Files). IsJudged t names.airport (Err (record { at = at; why = why }))) told cause in
+            let same = one-judgement files names.airport (Ok airport) (Err (record { at = at; why = why })) one two in
+            absurd (cc same);
+      }
+  airport-pace stop.ReadFault cause stops = record {
+    fault = λ is. inl (line-told read_fault_line status.ReadFault ended call.writes call.taken stops is (λ e. cc e) (λ e. cc e));
+    large = λ is. absurd (other-status read_fault_line status.ReadFault ended status.TooLarge call.writes call.taken stops is (λ e. cc e) (λ e. cc e) (λ e. cc e));
+    late = λ is files told airport accepted. inl (cause, front-told read_fault_line status.ReadFault ended call.writes call.taken stops is (λ e. cc e));
+  }
+  airport-pace stop.TooLarge cause stops = record {
+    fault = λ is. absurd (other-status too_large_line status.TooLarge ended status.ReadFault call.writes call.taken stops is (λ e. cc e) (λ e. cc e) (λ e. cc e));
+    large = λ is. inl (cause, line-told too_large_line status.TooLarge ended call.writes call.taken stops is (λ e. cc e) (λ e. cc e));
+    late = λ is files told airport accepted.
+        let judged = subst (λ (t : Option Files). IsJudged t names.airport (Ok airport)) told accepted in
+        let longer = subst (λ (t : Option Files). IsLonger t names.airport airport_limit) told cause in
+        absurd (not-longer files names.airport judged.bytes airport_limit judged.file judged.within longer);
+  }
+  airport-pace stop.Memory cause stops = pace-begun (memory-pace call names left ended stops.0)

@@ -2,15 +2,16 @@
 use Rattle.std.specs.Prelude.{◌≡◌, ◌<◌, ◌≤◌, ◌⊎◌, ℕ, List, [], ◌∷◌, ◌++◌, Bool, true, false, length, take, unwrap_or, Option, Some, None, Ok}
 use Rattle.taxi_base.specs.Airport.{Airport}
 use Rattle.taxi_base.specs.State.{State, no_holder}
-use Rattle.taxi_io.specs.Files.{Files, Gave, file_of}
-use Rattle.taxi_io.specs.Written.{Grew}
+use Rattle.taxi_io.specs.Counts.{Rose}
+use Rattle.taxi_io.specs.Files.{Files, Gave, IsLonger, file_of}
+use Rattle.taxi_io.specs.Written.{Grew, GrewInPart}
 use Rattle.command_run.specs.Ended.{ended_commands_of}
 use Rattle.command_run.specs.Answered.{Told, AreAnswered, IsHaltedRun, IsPrompt}
 use Rattle.program_endings.specs.declared.status.Status.{Status}
 use Rattle.program_endings.specs.declared.status.Status.TheVariants.{ReadFault, WriteFault, TooLarge}
 use Rattle.program_words.specs.Asked.{FileNames}
 use Rattle.program_endings.specs.Lines.{read_fault_line, too_large_line}
-use Rattle.program_files.specs.Inputs.{commands_limit, IsJudged}
+use Rattle.program_files.specs.Inputs.{airport_limit, commands_limit, IsJudged}
 use Rattle.taxi_cli.specs.Endings.{Call}
 
 -- both files of a run were tried, by the names tried before and after, where they are told
@@ -52,11 +53,31 @@ pub record IsCaughtUp (airport : Airport) (left written : Told) : Type 0 where
   pub front : List ℕ
   pub grew : Grew between written.1 front
 
+-- a read failed in the command file, of which no more was taken than its limit
+abbrev pub IsHaltedByFault : Call → FileNames → Told → Type 0
+IsHaltedByFault call names left = (taken : List ℕ) × (length taken ≤ commands_limit) × IsHalted call names left taken read_fault_line
+
+-- the command file has more bytes than its limit
+abbrev pub IsHaltedByLimit : Call → FileNames → Told → Type 0
+IsHaltedByLimit call names left = (taken : List ℕ) × (commands_limit < length taken) × IsHalted call names left taken too_large_line
+
+-- a block or the last line can't be written whole, and the command file was taken only as far as is due then
+abbrev pub IsCutInStep : Airport → Told → Told → Type 0
+IsCutInStep airport left written = IsPrompt airport left written ⊎ IsCaughtUp airport left written
+
 -- A run answers each command before it takes more of the file. Where reading ends in the command file, exactly the commands are
 -- answered whose lines have ended in what was taken. Where a block can't be written whole, no more was taken than the line of its
 -- command and fewer than 4,096 bytes ahead.
 pub record KeepsPace (call : Call) (names : FileNames) (left : Told) (ended : Status) : Type 0 where
-  pub fault : ended ≡ ReadFault → (taken : List ℕ) × (length taken ≤ commands_limit) × IsHalted call names left taken read_fault_line
-  pub large : ended ≡ TooLarge → (taken : List ℕ) × (commands_limit < length taken) × IsHalted call names left taken too_large_line
-  pub late : ended ≡ WriteFault → (airport : Airport) × IsJudged call.files names.airport (Ok airport)
-      × (IsPrompt airport left call.taken ⊎ IsCaughtUp airport left call.taken)
+  pub fault : ended ≡ ReadFault → IsHaltedByFault call names left
+  pub large : ended ≡ TooLarge → IsHaltedByLimit call names left
+  pub late : ended ≡ WriteFault → (airport : Airport) × IsJudged call.files names.airport (Ok airport) × IsCutInStep airport left call.taken
+
+-- A run keeps pace with its command file once that is begun, whether or not it is told which names were tried. Before that the last
+-- line alone is written: that a read failed, or that the airport file has more bytes than its limit. Where the files are told and the
+-- airport is accepted, the write that fails is of the line for a failed read, or it comes in step with the command file as above.
+pub record KeepsPaceOnceBegun (call : Call) (names : FileNames) (left : Told) (ended : Status) : Type 0 where
+  pub fault : ended ≡ ReadFault → Grew call.taken.0 call.taken.1 read_fault_line ⊎ IsHaltedByFault call names left
+  pub large : ended ≡ TooLarge → (IsLonger call.files names.airport airport_limit × Grew call.taken.0 call.taken.1 too_large_line) ⊎ IsHaltedByLimit call names left
+  pub late : ended ≡ WriteFault → (files : Files) → call.files ≡ Some files → (airport : Airport) → IsJudged call.files names.airport (Ok airport)
+      → (Rose call.reads.0 call.reads.1 × GrewInPart call.taken.0 call.taken.1 read_fault_line) ⊎ IsCutInStep airport left call.taken

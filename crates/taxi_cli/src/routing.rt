@@ -6,7 +6,7 @@ ghost use Rattle.command_run.specs.Answered.{IsWholeRun, IsStopped};
 ghost use Rattle.program_words.specs.Asked.{Route};
 ghost use Rattle.program_files.specs.Inputs.{commands_limit, IsInOrder};
 ghost use Rattle.taxi_cli.specs.Endings.{Ends};
-ghost use Rattle.taxi_cli.specs.Pace.{HaveBegun, KeepsPace, commands_left};
+ghost use Rattle.taxi_cli.specs.Pace.{HaveBegun, KeepsPace, KeepsPaceOnceBegun, commands_left};
 ghost use Rattle.taxi_cli.specs.RunEnds.{HaltsWith, IsRunEnd};
 
 use airport_file::Airport;
@@ -37,6 +37,13 @@ pub(crate) fn route<S: Shelf, K: Sink>(
     }) (Some (Route (record { airport = airport.now; commands = commands.now }))) result }
     ensures order { IsInOrder (S.files shelf.old) (Some (Route (record { airport = airport.now; commands = commands.now }))) (S.tried shelf.old) (S.tried shelf.new) }
     ensures pace { HaveBegun (record { airport = airport.now; commands = commands.now }) (S.tried shelf.old) (S.tried shelf.new) → KeepsPace (record {
+      files = S.files shelf.old;
+      reads = (S.faults shelf.old, S.faults shelf.new);
+      writes = (K.faults out.old, K.faults out.new);
+      taken = (K.written out.old, K.written out.new);
+    }) (record { airport = airport.now; commands = commands.now })
+        (commands_left (S.files shelf.old) (record { airport = airport.now; commands = commands.now }) (S.begun shelf.new) (S.rest shelf.new)) result }
+    ensures once_begun { KeepsPaceOnceBegun (record {
       files = S.files shelf.old;
       reads = (S.faults shelf.old, S.faults shelf.new);
       writes = (K.faults out.old, K.faults out.new);

@@ -9,7 +9,7 @@ ghost use Rattle.taxi_cli.specs.Due.{IsDueOf};
 ghost use Rattle.taxi_cli.specs.Endings.{Ends};
 ghost use Rattle.taxi_cli.specs.Exit.{ExitsWith};
 ghost use Rattle.taxi_cli.specs.Headline.{Headline};
-ghost use Rattle.taxi_cli.specs.Pace.{HaveBegun, KeepsPace, commands_left};
+ghost use Rattle.taxi_cli.specs.Pace.{HaveBegun, KeepsPace, KeepsPaceOnceBegun, commands_left};
 
 use crate::checking::check;
 use crate::generating::generate;
@@ -68,6 +68,14 @@ pub fn taxi<S: Shelf, K: Sink>(
           writes = (K.faults out.old, K.faults out.new);
           taken = (K.written out.old, K.written out.new);
         }) names (commands_left (S.files shelf.old) names (S.begun shelf.new) (S.rest shelf.new)) result }
+
+    // Also where the names that were tried aren't told, it does so once the command file is begun.
+    ensures once_begun { (names : FileNames) → asked_by (map string_bytes words.now) ≡ Some (Route names) → KeepsPaceOnceBegun (record {
+      files = S.files shelf.old;
+      reads = (S.faults shelf.old, S.faults shelf.new);
+      writes = (K.faults out.old, K.faults out.new);
+      taken = (K.written out.old, K.written out.new);
+    }) names (commands_left (S.files shelf.old) names (S.begun shelf.new) (S.rest shelf.new)) result }
 
     ensures order { IsInOrder (S.files shelf.old) (asked_by (map string_bytes words.now)) (S.tried shelf.old) (S.tried shelf.new) }
     ensures reads_later { S.faults shelf.old ≤ S.faults shelf.new }

@@ -6,7 +6,7 @@ use Rattle.program_words.specs.Asked.{FileNames, Route, Check, Generate, Migrate
 use Rattle.program_words.specs.LentWords.{traffic_for, asked_for}
 use Rattle.taxi_cli.proofs.EndingLaws.{last-ends, migrate-ends, import-ends, asked-ends, one-asked}
 use Rattle.taxi_cli.proofs.DueLaws.{due-is, made-is}
-use Rattle.taxi_cli.specs.Pace.{HaveBegun, KeepsPace, commands_left}
+use Rattle.taxi_cli.specs.Pace.{HaveBegun, KeepsPace, KeepsPaceOnceBegun, commands_left}
 use Rattle.taxi_cli.proofs.HeadlineLaws.{headline-asked}
 use Rattle.taxi_cli.proofs.top.taxi.Goals as goal
 
@@ -157,6 +157,39 @@ returns-in-Some-Import-clause-pace g c =
     λ names asked. absurd (cc (one-asked (map string_bytes c.args.words.now) c.in-Some-Import.field-0
     (Import (record { airport = c.in-Some-Import.airport.now; commands = c.in-Some-Import.schedule.now })) (Route names)
     c.in-Some-Import.ensures (ap asked_for c.in-Some-Import.field-0-is) asked))
+
+pub returns-in-None-clause-once_begun : goal.returns-in-None-clause-once_begun
+returns-in-None-clause-once_begun g c = λ names asked. absurd (cc (c.in-None.ensures, asked))
+
+pub returns-in-Some-Route-clause-once_begun : goal.returns-in-Some-Route-clause-once_begun
+returns-in-Some-Route-clause-once_begun g c =
+    let call : Call = record {
+      files = g.S.Shelf.files c.args.shelf.now;
+      reads = (g.S.Shelf.faults c.args.shelf.now, g.S.Shelf.faults c.route.new.shelf);
+      writes = (g.K.Sink.faults c.args.out.now, g.K.Sink.faults c.route.new.out);
+      taken = (g.K.Sink.written c.args.out.now, g.K.Sink.written c.route.new.out);
+    } in
+    let mine : FileNames = record { airport = c.in-Some-Route.airport.now; commands = c.in-Some-Route.commands.now } in
+    λ names asked.
+    let same : Route mine ≡ Route names = one-asked (map string_bytes c.args.words.now) c.in-Some-Route.field-0 (Route mine) (Route names) c.in-Some-Route.ensures (ap asked_for c.in-Some-Route.field-0-is) asked in
+    let is : mine ≡ names = cc same in
+    subst (λ (n : FileNames). KeepsPaceOnceBegun call n (commands_left (g.S.Shelf.files c.args.shelf.now) n (g.S.Shelf.begun c.route.new.shelf) (g.S.Shelf.rest c.route.new.shelf)) c.route.result) is c.route.ensures.once_begun
+
+pub returns-in-Some-Check-clause-once_begun : goal.returns-in-Some-Check-clause-once_begun
+returns-in-Some-Check-clause-once_begun g c =
+    λ names asked. absurd (cc (one-asked (map string_bytes c.args.words.now) c.in-Some-Check.field-0 _ (Route names) c.in-Some-Check.ensures (ap asked_for c.in-Some-Check.field-0-is) asked))
+
+pub returns-in-Some-Migrate-clause-once_begun : goal.returns-in-Some-Migrate-clause-once_begun
+returns-in-Some-Migrate-clause-once_begun g c =
+    λ names asked. absurd (cc (one-asked (map string_bytes c.args.words.now) c.in-Some-Migrate.field-0 _ (Route names) c.in-Some-Migrate.ensures (ap asked_for c.in-Some-Migrate.field-0-is) asked))
+
+pub returns-in-Some-Generate-clause-once_begun : goal.returns-in-Some-Generate-clause-once_begun
+returns-in-Some-Generate-clause-once_begun g c =
+    λ names asked. absurd (cc (one-asked (map string_bytes c.args.words.now) c.in-Some-Generate.field-0 _ (Route names) c.in-Some-Generate.ensures (ap asked_for c.in-Some-Generate.field-0-is) asked))
+
+pub returns-in-Some-Import-clause-once_begun : goal.returns-in-Some-Import-clause-once_begun
+returns-in-Some-Import-clause-once_begun g c =
+    λ names asked. absurd (cc (one-asked (map string_bytes c.args.words.now) c.in-Some-Import.field-0 _ (Route names) c.in-Some-Import.ensures (ap asked_for c.in-Some-Import.field-0-is) asked))
 
 pub returns-in-None-clause-complete : goal.returns-in-None-clause-complete
 returns-in-None-clause-complete g c = λ files told no_read no_write. due-is _ files _ _ told (returns-in-None-clause-ends g c) no_read no_write
