@@ -1,13 +1,16 @@
-//! An arrival to the nearer of two stands and a departure to the better of two runways, in windows that no one holds.
+//! An arrival to the nearer of two stands and a departure to the better of two runways, in windows that no one holds; and searches
+//! to one node in windows that a flight with a clearance leaves.
 use super::small_airport;
 use crate::free_windows;
 use airport_file::Airport;
-use backward_search::depart_to_one_of;
+use airport_tests::{read_text, small_text};
+use backward_search::{depart, depart_to_one_of};
 use forward_search::{Start, arrive_to_one_of};
 use place_cells::SearchRoom;
 use std::alloc::Global;
 use std::test::Fail;
 use taxi_base::{Arc, Class, Found, LabelRow, Memory, Node, Step, Time};
+use taxi_engine::Engine;
 
 // A second runway, R2, over K.
 const SECOND_RUNWAY: &[u8] = b"node,R2,runway\nsegment,E,K,R2,both\nseconds,E,M,40\n";
@@ -59,13 +62,17 @@ fn step(arc: u32, enter: Time, leave: Time) -> Step {
     }
 }
 
-fn label(arc: u32, value: Time) -> LabelRow {
+fn label_in(arc: u32, from: Time, until: Time, value: Time) -> LabelRow {
     LabelRow {
         arc: Arc(arc),
-        from: 0,
-        until: 3600,
+        from,
+        until,
         value,
     }
+}
+
+fn label(arc: u32, value: Time) -> LabelRow {
+    label_in(arc, 0, 3600, value)
 }
 
 // Whether a route of these steps was found, with these labels.
@@ -95,6 +102,49 @@ fn a_departure_goes_to_the_runway_for_which_it_may_begin_latest(
     let found = departure(rt.alloc(), &airport)?;
     let walked = [step(7, 145, 160), step(8, 160, 200)];
     let table = [label(1, 170), label(3, 150), label(8, 160)];
+    assert!(rt; is_route(&found, &walked, &table));
+    Ok(())
+}
+
+// Class M keeps a segment shut for 10 seconds after leaving it. X1 holds A and C up to 140, and B from 130 to 160.
+fn engine_with_holds(alloc: Global) -> Option<Engine> {
+    let text = small_text(
+        alloc,
+        b"taxi-airport,2\nhorizon,3600\n",
+        b"clearance,M,10\n",
+    )
+    .ok()?;
+    let airport = read_text(alloc, &text)?;
+    let mut engine = Engine::new(alloc, airport).ok()?;
+    engine.answer(b"file X1 M 100 A+ 130 B+ 150");
+    Some(engine)
+}
+
+// From S2 to R, out at 200.
+fn departure_among(alloc: Global, engine: &Engine) -> Result<Found, Memory> {
+    let mut room = SearchRoom::new(alloc)?;
+    let airport = engine.airport();
+    let ledger = engine.ledger();
+    depart(
+        alloc,
+        &mut room,
+        airport,
+        ledger.store(),
+        Node(4),
+        Node(0),
+        Class(0),
+        200,
+        200,
+        10,
+    )
+}
+
+#[test]
+fn a_departure_keeps_clear_of_what_is_held(rt: HostRuntime) -> Result<(), Fail> {
+    let engine = engine_with_holds(rt.alloc()).ok_or("an engine")?;
+    let found = departure_among(rt.alloc(), &engine)?;
+    let walked = [step(7, 130, 145), step(5, 145, 170), step(1, 170, 200)];
+    let table = [label_in(1, 140, 3600, 170), label_in(5, 140, 3600, 145)];
     assert!(rt; is_route(&found, &walked, &table));
     Ok(())
 }
