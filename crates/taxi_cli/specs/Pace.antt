@@ -73,9 +73,10 @@ pub record KeepsPace (call : Call) (names : FileNames) (left : Told) (ended : St
   pub large : ended ≡ TooLarge → IsHaltedByLimit call names left
   pub late : ended ≡ WriteFault → (airport : Airport) × IsJudged call.files names.airport (Ok airport) × IsCutInStep airport left call.taken
 
--- A run keeps pace with its command file once that is begun, whether or not it is told which names were tried. Before that the last
--- line alone is written: that a read failed, or that the airport file has more bytes than its limit. Where the files are told and the
--- airport is accepted, the write that fails is of the line for a failed read, or it comes in step with the command file as above.
+-- Where it isn't told which names were tried, a run keeps pace with its command file, or the last line alone is written: that a read failed, or that
+-- the airport file has more bytes than its limit. Such a line is due before the command file is begun; without the names it can't be told
+-- whether that was begun. Where the files are told and the airport is accepted, the write that fails is of the line for a failed read, or it comes
+-- in step with the command file as above.
 pub record KeepsPaceOnceBegun (call : Call) (names : FileNames) (left : Told) (ended : Status) : Type 0 where
   pub fault : ended ≡ ReadFault → Grew call.taken.0 call.taken.1 read_fault_line ⊎ IsHaltedByFault call names left
   pub large : ended ≡ TooLarge → (IsLonger call.files names.airport airport_limit × Grew call.taken.0 call.taken.1 too_large_line) ⊎ IsHaltedByLimit call names left

@@ -69,7 +69,7 @@ pub fn taxi<S: Shelf, K: Sink>(
           taken = (K.written out.old, K.written out.new);
         }) names (commands_left (S.files shelf.old) names (S.begun shelf.new) (S.rest shelf.new)) result }
 
-    // Also where the names that were tried aren't told, it does so once the command file is begun.
+    // Where the names that were tried aren't told, it does so, or writes the last line alone, as before the command file is begun.
     ensures once_begun { (names : FileNames) → asked_by (map string_bytes words.now) ≡ Some (Route names) → KeepsPaceOnceBegun (record {
       files = S.files shelf.old;
       reads = (S.faults shelf.old, S.faults shelf.new);
