@@ -1,4 +1,4 @@
-//! An arrival to the nearer of two stands and a departure to the better of two runways, in windows that no one holds; and searches
+//! An arrival to the nearer of two stands and a departure to the better of two runways, in windows that no one holds; and a departure
 //! to one node in windows that a flight with a clearance leaves.
 use super::small_airport;
 use crate::free_windows;
