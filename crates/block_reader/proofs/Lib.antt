@@ -1,6 +1,7 @@
 pub mod Pieces
 pub mod Decimals
 pub mod NumberFields
+pub mod Worths
 pub mod RowLoop
 pub mod Spellings
 pub mod Words

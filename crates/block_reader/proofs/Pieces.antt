@@ -2,10 +2,11 @@
 use Rattle.std.proofs.Common.{◌≡◌, ◌≢◌, ◌==◌, ◌&&◌, ◌+◌, ◌-◌, ◌*◌, ◌<◌, ◌≤◌, ◌∙◌, ℕ, zero, suc, Bool, true, false, cond, List, [], ◌∷◌, ◌++◌, length, get_or, take, drop, Option, Some, None, refl, sym, ap, arith, inl, inr}
 use Rattle.std.specs.Prelude.{option_map, bytes_eq}
 use Rattle.std.specs.Bool.{one_answer}
+use Rattle.std.specs.Int.{Width, to_le_bytes, from_le_bytes}
 use Rattle.std.specs.List.{position, position_or_len, AllByRecursion}
 use Rattle.std.proofs.lemmas.List.Sums.{fails_before_first}
 use borrow.Author.Tests.{ltb-false}
-use Rattle.std.proofs.lemmas.Bool.{eqb-true, cases_Bool, and_parts}
+use Rattle.std.proofs.lemmas.Bool.{eq-eqb, eqb-true, cases_Bool, and_parts}
 use Rattle.std.proofs.lemmas.Bool.Decides.{nat_tests}
 use Rattle.std.proofs.lemmas.Slice.Eq.{bytes_eq-Decides}
 use Rattle.std.proofs.lemmas.List.{take_all, take-append-drop, take-take, length-drop}
@@ -123,6 +124,14 @@ begins-short (b ∷ text) (c ∷ bytes) short = rw (begins-short text bytes (ome
   and_false : (x : Bool) → (x && false) ≡ false
   and_false true = refl
   and_false false = refl
+
+-- bytes are told apart by the numbers that they are read as
+pub compared-as_numbers : (w : Width) (a b : List ℕ) (m n : ℕ) → m ≡ from_le_bytes w a → n ≡ from_le_bytes w b → to_le_bytes w m ≡ a → to_le_bytes w n ≡ b → (m == n) ≡ bytes_eq a b
+compared-as_numbers w a b m n is_m is_n is_a is_b =
+    one_answer {P = a ≡ b} (m == n) (bytes_eq a b) (
+      (λ e. sym is_a ∙ ap (to_le_bytes w) (eqb-true m n e) ∙ is_b),
+      (λ e. eq-eqb m n (is_m ∙ ap (from_le_bytes w) e ∙ sym is_n)),
+    ) (bytes_eq-Decides a b)
 
 -- two texts with the same ends, which overlap or touch, are the same
 ends-same : (n m : ℕ) (a b : List ℕ) → m ≤ n → take n a ≡ take n b → drop m a ≡ drop m b → a ≡ b

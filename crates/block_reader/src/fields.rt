@@ -2,7 +2,7 @@
 ghost use Rattle.std.specs.Prelude.{◌≡◌, ◌<◌, ◌≤◌, ◌^◌, ◌*◌, ◌==◌, bytes_eq, IfSome, Some, length, position};
 ghost use Rattle.taxi_text.specs.Fields.{name_of};
 ghost use Rattle.block_reader.specs.Fields.{digits_of, decimal_of, number_of, count_of, some_count_of, step_number_of, kind_of, class_of_word, segment_of_word};
-ghost use Rattle.block_reader.specs.Fronts.{IsSeparator, IsFrontOf};
+ghost use Rattle.block_reader.specs.Fronts.{IsSeparator, IsFrontOf, worth, front_number};
 ghost use Rattle.block_reader.specs.Reading.{behind, begins_with, word_at, field_at, Finds};
 
 use airport_file::Airport;
@@ -10,6 +10,24 @@ use taxi_base::{Class, FlightKind, Name, Segment, Time};
 
 // How many digits a number has at most.
 const MOST_DIGITS: usize = 7;
+
+// What a byte that is no digit is worth: more than five digits can write.
+const NO: u32 = 100_000;
+
+// What each byte is worth as a digit.
+static WORTHS: [u32; 256] = [
+    NO, NO, NO, NO, NO, NO, NO, NO, NO, NO, NO, NO, NO, NO, NO, NO, NO, NO, NO, NO, NO, NO, NO, NO,
+    NO, NO, NO, NO, NO, NO, NO, NO, NO, NO, NO, NO, NO, NO, NO, NO, NO, NO, NO, NO, NO, NO, NO, NO,
+    0, 1, 2, 3, 4, 5, 6, 7, 8, 9, NO, NO, NO, NO, NO, NO, NO, NO, NO, NO, NO, NO, NO, NO, NO, NO,
+    NO, NO, NO, NO, NO, NO, NO, NO, NO, NO, NO, NO, NO, NO, NO, NO, NO, NO, NO, NO, NO, NO, NO, NO,
+    NO, NO, NO, NO, NO, NO, NO, NO, NO, NO, NO, NO, NO, NO, NO, NO, NO, NO, NO, NO, NO, NO, NO, NO,
+    NO, NO, NO, NO, NO, NO, NO, NO, NO, NO, NO, NO, NO, NO, NO, NO, NO, NO, NO, NO, NO, NO, NO, NO,
+    NO, NO, NO, NO, NO, NO, NO, NO, NO, NO, NO, NO, NO, NO, NO, NO, NO, NO, NO, NO, NO, NO, NO, NO,
+    NO, NO, NO, NO, NO, NO, NO, NO, NO, NO, NO, NO, NO, NO, NO, NO, NO, NO, NO, NO, NO, NO, NO, NO,
+    NO, NO, NO, NO, NO, NO, NO, NO, NO, NO, NO, NO, NO, NO, NO, NO, NO, NO, NO, NO, NO, NO, NO, NO,
+    NO, NO, NO, NO, NO, NO, NO, NO, NO, NO, NO, NO, NO, NO, NO, NO, NO, NO, NO, NO, NO, NO, NO, NO,
+    NO, NO, NO, NO, NO, NO, NO, NO, NO, NO, NO, NO, NO, NO,
+];
 
 /// What comes after a text that stands at the front.
 #[inline(always)]
@@ -33,26 +51,55 @@ fn begins_with(text: &[u8], bytes: &[u8]) -> bool
     }
     let front = &bytes[..text.len()];
     match text.len() {
-        4..=8 => have_same_ends::<4>(text, front),
-        9..=16 => have_same_ends::<8>(text, front),
+        4..=8 => have_same_fours(text, front),
+        9..=16 => have_same_eights(text, front),
         _ => text == front,
     }
 }
 
-// Whether two texts are the same, of which the first so many bytes and the last so many are all.
+// Whether two texts are the same, of which the first four bytes and the last four are all. Four bytes are compared as one
+// number.
 #[inline(always)]
-fn have_same_ends<const N: usize>(a: &[u8], b: &[u8]) -> bool
+fn have_same_fours(a: &[u8], b: &[u8]) -> bool
     requires long { length a.now ≡ length b.now }
-    requires few { (N ≤ length a.now) × (length a.now ≤ 2 * N) }
+    requires few { (4 ≤ length a.now) × (length a.now ≤ 8) }
     ensures { result ≡ bytes_eq a.now b.now }
 {
-    let (Some(first), Some(last)) = (a.first_chunk::<N>(), a.last_chunk::<N>()) else {
+    let (Some(first), Some(last)) = (a.first_chunk::<4>(), a.last_chunk::<4>()) else {
         return false;
     };
-    let (Some(front), Some(back)) = (b.first_chunk::<N>(), b.last_chunk::<N>()) else {
+    let (Some(front), Some(back)) = (b.first_chunk::<4>(), b.last_chunk::<4>()) else {
         return false;
     };
-    *first == *front && *last == *back
+    is_same_four(first, front) && is_same_four(last, back)
+}
+
+fn is_same_four(a: &[u8; 4], b: &[u8; 4]) -> bool
+    ensures { result ≡ bytes_eq a.now b.now }
+{
+    u32::from_le_bytes(*a) == u32::from_le_bytes(*b)
+}
+
+// The same for eight bytes.
+#[inline(always)]
+fn have_same_eights(a: &[u8], b: &[u8]) -> bool
+    requires long { length a.now ≡ length b.now }
+    requires few { (8 ≤ length a.now) × (length a.now ≤ 16) }
+    ensures { result ≡ bytes_eq a.now b.now }
+{
+    let (Some(first), Some(last)) = (a.first_chunk::<8>(), a.last_chunk::<8>()) else {
+        return false;
+    };
+    let (Some(front), Some(back)) = (b.first_chunk::<8>(), b.last_chunk::<8>()) else {
+        return false;
+    };
+    is_same_eight(first, front) && is_same_eight(last, back)
+}
+
+fn is_same_eight(a: &[u8; 8], b: &[u8; 8]) -> bool
+    ensures { result ≡ bytes_eq a.now b.now }
+{
+    u64::from_le_bytes(*a) == u64::from_le_bytes(*b)
 }
 
 /// A word up to its last byte, and what comes after that.
@@ -99,6 +146,60 @@ fn digits_of(digits: &[u8]) -> Option<u64>
         number = number * 10 + u64::from(*digit - b'0');
     }
     Some(number)
+}
+
+/// The second from which a label holds, and a blank. For most labels it is 0.
+#[inline(always)]
+pub(crate) fn start_field(bytes: &[u8]) -> Option<(Time, &[u8])>
+    ensures { Finds (λ x. (x.0, x.1.now)) result (field_at number_of 32 bytes.now) }
+{
+    if let Some((front, rest)) = bytes.split_first_chunk::<2>() {
+        if let [b'0', b' '] = *front {
+            return Some((0, rest));
+        }
+    }
+    second_field(b' ', bytes)
+}
+
+/// A number before a blank or a line feed. Most seconds of a day have four or five digits, which take no loop.
+#[inline(always)]
+pub(crate) fn second_field(last: u8, bytes: &[u8]) -> Option<(Time, &[u8])>
+    requires { IsSeparator last }
+    ensures { Finds (λ x. (x.0, x.1.now)) result (field_at number_of last bytes.now) }
+{
+    if let Some(front) = bytes.first_chunk::<6>() {
+        let (number, end) = front_number(last, front);
+        if front[0] != b'0' && number < NO && front[end] == last {
+            return Some((number, &bytes[end + 1..]));
+        }
+    }
+    number_field(last, bytes)
+}
+
+// What the first four bytes are worth together where the last byte is behind them, else the first five, and how many they are.
+#[inline(always)]
+fn front_number(last: u8, front: &[u8; 6]) -> (u32, usize)
+    ensures number { result ≡ front_number last front.now }
+    ensures few { result.1 < 6 }
+{
+    let four = worth(front[0]) * 1_000
+        + worth(front[1]) * 100
+        + worth(front[2]) * 10
+        + worth(front[3]);
+    if front[4] == last {
+        (four, 4)
+    } else {
+        (four * 10 + worth(front[4]), 5)
+    }
+}
+
+// What a byte is worth as a digit.
+#[inline(always)]
+fn worth(byte: u8) -> u32
+    ensures value { result ≡ worth byte }
+    ensures small { result ≤ NO }
+{
+    WORTHS[usize::from(byte)]
 }
 
 /// A number before a blank or a line feed. It and the byte behind it are at most eight bytes.

@@ -5,7 +5,9 @@ ghost use Rattle.block_reader.specs.Reading.{rows_at, Finds, IsRead};
 ghost use Rattle.block_reader.specs.Blocks.{step_at, label_at, window_at, held_at, flight_at};
 
 use crate::arcs::{label_arc, step_arc};
-use crate::fields::{behind, class_field, kind_field, name_field, number_field, segment_field};
+use crate::fields::{
+    behind, class_field, kind_field, name_field, second_field, segment_field, start_field,
+};
 use crate::refused::BlockRefused;
 use airport_file::Airport;
 use std::alloc::Global;
@@ -31,8 +33,8 @@ impl Row for Step {
     fn read<'a>(airport: &Airport, near: Arc, bytes: &'a [u8]) -> Option<(Step, &'a [u8])> {
         let rest = behind(b"step ", bytes)?;
         let (arc, rest) = step_arc(airport, near, rest)?;
-        let (enter, rest) = number_field(b' ', rest)?;
-        let (leave, rest) = number_field(b'\n', rest)?;
+        let (enter, rest) = second_field(b' ', rest)?;
+        let (leave, rest) = second_field(b'\n', rest)?;
         Some((Step { arc, enter, leave }, rest))
     }
 
@@ -48,9 +50,9 @@ impl Row for LabelRow {
     fn read<'a>(airport: &Airport, near: Arc, bytes: &'a [u8]) -> Option<(LabelRow, &'a [u8])> {
         let rest = behind(b"label ", bytes)?;
         let (arc, rest) = label_arc(airport, near, rest)?;
-        let (from, rest) = number_field(b' ', rest)?;
-        let (until, rest) = number_field(b' ', rest)?;
-        let (value, rest) = number_field(b'\n', rest)?;
+        let (from, rest) = start_field(rest)?;
+        let (until, rest) = second_field(b' ', rest)?;
+        let (value, rest) = second_field(b'\n', rest)?;
         let row = LabelRow {
             arc,
             from,
@@ -72,8 +74,8 @@ impl Row for Span {
     fn read<'a>(airport: &Airport, _near: Arc, bytes: &'a [u8]) -> Option<(Span, &'a [u8])> {
         let _names = airport;
         let rest = behind(b"window ", bytes)?;
-        let (from, rest) = number_field(b' ', rest)?;
-        let (until, rest) = number_field(b'\n', rest)?;
+        let (from, rest) = second_field(b' ', rest)?;
+        let (until, rest) = second_field(b'\n', rest)?;
         Some((Span { from, until }, rest))
     }
 
@@ -88,8 +90,8 @@ impl Row for HeldRow {
     #[tactic(auto, unfolding(crate::specs::Blocks::held_at))]
     fn read<'a>(airport: &Airport, _near: Arc, bytes: &'a [u8]) -> Option<(HeldRow, &'a [u8])> {
         let rest = behind(b"held ", bytes)?;
-        let (from, rest) = number_field(b' ', rest)?;
-        let (until, rest) = number_field(b' ', rest)?;
+        let (from, rest) = second_field(b' ', rest)?;
+        let (until, rest) = second_field(b' ', rest)?;
         let Some((flight, rest)) = name_field(b' ', rest) else {
             return None;
         };
@@ -119,8 +121,8 @@ impl Row for FlightRow {
         };
         let (kind, rest) = kind_field(b' ', rest)?;
         let (class, rest) = class_field(airport, b' ', rest)?;
-        let (start, rest) = number_field(b' ', rest)?;
-        let (end, rest) = number_field(b'\n', rest)?;
+        let (start, rest) = second_field(b' ', rest)?;
+        let (end, rest) = second_field(b'\n', rest)?;
         let row = FlightRow {
             flight,
             kind,
