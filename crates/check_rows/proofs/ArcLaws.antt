@@ -28,6 +28,10 @@ pub neighbours-exist : (way : Way) (layout : Layout) (arc : Arc) (arcs : List Ar
 neighbours-exist Forward layout x arcs all k d on = (permits-exist layout x (get_or arcs k d) (listed arcs all k d on)).1
 neighbours-exist Backward layout y arcs all k d on = (permits-exist layout (get_or arcs k d) y (listed arcs all k d on)).0
 
+pub reach_of-way : (way : Way) (c : Conditions) (row : LabelRow) → (reach_of way c row).way ≡ way
+reach_of-way Forward c row = refl
+reach_of-way Backward c row = refl
+
 -- ---- labels by their arcs
 
 module _ (c : Conditions) (bound : Option ℕ) (rows : List LabelRow) where

@@ -6,5 +6,6 @@ pub mod KnownLaws
 pub mod ListCuts
 pub mod EachLaws
 pub mod ReachLaws
+pub mod ServedLaws
 pub mod ArcLaws
 pub mod VerdictLaws

@@ -39,7 +39,7 @@ module _ (c : Conditions) (from by n : ℕ) (label : LabelRow) (takes : seconds_
   reached-of_value Backward is value = record { is_place = is; in_time = value.0; value = ap (λ m. label.value + m) takes ∙ value.1; in_window = value.2 }
 
 -- windows that end too early, or begin too late, have no value
-value-near : (way : Way) (c : Conditions) (from by n : ℕ) (w : Span) (v : ℕ) → IsValueIn way c from by n w v → (from ≤ w.until) × (w.from ≤ by)
+pub value-near : (way : Way) (c : Conditions) (from by n : ℕ) (w : Span) (v : ℕ) → IsValueIn way c from by n w v → (from ≤ w.until) × (w.from ≤ by)
 value-near Forward c from by n w v value = (omega (arith, value.0, value.1, value.2, last_of-until c w), omega (arith, value.0))
 value-near Backward c from by n w v value = (omega (arith, value.0, last_of-until c w), omega (arith, value.1, value.2))
 

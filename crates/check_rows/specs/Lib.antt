@@ -4,3 +4,4 @@ pub mod Rows
 pub mod Verdict
 pub mod Rules
 pub mod Reached
+pub mod Served

@@ -49,7 +49,7 @@ pub fn arcs_have_rows<H: HoldsOf>(
 
 /// The same of one arc.
 #[inline(always)]
-fn arc_has_rows<H: HoldsOf>(
+pub fn arc_has_rows<H: HoldsOf>(
     airport: &Airport,
     class: Class,
     holds: &H,

@@ -1,13 +1,17 @@
 //! The windows of the segments that were asked for, kept until the holds change.
-ghost use Rattle.std.specs.Prelude.{◌≡◌, ◌<◌, ◌∷◌, [], ℕ, Bool, List, All, IfOk, IsTrue, OnOk, length};
+ghost use Rattle.std.specs.Prelude.{◌≡◌, ◌<◌, ◌∷◌, [], ℕ, Bool, List, Option, All, IfOk, IsTrue, OnOk, length};
+ghost use Rattle.taxi_base.specs.declared.rows.LabelRow.{LabelRow};
 ghost use Rattle.taxi_base.specs.declared.numbers.Segment.{Segment};
 ghost use Rattle.taxi_base.specs.Airport.{layout_of, arc_exists};
 ghost use Rattle.taxi_base.specs.Windows.{Hold, holds_of, AreWindows};
-ghost use Rattle.taxi_base.specs.Walks.{free_among};
+ghost use Rattle.taxi_base.specs.Walks.{Conditions, free_among};
+ghost use Rattle.check_rows.specs.declared.reach.Way.{Way};
+ghost use Rattle.check_rows.specs.Served.{AreServed};
 ghost use Rattle.check_rows.specs.Known.{AreKnown, is_known, DifferOn, DifferAt, HaveMore, AreLeft};
 ghost use Rattle.check_rows.specs.Cuts.{IsApart, IsListCut, AreListsCut};
 
 use crate::around::note_firsts;
+use crate::served::Served;
 use airport_file::Airport;
 use held_spans::HoldsOf;
 use segment_windows::{cut_windows, fill_windows};
@@ -24,6 +28,8 @@ pub struct KnownWindows {
     busy: Vec<Span>,
     // Where the rows of each arc begin in the table that is being checked.
     firsts: Vec<usize>,
+    // In which stretches each label of an arc has a row, in the table that is being checked.
+    served: Served,
 }
 
 /// The windows of one segment, where they were made.
@@ -42,6 +48,7 @@ impl KnownWindows {
     {
         let mut lists = Vec::new(alloc);
         let mut firsts = Vec::new(alloc);
+        let mut served = Served::new(alloc);
         for _ in 0..airport.graph().segments() {
             let windows = Vec::new(alloc);
             lists.push(SegmentWindows {
@@ -52,12 +59,15 @@ impl KnownWindows {
             // An arc each way.
             firsts.push(0)?;
             firsts.push(0)?;
+            served.add_arc()?;
+            served.add_arc()?;
         }
         let busy = Vec::new(alloc);
         Ok(KnownWindows {
             lists,
             busy,
             firsts,
+            served,
         })
     }
 
@@ -76,6 +86,24 @@ impl KnownWindows {
         ensures { (segments : ℕ) (free : Segment → ℕ → Bool) → AreKnown segments free self.old → AreKnown segments free self.new }
     {
         self.firsts = firsts;
+    }
+
+    /// Hands out the stretches in which the labels of an arc have rows, of which none is known yet, until they are put back.
+    pub(crate) fn take_served(&mut self) -> Served
+        ensures kept { (segments : ℕ) (free : Segment → ℕ → Bool) → AreKnown segments free self.old → AreKnown segments free self.new }
+        ensures none { (way : Way) (c : Conditions) (bound : Option ℕ) (rows : List LabelRow) → AreServed way c bound rows result }
+    {
+        let none = Served::new(*self.firsts.allocator());
+        let mut served = replace(&mut self.served, none);
+        served.forget();
+        served
+    }
+
+    /// Takes them back, to be used again.
+    pub(crate) fn put_served(&mut self, served: Served)
+        ensures { (segments : ℕ) (free : Segment → ℕ → Bool) → AreKnown segments free self.old → AreKnown segments free self.new }
+    {
+        self.served = served;
     }
 
     /// Makes a segment's windows, unless they are there.

@@ -1,5 +1,5 @@
 //! When the place of a label is reached in time, going on or going back.
-ghost use Rattle.std.specs.Prelude.{◌≡◌, ◌↔◌, ◌+◌, ◌≤◌, ◌&&◌, ℕ, Bool, Some, nat_le, max, min};
+ghost use Rattle.std.specs.Prelude.{◌≡◌, ◌↔◌, ◌+◌, ◌≤◌, ◌&&◌, ℕ, Bool, Some, IsTrue, nat_le, max, min};
 ghost use Rattle.taxi_base.specs.declared.numbers.Segment.{Segment};
 ghost use Rattle.taxi_base.specs.Walks.{last_of};
 ghost use Rattle.check_rows.specs.Reached.{conditions_at, short_part, until_bound, IsValueIn};
@@ -23,6 +23,14 @@ pub struct Reach {
     pub way: Way,
     pub from: Time,
     pub by: Time,
+}
+
+/// Whether a reach does not begin before one second nor end behind another.
+#[inline(always)]
+pub fn is_within(reach: Reach, from: Time, by: Time) -> bool
+    ensures { IsTrue result ↔ ((from ≤ reach.from) × (reach.by ≤ by)) }
+{
+    from <= reach.from && reach.by <= by
 }
 
 /// The part of a reach in which a label can be short of a bound, if there is one.
@@ -125,7 +133,7 @@ pub fn later(a: Time, b: Time) -> Time
     max(a, b)
 }
 
-fn sooner(a: Time, b: Time) -> Time
+pub fn sooner(a: Time, b: Time) -> Time
     ensures { result ≡ min a b }
 {
     min(a, b)

@@ -8,11 +8,13 @@ ghost use Rattle.check_rows.specs.Rows.{AreOrdered};
 ghost use Rattle.check_rows.specs.Known.{AreKnown};
 ghost use Rattle.check_rows.specs.Rules.{HasEach, ComesOf, AreClosed};
 ghost use Rattle.check_rows.specs.Reached.{conditions_at, reach_of, AreNeighbours};
+ghost use Rattle.check_rows.specs.Served.{AreServed};
 
 use crate::KnownWindows;
-use crate::closed::arcs_have_rows;
 use crate::reach::{Reach, Way, last_in};
 use crate::rows::window_of;
+use crate::served::Served;
+use crate::stretches::arcs_are_served;
 use crate::table::Table;
 use airport_file::Airport;
 use held_spans::HoldsOf;
@@ -35,8 +37,34 @@ pub fn rows_are_closed<H: HoldsOf>(
     ensures known { AreKnown (length airport.now.segments) (free_among airport.now (H.held holds.now)) known.new }
     ensures closed { IfOk result (λ yes. IsTrue yes ↔ AreClosed way (conditions_among airport.now class (H.held holds.now)) table.now.bound table.now.rows.now) }
 {
+    let mut served = known.take_served();
+    let closed = rows_are_served(airport, class, holds, known, &mut served, table, way);
+    known.put_served(served);
+    closed
+}
+
+/// The same, with what is known of the arcs so far.
+fn rows_are_served<H: HoldsOf>(
+    airport: &Airport,
+    class: Class,
+    holds: &H,
+    known: &mut KnownWindows,
+    served: &mut Served,
+    table: &Table<'_>,
+    way: Way,
+) -> Result<bool, Memory>
+    requires exist { All (λ row. IsTrue (arc_exists (layout_of airport.now) row.arc)) table.now.rows.now }
+    requires ordered { AreOrdered table.now.rows.now }
+    requires places { All (λ row. IsPlace (conditions_among airport.now class (H.held holds.now)) (place_of row)) table.now.rows.now }
+    requires known { AreKnown (length airport.now.segments) (free_among airport.now (H.held holds.now)) known.old }
+    requires served { AreServed way (conditions_among airport.now class (H.held holds.now)) table.now.bound table.now.rows.now served.old }
+    ensures known { AreKnown (length airport.now.segments) (free_among airport.now (H.held holds.now)) known.new }
+    ensures closed { IfOk result (λ yes. IsTrue yes ↔ AreClosed way (conditions_among airport.now class (H.held holds.now)) table.now.bound table.now.rows.now) }
+{
     for row in table.rows {
-        let closed = labels_of_row_have_rows(airport, class, holds, known, table, way, *row)?;
+        let closed = labels_of_row_have_rows(
+            airport, class, holds, known, served, table, way, *row,
+        )?;
         if !closed {
             return Ok(false);
         }
@@ -49,6 +77,7 @@ fn labels_of_row_have_rows<H: HoldsOf>(
     class: Class,
     holds: &H,
     known: &mut KnownWindows,
+    served: &mut Served,
     table: &Table<'_>,
     way: Way,
     row: LabelRow,
@@ -57,12 +86,14 @@ fn labels_of_row_have_rows<H: HoldsOf>(
     requires ordered { AreOrdered table.now.rows.now }
     requires places { All (λ row. IsPlace (conditions_among airport.now class (H.held holds.now)) (place_of row)) table.now.rows.now }
     requires known { AreKnown (length airport.now.segments) (free_among airport.now (H.held holds.now)) known.old }
+    requires served { AreServed way (conditions_among airport.now class (H.held holds.now)) table.now.bound table.now.rows.now served.old }
     ensures known { AreKnown (length airport.now.segments) (free_among airport.now (H.held holds.now)) known.new }
+    ensures served { AreServed way (conditions_among airport.now class (H.held holds.now)) table.now.bound table.now.rows.now served.new }
     ensures closed { IfOk result (λ yes. IsTrue yes ↔ HasEach way (ComesOf way (conditions_among airport.now class (H.held holds.now)) row) table.now.bound table.now.rows.now) }
 {
     let reach = reach_of(airport, class, way, row);
     let arcs = neighbours(airport.graph(), way, row.arc);
-    let closed = arcs_have_rows(airport, class, holds, known, table, reach, arcs)?;
+    let closed = arcs_are_served(airport, class, holds, known, served, table, reach, arcs)?;
     Ok(closed)
 }
 
