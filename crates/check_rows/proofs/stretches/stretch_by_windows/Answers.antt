@@ -1,4 +1,4 @@
-use Rattle.std.proofs.Common.{ℕ, ◌<◌, ◌≤◌, ◌∙◌, Bool, All, length, sym, subst}
+use Rattle.std.proofs.Common.{ℕ, ◌<◌, ◌≤◌, Bool, All, length, sym, subst}
 use Rattle.std.specs.Prelude.{Contains}
 use Rattle.taxi_base.specs.declared.numbers.Segment.{Segment}
 use Rattle.taxi_base.specs.Windows.{AreWindows}

@@ -1,4 +1,4 @@
-use Rattle.std.proofs.Common.{ℕ, Bool, ◌∙◌, subst}
+use Rattle.std.proofs.Common.{ℕ, Bool, subst}
 use Rattle.std.specs.Prelude.{Contains}
 use Rattle.std.proofs.lemmas.List.Elements.{All-contains}
 use Rattle.taxi_base.specs.declared.numbers.Arc.{Arc}
