@@ -15,12 +15,12 @@ use Rattle.walk_labels.specs.Places.{Place, place_at}
 use Rattle.taxi_base.specs.Choices.{OneOf}
 use Rattle.walk_labels.specs.Requests.{leads_to_one_of, finishes_at}
 use Rattle.walk_labels.proofs.RequestCells.{if_some, leads-OneOf}
-use Rattle.place_cells.specs.Turns.{entering_arcs, previous_arcs, no_arc}
+use Rattle.place_cells.specs.Turns.{entering_arcs, next_arcs, previous_arcs, no_arc}
 use Rattle.place_cells.specs.Laid.{AreNumbered, HaveNumbers}
 use Rattle.place_cells.specs.Ground.{Ground, cells_of, run_of_arc, IsSound, arc_in, usable_in, IsArcPart}
 use Rattle.place_cells.proofs.RunLaws.{usable_parts, in_run_of_arc, run_inside}
 use Rattle.place_cells.proofs.TurnLaws.{entering_arcs-all, some-exists}
-use Rattle.place_cells.proofs.GroundLaws.{turn_parts, turns_inside, in_previous_run, takes, small_seconds, small_from, small_last, arc_below, cells_in_part}
+use Rattle.place_cells.proofs.GroundLaws.{turn_parts, turns_inside, in_next_run, in_previous_run, previous_below, run_parts, takes, small_seconds, small_from, small_last, arc_below, cells_in_part}
 use Rattle.backward_search.specs.Departures.{Ending, finish_at, last_arcs, departure_problem}
 
 -- ---- the finishes
@@ -112,6 +112,9 @@ module _ (g : Ground) (sound : IsSound g) where
   in_runs : (k : ℕ) → IsTrue (usable_in g k) → (i : ℕ) → i < length (previous_arcs g.layout (arc_in g k)) → i < cond (usable_in g k) (length (previous_arcs g.layout (arc_in g k))) 0
   in_runs k usable i on = omega (arith, cond-true (usable_in g k) (length (previous_arcs g.layout (arc_in g k))) 0 usable)
 
+  in_runs_after : (k : ℕ) → IsTrue (usable_in g k) → (i : ℕ) → i < length (next_arcs g.layout (arc_in g k)) → i < cond (usable_in g k) (length (next_arcs g.layout (arc_in g k))) 0
+  in_runs_after k usable i on = omega (arith, cond-true (usable_in g k) (length (next_arcs g.layout (arc_in g k))) 0 usable)
+
   pub departure_is_problem : (from : Node) (e : Ending) → e.earliest < 2 ^ 31 → IsBackwardProblem (departure_problem g from e)
   departure_is_problem from e small = record {
     takes = takes g sound;
@@ -120,6 +123,8 @@ module _ (g : Ground) (sound : IsSound g) where
     small_last = small_last g sound;
     small_finishes = λ k f h. omega (arith, small, (finish_parts g.layout (usable_in g) (place_at (cells_of g)) e k f h).2);
     turns_in_runs = λ j k turn. (let found = in_previous_run g sound.numbered j k turn in (found.0, in_runs k (turn_parts g j k turn).1 found.0 found.1, found.2));
+    turns_in_runs_after = λ j k turn. (let found = in_next_run g sound.numbered j k turn in (found.0, in_runs_after j (turn_parts g j k turn).0 found.0 found.1, found.2));
+    numbers_inside = λ k i inside on. (let parts = run_parts (usable_in g k) (length (previous_arcs g.layout (arc_in g k))) i on in previous_below g (arc_in g k) i parts.1);
     turns_inside = turns_inside g;
     finishes_inside = λ k f h. (usable_parts g k (finish_parts g.layout (usable_in g) (place_at (cells_of g)) e k f h).0).0;
     finishes_in_runs = in_last_run e;

@@ -121,6 +121,14 @@ impl<'a> BackwardCells for DepartureCells<'a> {
         at.arcs.len()
     }
 
+    fn numbers(&self) -> usize {
+        self.ground.arcs()
+    }
+
+    fn number(&self, _cell: usize, at: Beside<'a>, run: usize) -> usize {
+        at.arcs[run].0 as usize
+    }
+
     fn run_before(
         &self,
         _cell: usize,
@@ -131,6 +139,15 @@ impl<'a> BackwardCells for DepartureCells<'a> {
     ) -> Part<ArcRow<'a>> {
         let previous = at.arcs[run];
         self.ground.part(previous, from, ready)
+    }
+
+    fn runs_after(&self, _cell: usize, at: Beside<'a>) -> usize {
+        self.ground.next(at.place.arc).len()
+    }
+
+    fn run_after(&self, _cell: usize, at: Beside<'a>, run: usize, second: u32) -> Part<ArcRow<'a>> {
+        let next = self.ground.next(at.place.arc)[run];
+        self.ground.part(next, second, second)
     }
 
     fn cell_in(&self, row: ArcRow<'a>, cell: usize) -> Cell {

@@ -14,12 +14,12 @@ use Rattle.walk_labels.specs.Places.{Place, place_at}
 use Rattle.walk_labels.specs.Requests.{Beginning, starts_by}
 use Rattle.walk_labels.specs.Requests.Beginning.{at_node, resuming}
 use Rattle.walk_labels.proofs.RequestCells.{if_some, meet-same}
-use Rattle.place_cells.specs.Turns.{leaving_arcs, next_arcs, no_arc}
+use Rattle.place_cells.specs.Turns.{leaving_arcs, next_arcs, previous_arcs, no_arc}
 use Rattle.place_cells.specs.Laid.{AreNumbered, HaveNumbers}
 use Rattle.place_cells.specs.Ground.{Ground, cells_of, run_of_arc, IsSound, arc_in, usable_in, IsArcPart}
 use Rattle.place_cells.proofs.RunLaws.{usable_parts, in_run_of_arc, run_inside}
 use Rattle.place_cells.proofs.TurnLaws.{leaving_arcs-all, some-exists}
-use Rattle.place_cells.proofs.GroundLaws.{usable_exists, turn_parts, turns_inside, in_next_run, takes, small_seconds, small_last, arc_below, cells_in_part}
+use Rattle.place_cells.proofs.GroundLaws.{usable_exists, turn_parts, turns_inside, in_next_run, in_previous_run, next_below, run_parts, takes, small_seconds, small_last, arc_below, cells_in_part}
 use Rattle.forward_search.specs.declared.starting.Start.{Start}
 use Rattle.forward_search.specs.declared.starting.Start.TheVariants as start
 use Rattle.forward_search.specs.Arrivals.{beginning_of, start_at, first_arcs, arrival_problem}
@@ -139,12 +139,17 @@ module _ (g : Ground) (sound : IsSound g) where
   in_runs : (j k : ℕ) → IsTrue (usable_in g j) → (i : ℕ) → i < length (next_arcs g.layout (arc_in g j)) → i < cond (usable_in g j) (length (next_arcs g.layout (arc_in g j))) 0
   in_runs j k usable i on = omega (arith, cond-true (usable_in g j) (length (next_arcs g.layout (arc_in g j))) 0 usable)
 
+  in_runs_before : (k : ℕ) → IsTrue (usable_in g k) → (i : ℕ) → i < length (previous_arcs g.layout (arc_in g k)) → i < cond (usable_in g k) (length (previous_arcs g.layout (arc_in g k))) 0
+  in_runs_before k usable i on = omega (arith, cond-true (usable_in g k) (length (previous_arcs g.layout (arc_in g k))) 0 usable)
+
   pub arrival_is_problem : (b : Beginning) (to : List Node) → IsProblem (arrival_problem g b to)
   arrival_is_problem b to = record {
     takes = takes g sound;
     small_seconds = small_seconds g sound;
     small_last = small_last g sound;
     turns_in_runs = λ j k turn. (let found = in_next_run g sound.numbered j k turn in (found.0, in_runs j k (turn_parts g j k turn).0 found.0 found.1, found.2));
+    turns_in_runs_before = λ j k turn. (let found = in_previous_run g sound.numbered j k turn in (found.0, in_runs_before k (turn_parts g j k turn).1 found.0 found.1, found.2));
+    numbers_inside = λ k i inside on. (let parts = run_parts (usable_in g k) (length (next_arcs g.layout (arc_in g k))) i on in next_below g (arc_in g k) i parts.1);
     turns_inside = turns_inside g;
     starts_inside = λ k s e. (usable_parts g k (start_inside g.layout (usable_in g) (place_at (cells_of g)) b k s e)).0;
     starts_in_runs = in_first_run b;

@@ -1,5 +1,5 @@
 -- What does an arrival ask of a search over cells?
-use Rattle.std.specs.Prelude.{ℕ, ◌==◌, List, [], ◌∷◌, length, Option, Some, None, slice_index_or, if◌then◌else◌}
+use Rattle.std.specs.Prelude.{ℕ, ◌*◌, ◌==◌, List, [], ◌∷◌, length, Option, Some, None, slice_index_or, if◌then◌else◌}
 use Rattle.taxi_base.specs.declared.numbers.Arc.{Arc}
 use Rattle.taxi_base.specs.declared.numbers.Node.{Node}
 use Rattle.taxi_base.specs.Airport.{Layout, arc_exists, tail, meet}
@@ -8,7 +8,7 @@ use Rattle.label_search.specs.Problem.{Problem}
 use Rattle.walk_labels.specs.Places.{place_at}
 use Rattle.walk_labels.specs.Requests.{Beginning, starts_by, targets_at}
 use Rattle.walk_labels.specs.Requests.Beginning.{at_node, resuming}
-use Rattle.place_cells.specs.Turns.{next_arcs, leaving_arcs, no_arc}
+use Rattle.place_cells.specs.Turns.{next_arcs, previous_arcs, leaving_arcs, no_arc}
 use Rattle.place_cells.specs.Ground.{Ground, cells_of, run_of_arc, network_in, arc_in, usable_in}
 use Rattle.forward_search.specs.declared.starting.Start.{Start}
 use Rattle.forward_search.specs.declared.starting.Start.TheVariants as start
@@ -31,7 +31,8 @@ first_arcs layout (at_node node earliest latest) = leaving_arcs layout node
 first_arcs layout (resuming begun exit_from) = if arc_exists layout begun.arc then begun.arc ∷ [] else []
 
 -- The cells are those of all arcs by their numbers, of which some are left over. Walks begin in the runs of the first arcs, and the runs that may follow a
--- cell that the class can use are those of the arcs that may follow its arc.
+-- cell that the class can use are those of the arcs that may follow its arc; a run has the number of its arc. Those before it are of the arcs that may come
+-- before its arc.
 abbrev pub arrival_problem : Ground → Beginning → List Node → Problem
 arrival_problem g b to = record {
   network = network_in g;
@@ -39,7 +40,11 @@ arrival_problem g b to = record {
   target = targets_at g.layout (place_at (cells_of g)) to;
   count = length (cells_of g);
   runs = λ k. if usable_in g k then length (next_arcs g.layout (arc_in g k)) else 0;
-  run = λ k i. run_of_arc g (slice_index_or (next_arcs g.layout (arc_in g k)) i no_arc);
+  number = λ k i. (slice_index_or (next_arcs g.layout (arc_in g k)) i no_arc).0;
+  numbers = 2 * length g.layout.links;
+  run = λ n. run_of_arc g (record { 0 = n });
+  runs_before = λ k. if usable_in g k then length (previous_arcs g.layout (arc_in g k)) else 0;
+  run_before = λ k i. run_of_arc g (slice_index_or (previous_arcs g.layout (arc_in g k)) i no_arc);
   first_runs = length (first_arcs g.layout b);
   first_run = λ i. run_of_arc g (slice_index_or (first_arcs g.layout b) i no_arc);
 }

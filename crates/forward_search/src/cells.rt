@@ -98,6 +98,14 @@ impl<'a> ForwardCells for ArrivalCells<'a> {
         at.arcs.len()
     }
 
+    fn numbers(&self) -> usize {
+        self.ground.arcs()
+    }
+
+    fn number(&self, _cell: usize, at: Beside<'a>, run: usize) -> usize {
+        at.arcs[run].0 as usize
+    }
+
     fn run(
         &self,
         _cell: usize,
@@ -108,6 +116,21 @@ impl<'a> ForwardCells for ArrivalCells<'a> {
     ) -> Part<ArcRow<'a>> {
         let next = at.arcs[run];
         self.ground.part(next, ready, last)
+    }
+
+    fn runs_before(&self, _cell: usize, at: Beside<'a>) -> usize {
+        self.ground.previous(at.place.arc).len()
+    }
+
+    fn run_before(
+        &self,
+        _cell: usize,
+        at: Beside<'a>,
+        run: usize,
+        second: u32,
+    ) -> Part<ArcRow<'a>> {
+        let previous = self.ground.previous(at.place.arc)[run];
+        self.ground.part(previous, second, second)
     }
 
     fn cell_in(&self, row: ArcRow<'a>, cell: usize) -> Cell {

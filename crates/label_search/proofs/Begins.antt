@@ -8,7 +8,7 @@ use Rattle.label_search.specs.declared.labels.Label.{Label}
 use Rattle.label_search.specs.declared.cells.Run.{Run}
 use Rattle.label_search.specs.Problem.{Problem, IsProblem, IsIn, IsPartWith, CanBegin}
 use Rattle.label_search.specs.Labels.{Standing, label_of, HasValue, IsOffered, IsImproved}
-use Rattle.label_search.specs.Labels.IsOffered.{first, lower, tied, kept}
+use Rattle.label_search.specs.Labels.IsOffered.{first, lower, kept}
 use Rattle.label_search.specs.Expanding.{HasRoom}
 use Rattle.label_search.specs.Standing.{is_settled_by, is_settled, IsUnderway}
 use Rattle.label_search.specs.Begun.{key_for, IsBegun, InRuns}
@@ -19,8 +19,7 @@ offered_again : {offer : Label} {l m : Option Label} {i j : Option ℕ} → IsOf
     → (x : Label) × (m ≡ Some x) × (x.value ≡ offer.value) × (j ≡ key_for m)
 offered_again {offer} (first key) no_key same = (offer, refl, refl, ap (λ (k : Option ℕ). Some (lesser k offer.value)) no_key)
 offered_again {offer} (lower old key less) has_key same = absurd (omega (arith, same old refl))
-offered_again {offer} (tied old key at less) has_key same = (offer, refl, refl, has_key ∙ ap Some (same old refl))
-offered_again {offer} (kept old key by tie) has_key same = (old, refl, same old refl, has_key)
+offered_again {offer} (kept old key by) has_key same = (old, refl, same old refl, has_key)
 
 -- a part that has all that are wanted has those of them that are wanted elsewhere
 pub part_with_fewer : (V W : ℕ → Type 0) (whole part : Run) → ((c : ℕ) → W c → V c) → IsPartWith V whole part → IsPartWith W whole part

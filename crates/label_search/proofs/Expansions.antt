@@ -1,34 +1,37 @@
 -- Expanding a cell to one next cell after another.
-use Rattle.std.proofs.Common.{◌≡◌, ℕ, ◌<◌, ◌≤◌, Option, Some, None, refl, sym, ap, ◌∙◌, subst, ◌⊎◌, inl, inr, arith}
+use Rattle.std.proofs.Common.{◌≡◌, ℕ, ◌≤◌, List, Option, Some, None, refl, sym, ap, ◌∙◌, subst, ◌⊎◌, inl, inr, arith}
 use Rattle.std.specs.Prelude.{IsSomeAnd}
 use Rattle.std.proofs.lemmas.Bool.{cases_eq}
-use Rattle.label_queue.specs.Keys.{key_of}
 use Rattle.label_core.specs.Walks.{Network}
 use Rattle.label_core.specs.Labels.{IsExpansion}
+use Rattle.label_core.specs.Tables.{HasAsGood}
 use Rattle.label_search.specs.declared.labels.Label.{Label}
-use Rattle.label_search.specs.Labels.{Standing, label_of, IsOffered, IsImproved, Same, WasOffered}
-use Rattle.label_search.specs.Labels.IsOffered.{first, lower, tied, kept}
+use Rattle.label_search.specs.Labels.{Standing, label_of, HasValue, IsOffered, IsImproved, Same, WasOffered}
+use Rattle.label_search.specs.Labels.IsOffered.{first, lower, kept}
 use Rattle.label_search.specs.Expanding.{label_by, WasExpandedTo, IsExpanded}
+use Rattle.label_search.proofs.Offers.{as_good_as_old, as_good_as_offer}
 
 -- an offer that is made again changes nothing
 twice : {offer : Label} {l m n : Option Label} {i j k : Option ℕ} → IsOffered offer l i m j → IsOffered offer m j n k → IsOffered offer l i n k
 twice {offer} (first key) (lower old key' less) = absurd (omega arith)
-twice {offer} (first key) (tied old key' same less) = absurd (omega arith)
-twice {offer} (first key) (kept old key' by tie) = first key
+twice {offer} (first key) (kept old key' by) = first key
 twice {offer} (lower old key less) (lower old' key' less') = absurd (omega arith)
-twice {offer} (lower old key less) (tied old' key' same less') = absurd (omega arith)
-twice {offer} (lower old key less) (kept old' key' by tie) = lower old key less
-twice {offer} (tied old key same less) (lower old' key' less') = absurd (omega arith)
-twice {offer} (tied old key same less) (tied old' key' same' less') = absurd (omega arith)
-twice {offer} (tied old key same less) (kept old' key' by tie) = tied old key same less
-twice {offer} (kept old key by tie) (lower old' key' less') = absurd (omega arith)
-twice {offer} (kept old key by tie) (tied old' key' same' less') = absurd (omega (arith, tie))
-twice {offer} (kept old key by tie) (kept old' key' by' tie') = kept old key by tie
+twice {offer} (lower old key less) (kept old' key' by) = lower old key less
+twice {offer} (kept old key by) (lower old' key' less') = absurd (omega arith)
+twice {offer} (kept old key by) (kept old' key' by') = kept old key by
 
--- a label that isn't above the value by which the offer is above
-known_by : (old : Option Label) (key : Option ℕ) (offer : Label) (v : ℕ) → IsSomeAnd old (λ l. l.value ≤ v) → v < offer.value → IsOffered offer old key old key
-known_by None key offer v by above = absurd by
-known_by (Some l) key offer v by above = kept l key (omega arith) (λ le. absurd (omega arith))
+-- a label that isn't above a value is as good as what is above that
+known_by : (known : List (Option Label)) (d v t : ℕ) → IsSomeAnd (label_of known d) (λ l. l.value ≤ v) → v ≤ t → HasAsGood (HasValue known) d t
+known_by known d v t by above = go (label_of known d) refl by
+  where
+    go : (o : Option Label) → label_of known d ≡ o → IsSomeAnd o (λ l. l.value ≤ v) → HasAsGood (HasValue known) d t
+    go None is has = absurd has
+    go (Some l) is has = (l.value, (l, is, refl), omega (arith, has))
+
+-- what stands as it did, or was offered something, has a label as good as before
+pub good_still : (network : Network ℕ) (c v : ℕ) (old new : Standing) (d t : ℕ) → Same old new d ⊎ WasExpandedTo network c v old new d → HasAsGood (HasValue old.known) d t → HasAsGood (HasValue new.known) d t
+good_still network c v old new d t (inl same) has = (has.0, (has.1.0, same.label ∙ has.1.1, has.1.2), has.2)
+good_still network c v old new d t (inr to) has = let x = as_good_as_old to.offered has.1.0 has.1.1 in (x.0.value, (x.0, x.1, refl), omega (arith, x.2, has.1.2, has.2))
 
 module _ (network : Network ℕ) (c v : ℕ) where
   -- a cell has one expansion at most
@@ -38,14 +41,15 @@ module _ (network : Network ℕ) (c v : ℕ) where
   same_here : (s : Standing) (d : ℕ) → Same s s d
   same_here s d = record { label = refl; key = refl }
 
-  expanded_not : (IsDone : ℕ → Type 0) (s : Standing) → ((d t : ℕ) → IsDone d → IsExpansion network c v d t → WasOffered s s d (label_by c t)) → IsExpanded network c v IsDone s s
+  -- nothing changes where all have labels as good
+  pub expanded_not : (IsDone : ℕ → Type 0) (s : Standing) → ((d t : ℕ) → IsDone d → IsExpansion network c v d t → HasAsGood (HasValue s.known) d t) → IsExpanded network c v IsDone s s
   expanded_not IsDone s done = record { lengths = record { known = refl; keys = refl }; each = λ d. inl (same_here s d); done = done }
 
   -- the next cell's label is no later than the time at which cell c can be left
   pub expanded_known : (s : Standing) (next : ℕ) → 1 ≤ network.seconds next → IsSomeAnd (label_of s.known next) (λ l. l.value ≤ v) → IsExpanded network c v (λ d. d ≡ next) s s
   expanded_known s next takes by = expanded_not (λ d. d ≡ next) s (λ d t same e. (
       let seconds : network.seconds d ≡ network.seconds next = ap network.seconds same in
-      known_by (label_of s.known d) (key_of s.keys d) (label_by c t) v (subst (λ x. IsSomeAnd (label_of s.known x) (λ l. l.value ≤ v)) (sym same) by) (omega (arith, e.value))))
+      known_by s.known d v t (subst (λ x. IsSomeAnd (label_of s.known x) (λ l. l.value ≤ v)) (sym same) by) (omega (arith, e.value))))
 
   -- there is no expansion to it
   pub expanded_nothing : (s : Standing) (next : ℕ) → ((t : ℕ) → IsExpansion network c v next t → ⊥) → IsExpanded network c v (λ d. d ≡ next) s s
@@ -61,8 +65,8 @@ module _ (network : Network ℕ) (c v : ℕ) where
     ];
     done = λ d u same e'. (
         let moved : IsExpansion network c v next u = subst (λ x. IsExpansion network c v x u) same e' in
-        subst (λ x. WasOffered old new x (label_by c u)) (sym same)
-        (subst (λ n. WasOffered old new next (label_by c n)) (expansion_single next t u e moved) improved.here));
+        let good = as_good_as_offer improved.here in
+        subst (λ x. HasAsGood (HasValue new.known) x u) (sym same) (good.0.value, (good.0, good.1, refl), omega (arith, good.2, expansion_single next t u e moved)));
   }
 
   module _ (A B : ℕ → Type 0) (old mid new : Standing) (one : IsExpanded network c v A old mid) (two : IsExpanded network c v B mid new) where
@@ -83,28 +87,12 @@ module _ (network : Network ℕ) (c v : ℕ) where
     each_then d (inr a) (inl b) = inr (record { value = a.value; expands = a.expands; offered = offered_until d (label_by c a.value) a.offered b })
     each_then d (inr a) (inr b) = inr (record { value = a.value; expands = a.expands; offered = offered_both d a.value a.expands a.offered b })
 
-    done_first : (d t : ℕ) → A d → IsExpansion network c v d t → WasOffered old new d (label_by c t)
-    done_first d t a e = go (two.each d)
-      where
-        go : Same mid new d ⊎ WasExpandedTo network c v mid new d → WasOffered old new d (label_by c t)
-        go (inl same) = offered_until d (label_by c t) (one.done d t a e) same
-        go (inr to) = offered_both d t e (one.done d t a e) to
-
-    done_second : (d t : ℕ) → B d → IsExpansion network c v d t → WasOffered old new d (label_by c t)
-    done_second d t b e = go (one.each d)
-      where
-        go : Same old mid d ⊎ WasExpandedTo network c v old mid d → WasOffered old new d (label_by c t)
-        go (inl same) = offered_since d (label_by c t) same (two.done d t b e)
-        go (inr to) =
-            let before : WasOffered old mid d (label_by c t) = subst (λ n. WasOffered old mid d (label_by c n)) (expansion_single d to.value t to.expands e) to.offered in
-            twice before (two.done d t b e)
-
     -- one after the other
     pub expanded_then : (D : ℕ → Type 0) → ((d t : ℕ) → D d → IsExpansion network c v d t → A d ⊎ B d) → IsExpanded network c v D old new
     expanded_then D split = record {
       lengths = record { known = two.lengths.known ∙ one.lengths.known; keys = two.lengths.keys ∙ one.lengths.keys };
       each = λ d. each_then d (one.each d) (two.each d);
-      done = λ d t is e. elim (split d t is e) [ inl a ↦ done_first d t a e | inr b ↦ done_second d t b e ];
+      done = λ d t is e. elim (split d t is e) [ inl a ↦ good_still network c v mid new d t (two.each d) (one.done d t a e) | inr b ↦ two.done d t b e ];
     }
 
   -- the same cells in other words

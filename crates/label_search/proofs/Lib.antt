@@ -1,10 +1,12 @@
 pub mod Offers
 pub mod Expansions
 pub mod Settling
+pub mod Reaching
 pub mod Traced
 pub mod Steps
 pub mod Begins
 pub mod Picking
+pub mod Leading
 pub mod GroupLaws
 pub mod ValueLaws
 pub mod Taking

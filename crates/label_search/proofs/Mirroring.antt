@@ -9,16 +9,16 @@ use Rattle.label_core.specs.BackwardWalks.{IsLatestEntry}
 use Rattle.label_core.specs.BackwardTables.{IsAbove}
 use Rattle.label_core.specs.BackwardBest.{IsBestBegin, HasNoWalkFrom, IsPickedRouteOn}
 use Rattle.label_core.specs.Mirror.{mirror_start, mirror_starts, mirror_network, mirror_step, IsUpTo}
-use Rattle.label_core.proofs.MirroredWalks.{option_map_some, leads_by, reaches_by, latest_in_mirror, latest_from_mirror, expansion_from_mirror}
+use Rattle.label_core.proofs.MirroredWalks.{option_map_some, leads_by, reaches_by, latest_in_mirror, latest_from_mirror}
 use Rattle.label_core.proofs.MirroredBest.{best_begin, no_walk_from, route_on}
 use Rattle.label_search.specs.declared.cells.Run.{Run}
 use Rattle.label_search.specs.declared.values.CellValue.{CellValue}
 use Rattle.label_search.specs.declared.pick.CellStep.{CellStep}
 use Rattle.label_search.specs.declared.forward.Route.{Route}
-use Rattle.label_search.specs.Problem.{IsProblem, IsPartOf, MayComeTo}
+use Rattle.label_search.specs.Problem.{IsProblem, IsPartOf, IsPartBefore, MayComeTo}
 use Rattle.label_search.specs.Values.{AreExits, AreEntries}
 use Rattle.label_search.specs.Answer.{step_of, best_of, ComesBefore}
-use Rattle.label_search.specs.Backward.{BackwardProblem, IsBackwardProblem, IsBackwardPartOf, mirror_second, mirror_problem, mirror_value, mirror_cell_step, MayGoFrom}
+use Rattle.label_search.specs.Backward.{BackwardProblem, IsBackwardProblem, IsBackwardPartOf, IsPartAfter, mirror_second, mirror_problem, mirror_value, mirror_cell_step, MayGoFrom}
 use Rattle.label_search.proofs.ValueLaws.{rows_from-map, get_or-option_map}
 
 -- steps, turned and seen in the mirror
@@ -34,7 +34,14 @@ steps_in_mirror steps = map-reverse_onto steps [] [] refl
 pub part_in_mirror : (b : BackwardProblem) → IsUpTo mirror_second b.network b.finishes → (c ready last : ℕ) (whole part : Run) → IsBackwardPartOf b c (mirror_second - ready) (mirror_second - last) whole part → IsPartOf (mirror_problem b) c ready last whole part
 part_in_mirror b fits c ready last whole part is_part = record {
   permitted = is_part.permitted;
-  expansions_in = λ d t is e by. is_part.expansions_in d (mirror_second - t) is (expansion_from_mirror b.network b.finishes mirror_second fits c ready d t (omega (arith, e.still_held)) e) (omega (arith, by, fits.windows_last d));
+  wanted_in = λ o d is turn by in_time. is_part.wanted_in d o is turn (omega (arith, by, fits.windows_last d)) (omega (arith, in_time, fits.windows_last d, fits.windows_from d));
+}
+
+-- and that from which walks come that enter at a second
+pub part_before_in_mirror : (b : BackwardProblem) → IsUpTo mirror_second b.network b.finishes → (c second : ℕ) (whole part : Run) → IsPartAfter b c (mirror_second - second) whole part → IsPartBefore (mirror_problem b) c second whole part
+part_before_in_mirror b fits c second whole part is_part = record {
+  permitted = is_part.permitted;
+  open_in = λ d is turn from last. is_part.open_in d is turn (omega (arith, last, fits.windows_from d)) (omega (arith, from, fits.windows_last d));
 }
 
 -- where walks may come to a cell in the mirror, they may go on from it
@@ -57,6 +64,8 @@ module _ (b : BackwardProblem) (sound : IsBackwardProblem b) where
     small_seconds = sound.small_seconds;
     small_last = λ c. omega arith;
     turns_in_runs = λ c d turn. sound.turns_in_runs d c turn;
+    turns_in_runs_before = λ c d turn. sound.turns_in_runs_after d c turn;
+    numbers_inside = sound.numbers_inside;
     turns_inside = λ c d turn. (let inside = sound.turns_inside d c turn in (inside.1, inside.0));
     starts_inside = λ c s is. (let f = option_map_some (mirror_start mirror_second) (b.finishes c) s is in sound.finishes_inside c f.0 f.1);
     starts_in_runs = λ c s is. (let f = option_map_some (mirror_start mirror_second) (b.finishes c) s is in sound.finishes_in_runs c f.0 f.1);

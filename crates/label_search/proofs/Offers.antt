@@ -1,31 +1,31 @@
 -- What an offer to one cell does to its label and its key.
-use Rattle.std.proofs.Common.{◌≡◌, ℕ, ◌<◌, length, set, Option, Some, None, IfSome, refl, inl, inr, arith}
-use Rattle.std.specs.Prelude.{IsSomeAnd}
+use Rattle.std.proofs.Common.{◌≡◌, ℕ, ◌<◌, ◌≤◌, length, set, Option, Some, None, IfSome, refl, ap, inl, inr, arith}
 use Rattle.std.proofs.lemmas.Grind.{get_or-set_at}
 use Rattle.std.proofs.lemmas.List.{get_or-set_other, length-set}
 use Rattle.std.proofs.lemmas.Bool.{cases_lt}
 use Rattle.label_queue.specs.Keys.{key_of, lesser, lowered}
 use Rattle.label_search.specs.declared.labels.Label.{Label}
 use Rattle.label_search.specs.Labels.{Standing, label_of, IsOffered, IsImproved}
-use Rattle.label_search.specs.Labels.IsOffered.{first, lower, tied, kept}
+use Rattle.label_search.specs.Labels.IsOffered.{first, lower, kept}
 
 offered_lower : (offer : Label) (old : Option Label) (key : Option ℕ) → IfSome old (λ l. offer.value < l.value) → IsOffered offer old key (Some offer) (Some (lesser key offer.value))
 offered_lower offer None key less = first key
 offered_lower offer (Some l) key less = lower l key less
 
-offered_tied : (offer : Label) (old : Option Label) (key : Option ℕ) → IsSomeAnd old (λ l. (offer.value ≡ l.value) × (offer.via < l.via)) → IsOffered offer old key (Some offer) key
-offered_tied offer None key tie = absurd tie
-offered_tied offer (Some l) key tie = tied l key tie.0 tie.1
+offered_kept : (offer : Label) (old : Option Label) (key : Option ℕ) → (IfSome old (λ l. offer.value < l.value) → ⊥) → IsOffered offer old key old key
+offered_kept offer None key not_less = absurd (not_less tt)
+offered_kept offer (Some l) key not_less = kept l key (elim (cases_lt offer.value l.value) [ inl lt ↦ absurd (not_less lt) | inr le ↦ le ])
 
-offered_kept : (offer : Label) (old : Option Label) (key : Option ℕ) → (IfSome old (λ l. offer.value < l.value) → ⊥)
-    → (IsSomeAnd old (λ l. (offer.value ≡ l.value) × (offer.via < l.via)) → ⊥) → IsOffered offer old key old key
-offered_kept offer None key not_less not_tied = absurd (not_less tt)
-offered_kept offer (Some l) key not_less not_tied = kept l key
-    (elim (cases_lt offer.value l.value) [ inl lt ↦ absurd (not_less lt) | inr le ↦ le ])
-    (λ by. elim (cases_lt offer.via l.via) [
-      | inl lt ↦ elim (cases_lt offer.value l.value) [ inl less ↦ absurd (not_less less) | inr le ↦ absurd (not_tied (omega arith, lt)) ]
-      | inr le ↦ le
-    ])
+-- the label is as good as the old one, and as the offer
+pub as_good_as_old : {offer : Label} {l m : Option Label} {i j : Option ℕ} → IsOffered offer l i m j → (old : Label) → l ≡ Some old → (x : Label) × (m ≡ Some x) × (x.value ≤ old.value)
+as_good_as_old {offer} (first key) old is = absurd (let e : None ≡ Some old = is in cc)
+as_good_as_old {offer} (lower o key less) old is = let e : Some o ≡ Some old = is in let same : o ≡ old = cc in (offer, refl, omega (arith, ap (λ l. l.value) same))
+as_good_as_old (kept o key by) old is = (old, is, omega arith)
+
+pub as_good_as_offer : {offer : Label} {l m : Option Label} {i j : Option ℕ} → IsOffered offer l i m j → (x : Label) × (m ≡ Some x) × (x.value ≤ offer.value)
+as_good_as_offer {offer} (first key) = (offer, refl, omega arith)
+as_good_as_offer {offer} (lower o key less) = (offer, refl, omega arith)
+as_good_as_offer (kept o key by) = (o, refl, by)
 
 module _ (s : Standing) (cell : ℕ) (offer : Label) (in_known : cell < length s.known) (in_keys : cell < length s.keys) where
   written : label_of (set s.known cell (Some offer)) cell ≡ Some offer
@@ -45,20 +45,10 @@ module _ (s : Standing) (cell : ℕ) (offer : Label) (in_known : cell < length s
     };
   }
 
-  -- the label alone is
-  pub improved_tied : IsSomeAnd (label_of s.known cell) (λ l. (offer.value ≡ l.value) × (offer.via < l.via))
-      → IsImproved s (record { known = set s.known cell (Some offer); keys = s.keys }) cell offer
-  improved_tied tie = record {
-    lengths = record { known = length-set s.known cell (Some offer); keys = refl };
-    here = rw written (offered_tied offer (label_of s.known cell) (key_of s.keys cell) tie);
-    elsewhere = λ x other. record { label = get_or-set_other s.known cell x (Some offer) None other; key = refl };
-  }
-
   -- neither is
-  pub improved_not : (IfSome (label_of s.known cell) (λ l. offer.value < l.value) → ⊥)
-      → (IsSomeAnd (label_of s.known cell) (λ l. (offer.value ≡ l.value) × (offer.via < l.via)) → ⊥) → IsImproved s s cell offer
-  improved_not not_less not_tied = record {
+  pub improved_not : (IfSome (label_of s.known cell) (λ l. offer.value < l.value) → ⊥) → IsImproved s s cell offer
+  improved_not not_less = record {
     lengths = record { known = refl; keys = refl };
-    here = offered_kept offer (label_of s.known cell) (key_of s.keys cell) not_less not_tied;
+    here = offered_kept offer (label_of s.known cell) (key_of s.keys cell) not_less;
     elsewhere = λ x other. record { label = refl; key = refl };
   }

@@ -1,9 +1,10 @@
 -- Picking back, step by step.
 use Rattle.std.proofs.Common.{◌≡◌, ℕ, ◌-◌, ◌<◌, ◌≤◌, List, [], ◌∷◌, ◌++◌, map, length, Option, Some, None, refl, sym, ap, ◌∙◌, subst, inl, inr, arith}
 use Rattle.std.proofs.lemmas.List.{get_or_past}
-use Rattle.std.proofs.lemmas.Bool.{cases_lt}
+use Rattle.std.specs.Prelude.{⊤}
+use Rattle.std.proofs.lemmas.Bool.{cases_lt, cases_Bool}
 use Rattle.label_core.specs.Walks.{Network, Start, Step, IsEarliestExit}
-use Rattle.label_core.specs.Labels.{entry, IsStartEntry}
+use Rattle.label_core.specs.Labels.{entry, IsStartEntry, IsExpansion}
 use Rattle.label_core.specs.Picked.{IsFirstBefore, IsPicked}
 use Rattle.label_core.specs.Picked.IsPicked.{at_start, going_back}
 use Rattle.label_core.proofs.SettledCells.{settled_exact}
@@ -11,6 +12,9 @@ use Rattle.label_search.specs.declared.labels.Label.{Label}
 use Rattle.label_search.specs.declared.pick.CellStep.{CellStep}
 use Rattle.label_search.specs.declared.settle.Goal.{Goal}
 use Rattle.label_search.specs.Problem.{Problem, IsProblem}
+use Rattle.label_search.specs.declared.pick.Entering.{Entering}
+use Rattle.label_search.specs.Entering.{leave_of, IsFirstOf, AreInWindows}
+use Rattle.label_search.proofs.Settling.{HasValue-single}
 use Rattle.label_search.specs.Labels.{Standing, label_of, HasValue}
 use Rattle.label_search.specs.Standing.{SettledValue, IsTraced, IsAtEnd}
 use Rattle.label_search.specs.Answer.{step_of, ComesBefore}
@@ -56,22 +60,49 @@ module _ (p : Problem) (sound : IsProblem p) (s : Standing) (goal : Goal) (ended
   pub goal_labelled : HasValue s.known goal.cell goal.end
   goal_labelled = ended.some.least.known
 
-  -- the cell before, by its label, is the first whose earliest exit expands to the value
-  pub first_before : (c : ℕ) (label : Label) → label_of s.known c ≡ Some label → label.value ≤ goal.end → (IsStartEntry p.network p.starts c label.value → ⊥)
-      → (before : Label) × (label_of s.known label.via ≡ Some before) × IsFirstBefore p.network ComesBefore (IsEarliestExit p.network p.starts) c label.value label.via before.value
-  first_before c label is by not_start = go (ended.traced c label is)
+  -- a label below the best end is a settled one
+  settled_below : (x u : ℕ) → HasValue s.known x u → u < goal.end → SettledValue s ended.settled x u
+  settled_below x u has below = elim (cases_Bool (ended.settled x)) [ inl is ↦ (is, has) | inr not ↦ absurd (ended.some.least.least x u not has below) ]
+
+  -- no label is before the window of its cell
+  pub in_windows : AreInWindows p s.known
+  in_windows x u has = go (ended.traced x has.0 has.1)
     where
-      go : IsTraced p (SettledValue s ended.settled) c label
-          → (before : Label) × (label_of s.known label.via ≡ Some before) × IsFirstBefore p.network ComesBefore (IsEarliestExit p.network p.starts) c label.value label.via before.value
-      go (inl start) = absurd (not_start start)
-      go (inr (w, first)) =
-          let before = first.has.1 in (
-            before.0,
-            before.1,
-            subst (λ n. IsFirstBefore p.network ComesBefore (IsEarliestExit p.network p.starts) c label.value label.via n) (sym before.2)
-                (record {
-                  has = (exact label.via w (omega (arith, first.expands.value, sound.takes c))).0 first.has;
-                  expands = first.expands;
-                  first = λ x u less earliest e. first.first x u less ((exact x u (omega (arith, e.value, sound.takes c))).1 earliest) e;
-                }),
-          )
+      go : IsTraced p (SettledValue s ended.settled) x has.0 → p.network.from x ≤ u
+      go (inl start) = omega (arith, start.value, has.2)
+      go (inr (w, row, e)) = omega (arith, e.value, has.2)
+
+  module _ (c : ℕ) (label : Label) (is : label_of s.known c ≡ Some label) (by : label.value ≤ goal.end) (not_start : IsStartEntry p.network p.starts c label.value → ⊥) where
+    -- the label came by a cell that expands to it
+    pub came_by : (u : ℕ) × HasValue s.known label.via u × IsExpansion p.network label.via u c label.value
+    came_by = go (ended.traced c label is)
+      where
+        go : IsTraced p (SettledValue s ended.settled) c label → (u : ℕ) × HasValue s.known label.via u × IsExpansion p.network label.via u c label.value
+        go (inl start) = absurd (not_start start)
+        go (inr (w, row, e)) = (w, row.1, e)
+
+    -- the first cell that does so is the first whose earliest exit expands to it
+    pub first_is_picked : (to : Entering) (x : ℕ) → to.cell ≡ c → leave_of p to ≡ label.value → IsFirstOf p s.known to (λ d. ⊤) x
+        → (before : Label) → label_of s.known x ≡ Some before → IsFirstBefore p.network ComesBefore (IsEarliestExit p.network p.starts) c label.value x before.value
+    first_is_picked to x cell value first before there = record {
+      has = (exact x before.value (omega (arith, below))).0 (settled_below x before.value here (omega (arith, below)));
+      expands = e;
+      first = λ y u less earliest other. (
+          let row = (exact y u (omega (arith, other.value, sound.takes c, by))).1 earliest in
+          let moved : IsExpansion p.network y u to.cell label.value = subst (λ d. IsExpansion p.network y u d label.value) (sym cell) other in
+          first.none_before y less tt (u, row.1, subst (λ n. IsExpansion p.network y u to.cell n) (sym value) moved));
+    }
+      where
+        here : HasValue s.known x before.value
+        here = (before, there, refl)
+
+        same : first.leads.0 ≡ before.value
+        same = HasValue-single s.known x first.leads.0 before.value first.leads.1 here
+
+        e : IsExpansion p.network x before.value c label.value
+        e =
+            let at : IsExpansion p.network x first.leads.0 to.cell label.value = subst (λ n. IsExpansion p.network x first.leads.0 to.cell n) value first.leads.2 in
+            subst (λ u. IsExpansion p.network x u c label.value) same (subst (λ d. IsExpansion p.network x first.leads.0 d label.value) cell at)
+
+        below : before.value < goal.end
+        below = omega (arith, e.value, sound.takes c, by)

@@ -13,7 +13,8 @@ use Rattle.label_core.proofs.SettledCells.{IsSettling, search_goes_on}
 use Rattle.label_search.specs.declared.labels.Label.{Label}
 use Rattle.label_search.specs.Problem.{Problem, IsProblem}
 use Rattle.label_search.specs.Labels.{Standing, HasValue, IsOffered, Same}
-use Rattle.label_search.specs.Labels.IsOffered.{first, lower, tied, kept}
+use Rattle.label_search.specs.Labels.IsOffered.{first, lower, kept}
+use Rattle.label_search.proofs.Offers.{as_good_as_old}
 use Rattle.label_search.specs.Expanding.{WasExpandedTo, IsExpanded}
 use Rattle.label_search.specs.Standing.{is_settled_by, is_settled, IsUnderway}
 
@@ -32,8 +33,7 @@ settled_kept : {offer : Label} {l m : Option Label} {i j : Option ℕ} → IsOff
 settled_kept (first key) settled = refl
 settled_kept {offer} (lower old None less) settled = absurd (omega (arith, settled old refl refl))
 settled_kept (lower old (Some k) less) settled = refl
-settled_kept (tied old key same less) settled = refl
-settled_kept (kept old key by tie) settled = refl
+settled_kept (kept old key by) settled = refl
 
 -- a cell in the queue has its value as its key
 queued_kept : {offer : Label} {l m : Option Label} {i j : Option ℕ} → IsOffered offer l i m j
@@ -49,32 +49,13 @@ queued_kept {offer} (lower old (Some k) less) queued q is =
     let key : Some (min k offer.value) ≡ Some q = is in
     let lesser_key : min k offer.value ≡ q = cc in
     (offer, refl, omega arith)
-queued_kept {offer} (tied old key same less) queued q is =
-    let h = queued q is in
-    let e : Some old ≡ Some h.0 = h.1 in
-    let same_label : old ≡ h.0 = cc in
-    (offer, refl, same ∙ ap (λ l. l.value) same_label ∙ h.2)
-queued_kept (kept old key by tie) queued q is = queued q is
+queued_kept (kept old key by) queued q is = queued q is
 
 -- a label is an old one or the offer
 label_from : {offer : Label} {l m : Option Label} {i j : Option ℕ} → IsOffered offer l i m j → (x : Label) → m ≡ Some x → (l ≡ Some x) ⊎ (x ≡ offer)
 label_from {offer} (first key) x is = inr (let e : Some offer ≡ Some x = is in cc)
 label_from {offer} (lower old key less) x is = inr (let e : Some offer ≡ Some x = is in cc)
-label_from {offer} (tied old key same less) x is = inr (let e : Some offer ≡ Some x = is in cc)
-label_from (kept old key by tie) x is = inl is
-
--- the label is as good as the old one, and as the offer
-as_good_as_old : {offer : Label} {l m : Option Label} {i j : Option ℕ} → IsOffered offer l i m j → (old : Label) → l ≡ Some old → (x : Label) × (m ≡ Some x) × (x.value ≤ old.value)
-as_good_as_old {offer} (first key) old is = absurd (let e : None ≡ Some old = is in cc)
-as_good_as_old {offer} (lower o key less) old is = let e : Some o ≡ Some old = is in let same : o ≡ old = cc in (offer, refl, omega (arith, ap (λ l. l.value) same))
-as_good_as_old {offer} (tied o key at less) old is = let e : Some o ≡ Some old = is in let same : o ≡ old = cc in (offer, refl, omega (arith, ap (λ l. l.value) same))
-as_good_as_old (kept o key by tie) old is = (old, is, omega arith)
-
-as_good_as_offer : {offer : Label} {l m : Option Label} {i j : Option ℕ} → IsOffered offer l i m j → (x : Label) × (m ≡ Some x) × (x.value ≤ offer.value)
-as_good_as_offer {offer} (first key) = (offer, refl, omega arith)
-as_good_as_offer {offer} (lower o key less) = (offer, refl, omega arith)
-as_good_as_offer {offer} (tied o key at less) = (offer, refl, omega arith)
-as_good_as_offer (kept o key by tie) = (o, refl, by)
+label_from (kept old key by) x is = inl is
 
 -- ---- the least cell
 
@@ -192,7 +173,7 @@ module _ (p : Problem) (sound : IsProblem p) (s : Standing) (under : IsUnderway 
     expanded_over = record {
       from_old = value_from;
       old_kept = value_kept;
-      expansions_in = λ d t e. (let x = as_good_as_offer (expanded.done d t tt e) in (x.0.value, (x.0, x.1, refl), x.2));
+      expansions_in = λ d t e. expanded.done d t tt e;
     }
 
     pub search_new : IsSearch p.network p.starts (HasValue new.known) (is_settled new)

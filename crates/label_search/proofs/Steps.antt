@@ -1,19 +1,17 @@
 -- One step of the search: a least cell is taken and expanded; or the search is at its end.
-use Rattle.std.proofs.Common.{◌≡◌, ℕ, zero, suc, ◌+◌, ◌^◌, ◌<◌, ◌≤◌, Bool, true, false, Option, Some, None, refl, sym, ap, ◌∙◌, subst, ◌⊎◌, inl, inr, arith}
+use Rattle.std.proofs.Common.{◌≡◌, ℕ, zero, suc, ◌+◌, ◌^◌, ◌<◌, ◌≤◌, Bool, true, false, Some, None, refl, sym, ap, ◌∙◌, ◌⊎◌, inl, inr, arith}
 use Rattle.std.proofs.lemmas.Bool.{cases_eq, cases_Bool, false≢true}
 use Rattle.std.specs.Prelude.{⊤}
 use Rattle.std.proofs.lemmas.List.{length-set}
-use Rattle.label_queue.specs.Keys.{IsEmpty}
+use Rattle.label_queue.specs.Keys.{key_of, IsEmpty}
 use Rattle.label_queue.specs.Least.{IsLeast}
-use Rattle.label_core.specs.Labels.{IsExpansion}
 use Rattle.label_core.proofs.SettledCells.{IsSettling}
 use Rattle.label_search.specs.declared.labels.Label.{Label}
 use Rattle.label_search.specs.Problem.{Problem, IsProblem, MayComeTo}
-use Rattle.label_search.specs.Labels.{Standing, label_of, HasValue, IsOffered, Same}
-use Rattle.label_search.specs.Labels.IsOffered.{first, lower, tied, kept}
+use Rattle.label_search.specs.Labels.{Standing, label_of, HasValue, Same}
 use Rattle.label_search.specs.Expanding.{WasExpandedTo, IsExpanded}
 use Rattle.label_search.specs.Standing.{is_settled, SettledValue, IsTraced, AreTraced, IsUnderway, IsAtEnd}
-use Rattle.label_search.proofs.Settling.{HasValue-single, taken, least_known, least_not_settled, key_of_left, least_left, settling_new, queued_new, search_new, settled_value_back, settled_value_on}
+use Rattle.label_search.proofs.Settling.{taken, least_known, least_not_settled, key_of_left, least_left, settling_new, queued_new, search_new, settled_value_back, settled_value_on}
 use Rattle.label_search.proofs.Traced.{traced_still, traced_offered}
 
 -- 1 for a cell that isn't settled
@@ -46,26 +44,10 @@ module _ (old new : ℕ → Bool) (kept : (d : ℕ) → old d ≡ true → new d
     | inr other ↦ omega (arith, fewer_left c n (omega arith) was is, one_left (old n) (new n) (kept n))
   ]
 
--- an offer at a label's value that leaves the label came by no lesser cell
-stays : {offer : Label} {l m : Option Label} {i j : Option ℕ} → IsOffered offer l i m j → (x : Label) → l ≡ Some x → m ≡ Some x → offer.value ≡ x.value → x.via ≤ offer.via
-stays (first key) x was is at = absurd (let e : None ≡ Some x = was in cc)
-stays {offer} (lower old key less) x was is at =
-    let e : Some old ≡ Some x = was in
-    let same : old ≡ x = cc in
-    omega (arith, less, at, ap (λ y. y.value) same)
-stays {offer} (tied old key same less) x was is at =
-    let e : Some offer ≡ Some x = is in
-    let now : offer ≡ x = cc in
-    omega (arith, ap (λ y. y.via) now)
-stays (kept old key by tie) x was is at =
-    let e : Some old ≡ Some x = was in
-    let same : old ≡ x = cc in
-    omega (arith, tie, at, ap (λ y. y.value) same, ap (λ y. y.via) same)
-
 -- walks may come to a cell with a label that says why
 pub traced_come_to : (p : Problem) (Row : ℕ → ℕ → Type 0) (d : ℕ) (label : Label) → IsTraced p Row d label → MayComeTo p d
 traced_come_to p Row d label (inl start) = inl (start.start, start.here)
-traced_come_to p Row d label (inr before) = inr (label.via, before.1.expands.by_turn)
+traced_come_to p Row d label (inr before) = inr (label.via, before.2.by_turn)
 
 -- and such a cell is below the count
 pub come_to_inside : (p : Problem) → IsProblem p → (d : ℕ) → MayComeTo p d → d < p.count
@@ -78,17 +60,17 @@ traced_inside p sound Row d label traced = come_to_inside p sound d (traced_come
 -- and its value is small
 traced_small : (p : Problem) → IsProblem p → (Row : ℕ → ℕ → Type 0) (d : ℕ) (label : Label) → IsTraced p Row d label → label.value < 2 ^ 31
 traced_small p sound Row d label (inl start) = omega (arith, start.in_time, sound.small_last d)
-traced_small p sound Row d label (inr before) = omega (arith, before.1.expands.in_time, sound.small_last d)
+traced_small p sound Row d label (inr before) = omega (arith, before.2.in_time, sound.small_last d)
 
 module _ (p : Problem) (sound : IsProblem p) (s : Standing) (under : IsUnderway p s) (c k : ℕ) (least : IsLeast s.keys c k) where
   pub cell_come_to : MayComeTo p c
-  cell_come_to = let known = least_known p sound s under c k least in traced_come_to p _ c known.0 (under.traced c known.0 known.1)
+  cell_come_to = let known = least_known p sound s under c k least in traced_come_to p (SettledValue s (is_settled s)) c known.0 (under.traced c known.0 known.1)
 
   pub cell_inside : c < p.count
   cell_inside = come_to_inside p sound c cell_come_to
 
   pub key_small : k < 2 ^ 31
-  key_small = let known = least_known p sound s under c k least in omega (arith, traced_small p sound _ c known.0 (under.traced c known.0 known.1), known.2)
+  key_small = let known = least_known p sound s under c k least in omega (arith, traced_small p sound (SettledValue s (is_settled s)) c known.0 (under.traced c known.0 known.1), known.2)
 
   module _ (new : Standing) (expanded : IsExpanded p.network c k (λ d. ⊤) (taken p sound s under c k least) new) where
     settling : IsSettling (is_settled s) (is_settled new) c
@@ -103,19 +85,8 @@ module _ (p : Problem) (sound : IsProblem p) (s : Standing) (under : IsUnderway 
     row_kept : (x u : ℕ) → SettledValue s (is_settled s) x u → SettledValue new (is_settled new) x u
     row_kept x u row = let is = settling.kept x row.0 in (is, on x u is row.1)
 
-    row_split : (x u : ℕ) → SettledValue new (is_settled new) x u → SettledValue s (is_settled s) x u ⊎ ((x ≡ c) × (u ≡ k))
-    row_split x u row = elim (settling.only x row.0) [
-      | inl was ↦ inl (was, back x u row.0 row.1)
-      | inr same ↦ inr (same, HasValue-single s.known c u k (subst (λ y. HasValue s.known y u) same (back x u row.0 row.1)) (least_known p sound s under c k least))
-    ]
-
     row_here : SettledValue new (is_settled new) c k
     row_here = (settling.here, on c k settling.here (least_known p sound s under c k least))
-
-    closed : (d x u w : ℕ) → SettledValue s (is_settled s) x u → IsExpansion p.network x u d w → (o : Label) × (label_of s.known d ≡ Some o) × (o.value ≤ w)
-    closed d x u w row e =
-        let good = under.search.expansions_known x d u w row.0 row.1 e in
-        (good.1.0, good.1.1, omega (arith, good.2, good.1.2))
 
     traced_new : AreTraced p new (is_settled new)
     traced_new d label is = go (expanded.each d)
@@ -123,11 +94,10 @@ module _ (p : Problem) (sound : IsProblem p) (s : Standing) (under : IsUnderway 
         go : Same (taken p sound s under c k least) new d ⊎ WasExpandedTo p.network c k (taken p sound s under c k least) new d → IsTraced p (SettledValue new (is_settled new)) d label
         go (inl same) =
             let was : label_of s.known d ≡ Some label = sym same.label ∙ is in
-            traced_still p c k (SettledValue s (is_settled s)) (SettledValue new (is_settled new)) row_here row_kept row_split d label (under.traced d label was)
-            (λ e. stays (expanded.done d label.value tt e) label was is refl)
+            traced_still p c k (SettledValue s (is_settled s)) (SettledValue new (is_settled new)) row_here row_kept d label (under.traced d label was)
         go (inr to) =
-            traced_offered p c k (SettledValue s (is_settled s)) (SettledValue new (is_settled new)) row_here row_kept row_split d to.value to.expands to.offered
-            (closed d) (under.traced d) label is
+            traced_offered p c k (SettledValue s (is_settled s)) (SettledValue new (is_settled new)) row_here row_kept d to.value to.expands to.offered
+            (under.traced d) label is
 
     -- the search goes on
     pub underway_new : p.target c ≡ false → IsUnderway p new
@@ -138,6 +108,13 @@ module _ (p : Problem) (sound : IsProblem p) (s : Standing) (under : IsUnderway 
       traced = traced_new;
       passed = λ d is. elim (settling.only d is) [ inl was ↦ under.passed d was | inr same ↦ ap p.target same ∙ no_target ];
     }
+
+    -- no key is below the value of the cell
+    pub ahead_new : (d q : ℕ) → key_of new.keys d ≡ Some q → k ≤ q
+    ahead_new d q is =
+        let has = queued_new p sound s under c k least new expanded d q is in
+        let left : is_settled new d ≡ false = rw (has.1, is) refl in
+        (search_new p sound s under c k least new expanded).settled_first c d k q settling.here row_here.1 left has
 
     -- with one cell less to settle
     pub fewer_new : left_below (is_settled new) p.count < left_below (is_settled s) p.count

@@ -24,7 +24,11 @@ cut_problem until p = record {
   target = p.target;
   count = p.count;
   runs = p.runs;
+  number = p.number;
+  numbers = p.numbers;
   run = p.run;
+  runs_before = p.runs_before;
+  run_before = p.run_before;
   first_runs = p.first_runs;
   first_run = p.first_run;
 }

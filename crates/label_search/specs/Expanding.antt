@@ -2,10 +2,11 @@
 use Rattle.std.specs.Prelude.{◌≡◌, ◌<◌, ◌≤◌, ◌^◌, ℕ, ◌⊎◌, length}
 use Rattle.label_core.specs.Walks.{Network}
 use Rattle.label_core.specs.Labels.{IsExpansion}
+use Rattle.label_core.specs.Tables.{HasAsGood}
 use Rattle.label_search.specs.declared.labels.Label.{Label}
 use Rattle.label_search.specs.declared.expand.Ready.{Ready}
 use Rattle.label_search.specs.Problem.{Problem}
-use Rattle.label_search.specs.Labels.{Standing, SameLengths, Same, WasOffered}
+use Rattle.label_search.specs.Labels.{Standing, HasValue, SameLengths, Same, WasOffered}
 
 -- what cell c offers at the value
 abbrev pub label_by : ℕ → ℕ → Label
@@ -17,11 +18,11 @@ pub record WasExpandedTo (network : Network ℕ) (c v : ℕ) (old new : Standing
   pub expands : IsExpansion network c v d value
   pub offered : WasOffered old new d (label_by c value)
 
--- each cell was offered its expansion of cell c or stands as before, and those that are done were offered it
+-- each cell was offered its expansion of cell c or stands as before, and those that are done have a label that is as good
 pub record IsExpanded (network : Network ℕ) (c v : ℕ) (IsDone : ℕ → Type 0) (old new : Standing) : Type 0 where
   pub lengths : SameLengths old new
   pub each : (d : ℕ) → Same old new d ⊎ WasExpandedTo network c v old new d
-  pub done : (d t : ℕ) → IsDone d → IsExpansion network c v d t → WasOffered old new d (label_by c t)
+  pub done : (d t : ℕ) → IsDone d → IsExpansion network c v d t → HasAsGood (HasValue new.known) d t
 
 -- there are a place and a key for each of so many cells, or for more
 pub record HasRoom (count : ℕ) (s : Standing) : Type 0 where

@@ -21,12 +21,11 @@ abbrev pub HasValue : List (Option Label) → ℕ → ℕ → Type 0
 HasValue known c v = (label : Label) × (label_of known c ≡ Some label) × (label.value ≡ v)
 
 -- A label is offered to a cell that has this label, or none, and this key in the queue, or none; then the cell has that
--- label and that key. The lesser value wins, and at a tie the value that came by the lesser cell.
+-- label and that key. The lesser value wins, and at a tie the label stays.
 pub data IsOffered (offer : Label) : Option Label → Option ℕ → Option Label → Option ℕ → Type 0 where
   first : (key : Option ℕ) → IsOffered offer None key (Some offer) (Some (lesser key offer.value))
   lower : (old : Label) (key : Option ℕ) → offer.value < old.value → IsOffered offer (Some old) key (Some offer) (Some (lesser key offer.value))
-  tied : (old : Label) (key : Option ℕ) → offer.value ≡ old.value → offer.via < old.via → IsOffered offer (Some old) key (Some offer) key
-  kept : (old : Label) (key : Option ℕ) → old.value ≤ offer.value → (offer.value ≤ old.value → old.via ≤ offer.via) → IsOffered offer (Some old) key (Some old) key
+  kept : (old : Label) (key : Option ℕ) → old.value ≤ offer.value → IsOffered offer (Some old) key (Some old) key
 
 -- as many cells as before
 pub record SameLengths (old new : Standing) : Type 0 where

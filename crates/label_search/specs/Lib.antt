@@ -9,3 +9,5 @@ pub mod Values
 pub mod Groups
 pub mod Begun
 pub mod Cut
+pub mod Reached
+pub mod Entering

@@ -1,8 +1,7 @@
 -- Where does the search stand between two steps, and when is it at its end?
 use Rattle.std.specs.Prelude.{◌≡◌, ◌<◌, ◌⊎◌, ℕ, Bool, true, ◌&&◌, is_some, is_none, Option, Some, None, IfSome, IfNone}
 use Rattle.label_queue.specs.Keys.{key_of}
-use Rattle.label_core.specs.Labels.{IsStartEntry}
-use Rattle.label_core.specs.Picked.{IsFirstBefore}
+use Rattle.label_core.specs.Labels.{IsStartEntry, IsExpansion}
 use Rattle.label_core.specs.Settling.{IsSearch, IsLeastLeft, NoneLeftBelow, NoneSettled}
 use Rattle.label_search.specs.declared.labels.Label.{Label}
 use Rattle.label_search.specs.declared.settle.Goal.{Goal}
@@ -17,10 +16,10 @@ is_settled_by label key = is_some label && is_none key
 abbrev pub is_settled : Standing → ℕ → Bool
 is_settled s c = is_settled_by (label_of s.known c) (key_of s.keys c)
 
--- a cell's label says why: a walk may begin there so, or it came by the first of the rows' cells that expand to it
+-- a cell's label says why: a walk may begin there so, or it came by one of the rows' cells that expand to it
 abbrev pub IsTraced : Problem → (ℕ → ℕ → Type 0) → ℕ → Label → Type 0
 IsTraced p Row d label =
-    IsStartEntry p.network p.starts d label.value ⊎ ((w : ℕ) × IsFirstBefore p.network (λ x y. x < y) Row d label.value label.via w)
+    IsStartEntry p.network p.starts d label.value ⊎ ((w : ℕ) × Row label.via w × IsExpansion p.network label.via w d label.value)
 
 -- the cells that are settled, with their values
 abbrev pub SettledValue : Standing → (ℕ → Bool) → ℕ → ℕ → Type 0

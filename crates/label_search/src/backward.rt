@@ -84,10 +84,27 @@ impl<C: BackwardCells> ForwardCells for Mirror<'_, C> {
         self.cells.runs_before(cell, place)
     }
 
+    fn numbers(&self) -> usize {
+        self.cells.numbers()
+    }
+
+    fn number(&self, cell: usize, place: C::Place, run: usize) -> usize {
+        self.cells.number(cell, place, run)
+    }
+
     fn run(&self, cell: usize, place: C::Place, run: usize, ready: u32, last: u32) -> Part<C::Row> {
         let until = MIRROR.saturating_sub(ready);
         let from = MIRROR.saturating_sub(last);
         self.cells.run_before(cell, place, run, until, from)
+    }
+
+    fn runs_before(&self, cell: usize, place: C::Place) -> usize {
+        self.cells.runs_after(cell, place)
+    }
+
+    fn run_before(&self, cell: usize, place: C::Place, run: usize, second: u32) -> Part<C::Row> {
+        self.cells
+            .run_after(cell, place, run, MIRROR.saturating_sub(second))
     }
 
     fn cell_in(&self, row: C::Row, cell: usize) -> Cell {

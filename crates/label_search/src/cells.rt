@@ -1,8 +1,8 @@
 //! What a search is asked: cells by their numbers, and which may follow which.
 ghost use Rattle.std.specs.Prelude.{◌≡◌, ℕ, ◌<◌, option_map};
-ghost use Rattle.label_search.specs.Problem.{Problem, cell_of, start_of, IsIn, IsPartOf, IsPartWith, CanBegin, MayComeTo};
+ghost use Rattle.label_search.specs.Problem.{Problem, cell_of, start_of, IsIn, IsPartOf, IsPartBefore, IsPartWith, CanBegin, MayComeTo};
 ghost use Rattle.label_search.specs.declared.values.CellValue.{CellValue as Valued};
-ghost use Rattle.label_search.specs.Backward.{BackwardProblem, finish_of, IsBackwardPartOf, CanEnd, MayGoFrom};
+ghost use Rattle.label_search.specs.Backward.{BackwardProblem, finish_of, IsBackwardPartOf, IsPartAfter, CanEnd, MayGoFrom};
 
 use crate::values::CellValue;
 
@@ -108,6 +108,17 @@ pub trait ForwardCells {
         requires { stands self.now place cell }
         ensures { result ≡ (problem self.now).runs cell };
 
+    /// How many numbers of runs there are.
+    fn numbers(&self) -> usize
+        ensures { result ≡ (problem self.now).numbers };
+
+    /// The number of a run that may follow the cell at this place. Runs with the same number have the same cells.
+    fn number(&self, cell: usize, place: Self::Place, run: usize) -> usize
+        requires stands { stands self.now place cell }
+        requires inside { cell < (problem self.now).count }
+        requires is_run { run < (problem self.now).runs cell }
+        ensures { result ≡ (problem self.now).number cell run };
+
     /// The part of a run that a walk can go on to which may leave the cell from `ready` on, and until `last`.
     fn run(
         &self,
@@ -119,7 +130,25 @@ pub trait ForwardCells {
     ) -> Part<Self::Row>
         requires stands { stands self.now place cell }
         requires is_run { run < (problem self.now).runs cell }
-        ensures part { IsPartOf (problem self.now) cell ready last ((problem self.now).run cell run) result.run }
+        ensures part { IsPartOf (problem self.now) cell ready last ((problem self.now).run ((problem self.now).number cell run)) result.run }
+        ensures told { (d : ℕ) → IsIn result.run d → tells self.now result.row d };
+
+    /// How many runs of cells may come before the cell at this place.
+    fn runs_before(&self, cell: usize, place: Self::Place) -> usize
+        requires { stands self.now place cell }
+        ensures { result ≡ (problem self.now).runs_before cell };
+
+    /// The part of a run from which a walk can come that enters the cell at the second.
+    fn run_before(
+        &self,
+        cell: usize,
+        place: Self::Place,
+        run: usize,
+        second: u32,
+    ) -> Part<Self::Row>
+        requires stands { stands self.now place cell }
+        requires is_run { run < (problem self.now).runs_before cell }
+        ensures part { IsPartBefore (problem self.now) cell second ((problem self.now).run_before cell run) result.run }
         ensures told { (d : ℕ) → IsIn result.run d → tells self.now result.row d };
 
     /// A cell that a row tells.
@@ -198,6 +227,17 @@ pub trait BackwardCells {
         requires { stands self.now place cell }
         ensures { result ≡ (backward self.now).runs cell };
 
+    /// How many numbers of runs there are.
+    fn numbers(&self) -> usize
+        ensures { result ≡ (backward self.now).numbers };
+
+    /// The number of a run that may come before the cell at this place. Runs with the same number have the same cells.
+    fn number(&self, cell: usize, place: Self::Place, run: usize) -> usize
+        requires stands { stands self.now place cell }
+        requires inside { cell < (backward self.now).count }
+        requires is_run { run < (backward self.now).runs cell }
+        ensures { result ≡ (backward self.now).number cell run };
+
     /// The part of a run from which a walk can come that may enter the cell from `from` on, and until `ready`.
     fn run_before(
         &self,
@@ -209,7 +249,19 @@ pub trait BackwardCells {
     ) -> Part<Self::Row>
         requires stands { stands self.now place cell }
         requires is_run { run < (backward self.now).runs cell }
-        ensures part { IsBackwardPartOf (backward self.now) cell ready from ((backward self.now).run cell run) result.run }
+        ensures part { IsBackwardPartOf (backward self.now) cell ready from ((backward self.now).run ((backward self.now).number cell run)) result.run }
+        ensures told { (d : ℕ) → IsIn result.run d → tells self.now result.row d };
+
+    /// How many runs of cells may follow the cell at this place.
+    fn runs_after(&self, cell: usize, place: Self::Place) -> usize
+        requires { stands self.now place cell }
+        ensures { result ≡ (backward self.now).runs_after cell };
+
+    /// The part of a run to which a walk can go on that leaves the cell at the second.
+    fn run_after(&self, cell: usize, place: Self::Place, run: usize, second: u32) -> Part<Self::Row>
+        requires stands { stands self.now place cell }
+        requires is_run { run < (backward self.now).runs_after cell }
+        ensures part { IsPartAfter (backward self.now) cell second ((backward self.now).run_after cell run) result.run }
         ensures told { (d : ℕ) → IsIn result.run d → tells self.now result.row d };
 
     /// A cell that a row tells.

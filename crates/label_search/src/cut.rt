@@ -68,8 +68,24 @@ impl<C: ForwardCells> ForwardCells for CutCells<'_, C> {
         self.cells.runs(cell, place)
     }
 
+    fn numbers(&self) -> usize {
+        self.cells.numbers()
+    }
+
+    fn number(&self, cell: usize, place: C::Place, run: usize) -> usize {
+        self.cells.number(cell, place, run)
+    }
+
     fn run(&self, cell: usize, place: C::Place, run: usize, ready: u32, last: u32) -> Part<C::Row> {
         self.cells.run(cell, place, run, ready, last)
+    }
+
+    fn runs_before(&self, cell: usize, place: C::Place) -> usize {
+        self.cells.runs_before(cell, place)
+    }
+
+    fn run_before(&self, cell: usize, place: C::Place, run: usize, second: u32) -> Part<C::Row> {
+        self.cells.run_before(cell, place, run, second)
     }
 
     fn cell_in(&self, row: C::Row, cell: usize) -> Cell {

@@ -3,6 +3,7 @@ ghost use Rattle.std.specs.Prelude.{◌≡◌, ℕ, ◌+◌, ◌<◌, ◌≤◌,
 ghost use Rattle.label_search.specs.Problem.{IsProblem, IsIn};
 ghost use Rattle.label_search.specs.Labels.{standing};
 ghost use Rattle.label_search.specs.Expanding.{IsExpanded, HasRoom, IsReady};
+ghost use Rattle.label_search.specs.Reached.{AreReached};
 
 use crate::cells::{Cell, ForwardCells, Run};
 use crate::labels::{Label, Labels};
@@ -70,16 +71,56 @@ fn expand_run<C: ForwardCells>(cells: &C, from: Ready, run: Run, row: C::Row, la
     }
 }
 
-/// Offers each cell that may follow its expansion.
-pub(crate) fn expand<C: ForwardCells>(cells: &C, from: Ready, place: C::Place, labels: &mut Labels)
+/// Offers each cell of a run that may follow its expansion. Those that had a label as good before are not looked at again.
+fn expand_next<C: ForwardCells>(
+    cells: &C,
+    from: Ready,
+    place: C::Place,
+    run: usize,
+    labels: &mut Labels,
+    reached: &mut [u32],
+)
     requires sound { IsProblem (C.problem cells.now) }
     requires room { HasRoom (C.problem cells.now).count (standing labels.old) }
     requires ready { IsReady (C.problem cells.now) from }
     requires stands { C.stands cells.now place from.cell }
-    ensures { IsExpanded (C.problem cells.now).network from.cell from.at (λ d. ⊤) (standing labels.old) (standing labels.new) }
+    requires is_run { run < (C.problem cells.now).runs from.cell }
+    requires numbers { (C.problem cells.now).numbers ≤ length reached.old }
+    requires reached { AreReached (C.problem cells.now) (standing labels.old).known from.at reached.old }
+    ensures expanded { IsExpanded (C.problem cells.now).network from.cell from.at (IsIn ((C.problem cells.now).run ((C.problem cells.now).number from.cell run)))
+        (standing labels.old) (standing labels.new) }
+    ensures numbers { length reached.new ≡ length reached.old }
+    ensures reached { AreReached (C.problem cells.now) (standing labels.new).known from.at reached.new }
+{
+    let number = cells.number(from.cell, place, run);
+    let until = reached[number];
+    if until > from.last {
+        return;
+    }
+    let part = cells.run(from.cell, place, run, from.at.max(until), from.last);
+    expand_run(cells, from, part.run, part.row, labels);
+    reached[number] = from.last + 1;
+}
+
+/// Offers each cell that may follow its expansion.
+pub(crate) fn expand<C: ForwardCells>(
+    cells: &C,
+    from: Ready,
+    place: C::Place,
+    labels: &mut Labels,
+    reached: &mut [u32],
+)
+    requires sound { IsProblem (C.problem cells.now) }
+    requires room { HasRoom (C.problem cells.now).count (standing labels.old) }
+    requires ready { IsReady (C.problem cells.now) from }
+    requires stands { C.stands cells.now place from.cell }
+    requires numbers { (C.problem cells.now).numbers ≤ length reached.old }
+    requires reached { AreReached (C.problem cells.now) (standing labels.old).known from.at reached.old }
+    ensures expanded { IsExpanded (C.problem cells.now).network from.cell from.at (λ d. ⊤) (standing labels.old) (standing labels.new) }
+    ensures numbers { length reached.new ≡ length reached.old }
+    ensures reached { AreReached (C.problem cells.now) (standing labels.new).known from.at reached.new }
 {
     for run in 0..cells.runs(from.cell, place) {
-        let part = cells.run(from.cell, place, run, from.at, from.last);
-        expand_run(cells, from, part.run, part.row, labels);
+        expand_next(cells, from, place, run, labels, reached);
     }
 }

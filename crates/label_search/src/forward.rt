@@ -1,5 +1,5 @@
 //! The search forward in time: earliest exits, and the route with the earliest end.
-ghost use Rattle.std.specs.Prelude.{◌≡◌, ◌≤◌, ◌^◌, map, reverse, is_some, IsTrue, IfSome, IfNone, IfOk};
+ghost use Rattle.std.specs.Prelude.{◌≡◌, ℕ, ◌≤◌, ◌^◌, length, slice_index_or, OnOk, map, reverse, is_some, IsTrue, IfSome, IfNone, IfOk};
 ghost use Rattle.label_core.specs.Walks.{IsEarliestExit};
 ghost use Rattle.label_core.specs.Picked.{IsPicked};
 ghost use Rattle.label_core.specs.Best.{IsBestEnd, HasNoWalk, IsPickedRoute};
@@ -35,6 +35,8 @@ pub struct Found<T: Copy + Drop> {
 #[derive(Drop)]
 pub struct LabelRoom {
     labels: Labels,
+    // For each run the second before which its cells need not be looked at again.
+    reached: Vec<u32>,
     // For how many seconds after walks begin searches look first.
     reach: u32,
 }
@@ -44,6 +46,7 @@ impl LabelRoom {
     pub fn new(alloc: Global) -> Result<LabelRoom, Memory> {
         Ok(LabelRoom {
             labels: Labels::new(alloc, 0)?,
+            reached: Vec::new(alloc),
             reach: 0,
         })
     }
@@ -70,13 +73,14 @@ pub fn earliest_exits<C: ForwardCells>(
     let near = search(
         alloc,
         &mut room.labels,
+        &mut room.reached,
         cells,
         begins.saturating_add(room.reach),
     )?;
     let found = if near.route.is_some() {
         near
     } else {
-        search(alloc, &mut room.labels, cells, u32::MAX)?
+        search(alloc, &mut room.labels, &mut room.reached, cells, u32::MAX)?
     };
     if let Some(route) = &found.route {
         room.reach = reach_after(room.reach, route.best.saturating_sub(begins));
@@ -94,6 +98,7 @@ fn reach_after(reach: u32, taken: u32) -> u32 {
 fn search<C: ForwardCells>(
     alloc: Global,
     labels: &mut Labels,
+    reached: &mut Vec<u32>,
     cells: &C,
     until: u32,
 ) -> Result<Found<C::Told>, Memory>
@@ -109,7 +114,7 @@ fn search<C: ForwardCells>(
     ensures none { IfOk result (λ found. 2 ^ 31 ≤ until → IfNone (best_of found.route)
         (HasNoWalk (C.problem cells.now).network (C.problem cells.now).starts (C.problem cells.now).target)) }
 {
-    let found = search_cells(alloc, labels, &CutCells { cells, until })?;
+    let found = search_cells(alloc, labels, reached, &CutCells { cells, until })?;
     Ok(found)
 }
 
@@ -117,6 +122,7 @@ fn search<C: ForwardCells>(
 fn search_cells<C: ForwardCells>(
     alloc: Global,
     labels: &mut Labels,
+    reached: &mut Vec<u32>,
     cells: &C,
 ) -> Result<Found<C::Told>, Memory>
     requires sound { IsProblem (C.problem cells.now) }
@@ -131,10 +137,24 @@ fn search_cells<C: ForwardCells>(
 {
     labels.renew(alloc, cells.count())?;
     begin(cells, labels);
-    let goal = settle(cells, labels);
+    reach_none(alloc, reached, cells.numbers())?;
+    let goal = settle(cells, labels, reached);
     let route = route_to(alloc, cells, labels, goal)?;
     let rows = labels.take_rows(alloc, cells, end_of_goal(goal))?;
     Ok(Found { rows, route })
+}
+
+/// Nothing is reached yet of so many runs.
+fn reach_none(alloc: Global, reached: &mut Vec<u32>, runs: usize) -> Result<(), Memory>
+    ensures room { OnOk result (runs ≤ length reached.new.items) }
+    ensures none { OnOk result ((r : ℕ) → slice_index_or reached.new.items r 0 ≡ 0) }
+{
+    if reached.len() < runs {
+        *reached = Vec::from_elem(alloc, 0, runs)?;
+    } else {
+        reached.fill(0);
+    }
+    Ok(())
 }
 
 /// The goal's value.

@@ -79,12 +79,4 @@ impl Known {
     {
         label.value < self.value
     }
-
-    /// Whether the label has the same value, and came by a lesser cell.
-    pub(crate) fn loses_tie_to(self, label: Label) -> bool
-        requires { label.value < 2 ^ 31 }
-        ensures { IsTrue result ↔ IsSomeAnd self (λ l. (label.value ≡ l.value) × (label.via < l.via)) }
-    {
-        label.value == self.value && label.via < self.via as usize
-    }
 }

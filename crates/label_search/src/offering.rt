@@ -77,8 +77,6 @@ impl Labels {
         if old.gets_less_by(label) {
             self.write(cell, label);
             self.queue.insert_or_lower(cell, label.value).unwrap();
-        } else if old.loses_tie_to(label) {
-            self.write(cell, label);
         }
     }
 

@@ -1,14 +1,17 @@
 //! Picking the route back from its goal.
-ghost use Rattle.std.specs.Prelude.{◌≡◌, ◌<◌, ℕ, map, length, IsSome, Some, IfSome, IfNone, IfOk};
+ghost use Rattle.std.specs.Prelude.{◌≡◌, ◌<◌, ◌≤◌, ◌↔◌, ℕ, ⊤, max, map, length, IsTrue, IsSome, IsSomeAnd, Some, IfSome, IfNone, IfOk};
 ghost use Rattle.label_core.specs.Walks.{IsEarliestExit};
 ghost use Rattle.label_core.specs.Labels.{entry, IsStartEntry};
 ghost use Rattle.label_core.specs.Picked.{IsPicked};
-ghost use Rattle.label_search.specs.Problem.{IsProblem};
+ghost use Rattle.label_search.specs.Problem.{IsProblem, IsIn, MayComeTo};
+ghost use Rattle.label_search.specs.Expanding.{HasRoom};
+ghost use Rattle.label_search.specs.Entering.{IsEntering, LeadsTo, IsFirstOf, AreInWindows};
 ghost use Rattle.label_search.specs.Labels.{standing, label_of};
 ghost use Rattle.label_search.specs.Standing.{IsAtEnd};
 ghost use Rattle.label_search.specs.Answer.{step_of, ComesBefore};
 
-use crate::cells::ForwardCells;
+use crate::cells::{ForwardCells, Part};
+use crate::known::Known;
 use crate::labels::{Label, Labels};
 use crate::settle::{Goal, start_entry};
 use std::alloc::Global;
@@ -50,6 +53,69 @@ fn label_at(labels: &Labels, cell: usize) -> Label
     labels.known[cell].get().unwrap()
 }
 
+/// A cell that a walk enters at a second, and the first second of its window.
+#[derive(Clone, Copy)]
+pub(crate) struct Entering {
+    pub(crate) cell: usize,
+    pub(crate) from: u32,
+    pub(crate) enter: u32,
+}
+
+/// Whether a walk that can leave a cell as its label says goes on so.
+fn enters_so(known: Known, last: u32, to: Entering) -> bool
+    ensures { IsTrue result ↔ IsSomeAnd known (λ l. (max l.value to.from ≡ to.enter) × (to.enter ≤ last)) }
+{
+    match known.get() {
+        None => false,
+        Some(label) => label.value.max(to.from) == to.enter && to.enter <= last,
+    }
+}
+
+/// The first of the cells of a part, and of the first one so far, that lead to the cell.
+fn first_in<C: ForwardCells>(
+    cells: &C,
+    labels: &Labels,
+    part: Part<C::Row>,
+    to: Entering,
+    first: usize,
+) -> usize
+    requires sound { IsProblem (C.problem cells.now) }
+    requires room { HasRoom (C.problem cells.now).count (standing labels.now) }
+    requires entering { IsEntering (C.problem cells.now) to }
+    requires permitted { (x : ℕ) → IsIn part.run x → IsTrue ((C.problem cells.now).network.turn x to.cell) }
+    requires told { (x : ℕ) → IsIn part.run x → C.tells cells.now part.row x }
+    requires so_far { LeadsTo (C.problem cells.now) (standing labels.now).known to first }
+    ensures first { IsFirstOf (C.problem cells.now) (standing labels.now).known to (IsIn part.run) result }
+    ensures by { result ≤ first }
+{
+    for before in part.run.first..part.run.until.min(first) {
+        let last = cells.cell_in(part.row, before).last;
+        if enters_so(labels.known[before], last, to) {
+            return before;
+        }
+    }
+    first
+}
+
+/// The first of the cells that lead to the cell, of which one is known.
+fn first_before<C: ForwardCells>(cells: &C, labels: &Labels, to: Entering, via: usize) -> usize
+    requires sound { IsProblem (C.problem cells.now) }
+    requires room { HasRoom (C.problem cells.now).count (standing labels.now) }
+    requires windows { AreInWindows (C.problem cells.now) (standing labels.now).known }
+    requires come_to { MayComeTo (C.problem cells.now) to.cell }
+    requires entering { IsEntering (C.problem cells.now) to }
+    requires via { LeadsTo (C.problem cells.now) (standing labels.now).known to via }
+    ensures { IsFirstOf (C.problem cells.now) (standing labels.now).known to (λ x. ⊤) result }
+{
+    let place = cells.place(to.cell);
+    let mut first = via;
+    for run in 0..cells.runs_before(to.cell, place) {
+        let part = cells.run_before(to.cell, place, run, to.enter);
+        first = first_in(cells, labels, part, to, first);
+    }
+    first
+}
+
 /// The steps that are picked back from the goal, the last one first.
 pub(crate) fn pick_back<C: ForwardCells>(
     alloc: Global,
@@ -71,9 +137,15 @@ pub(crate) fn pick_back<C: ForwardCells>(
             steps.push(CellStep { cell, enter, leave })?;
             return Ok(steps);
         }
-        let enter = label.value - cells.cell(cell).seconds;
+        let window = cells.cell(cell);
+        let enter = label.value - window.seconds;
         steps.push(CellStep { cell, enter, leave })?;
-        cell = label.via;
+        let to = Entering {
+            cell,
+            from: window.from,
+            enter,
+        };
+        cell = first_before(cells, labels, to, label.via);
         label = label_at(labels, cell);
         leave = enter;
     }

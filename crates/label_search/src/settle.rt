@@ -7,6 +7,7 @@ ghost use Rattle.label_search.specs.Labels.{standing, label_of};
 ghost use Rattle.label_search.specs.Expanding.{HasRoom};
 ghost use Rattle.label_search.specs.Begun.{IsBegun, InRuns};
 ghost use Rattle.label_search.specs.Standing.{IsUnderway, IsAtEnd};
+ghost use Rattle.label_search.specs.Reached.{HasReached};
 
 use crate::cells::{Cell, ForwardCells, Opening};
 use crate::expand::{Ready, expand};
@@ -80,9 +81,14 @@ fn begin_run<C: ForwardCells>(cells: &C, run: usize, labels: &mut Labels)
 }
 
 /// Settles cells until a target is the next, or none is left.
-pub(crate) fn settle<C: ForwardCells>(cells: &C, labels: &mut Labels) -> Option<Goal>
+pub(crate) fn settle<C: ForwardCells>(
+    cells: &C,
+    labels: &mut Labels,
+    reached: &mut [u32],
+) -> Option<Goal>
     requires sound { IsProblem (C.problem cells.now) }
     requires underway { IsUnderway (C.problem cells.now) (standing labels.old) }
+    requires reached { HasReached (C.problem cells.now) (standing labels.old) reached.old }
     ensures { IsAtEnd (C.problem cells.now) (standing labels.new) result }
 {
     while let Some((cell, at)) = labels.queue.pop_least() {
@@ -91,7 +97,7 @@ pub(crate) fn settle<C: ForwardCells>(cells: &C, labels: &mut Labels) -> Option<
             return Some(Goal { cell, end: at });
         }
         let last = cells.last(cell, place);
-        expand(cells, Ready { cell, last, at }, place, labels);
+        expand(cells, Ready { cell, last, at }, place, labels, reached);
     }
     None
 }

@@ -1,5 +1,5 @@
 -- A list of fit cells is a problem, forward and backward.
-use Rattle.std.proofs.Common.{◌≡◌, ℕ, zero, suc, ◌<◌, ◌^◌, Bool, true, false, ◌&&◌, ◌||◌, nat_le, nat_lt, List, length, Option, Some, None, option_map, IfSome, All, refl, sym, ap, ◌∙◌, subst, ◌⊎◌, inl, inr, arith}
+use Rattle.std.proofs.Common.{◌≡◌, ℕ, zero, suc, ◌+◌, ◌*◌, ◌/◌, ◌%◌, cond, ◌<◌, ◌^◌, Bool, true, false, ◌&&◌, ◌||◌, nat_le, nat_lt, List, length, Option, Some, None, option_map, IfSome, All, refl, sym, ap, ◌∙◌, subst, ◌⊎◌, inl, inr, arith}
 use Rattle.std.proofs.lemmas.Bool.{cases_lt, false≢true, leb-true, ltb-true}
 use Rattle.std.proofs.lemmas.List.{get_or_past}
 use Rattle.label_core.specs.Walks.{Start}
@@ -10,7 +10,7 @@ use Rattle.label_search.specs.declared.cells.Closing.{Closing}
 use Rattle.listed_cells.specs.declared.list.ListedCell.{ListedCell}
 use Rattle.label_search.specs.Problem.{IsProblem, IsIn, start_of}
 use Rattle.label_search.specs.Backward.{IsBackwardProblem, finish_of}
-use Rattle.listed_cells.specs.Listed.{no_cell, cell_at, run_has, is_beside, run_of, listed_problem, listed_backward, IsFit}
+use Rattle.listed_cells.specs.Listed.{no_cell, cell_at, run_has, is_beside, run_of, number_of, numbered_run, run_alone, run_if_beside, listed_problem, listed_backward, IsFit}
 
 either : (a b : Bool) → (a || b) ≡ true → (a ≡ true) ⊎ (b ≡ true)
 either true b e = inl refl
@@ -47,6 +47,47 @@ module _ (cells : List ListedCell) where
       nothing zero is = omega (arith, is.until_end)
       nothing (suc k) is = omega (arith, is.until_end)
 
+  -- a run by its number
+  pub numbered_is : (c k : ℕ) → numbered_run cells (number_of c k) ≡ run_of (cell_at cells c) k
+  numbered_is c zero =
+      let half : (2 * c) / 2 ≡ c = omega arith in
+      let side : (2 * c) % 2 ≡ 0 = omega arith in
+      λ i. run_of (cell_at cells (half i)) (side i)
+  numbered_is c (suc k) =
+      let half : (2 * c + 1) / 2 ≡ c = omega arith in
+      let side : (2 * c + 1) % 2 ≡ 1 = omega arith in
+      λ i. run_of (cell_at cells (half i)) (side i)
+
+  beside_in_numbered : (c d : ℕ) → is_beside (cell_at cells c) d ≡ true → (k : ℕ) × (k < 2) × IsIn (numbered_run cells (number_of c k)) d
+  beside_in_numbered c d beside = (let k = beside_in (cell_at cells c) d beside in (k.0, k.1, subst (λ r. IsIn r d) (sym (numbered_is c k.0)) k.2))
+
+  alone : (c : ℕ) → IsIn (run_alone c) c
+  alone c = record { from_first = omega arith; until_end = omega arith }
+
+  number_below : (c k : ℕ) → c < length cells → number_of c k < 2 * length cells
+  number_below c zero inside = omega arith
+  number_below c (suc k) inside = omega arith
+
+  -- of a cell alone there is what the other is beside
+  pub if_beside : (k d : ℕ) (part : Run) → part ≡ run_if_beside (cell_at cells k) k d
+      → ((c : ℕ) → IsIn part c → is_beside (cell_at cells c) d ≡ true) × ((c : ℕ) → IsIn (run_alone k) c → is_beside (cell_at cells c) d ≡ true → IsIn part c)
+  if_beside k d part is = go (is_beside (cell_at cells k) d) refl
+    where
+      go : (b : Bool) → is_beside (cell_at cells k) d ≡ b
+          → ((c : ℕ) → IsIn part c → is_beside (cell_at cells c) d ≡ true) × ((c : ℕ) → IsIn (run_alone k) c → is_beside (cell_at cells c) d ≡ true → IsIn part c)
+      go true beside =
+          let until : part.until ≡ k + 1 = ap (λ (r : Run). r.until) is ∙ ap (λ b. cond b (k + 1) k) beside in
+          let first : part.first ≡ k = ap (λ (r : Run). r.first) is in (
+            λ c on. (let same : c ≡ k = omega (arith, on.from_first, on.until_end) in ap (λ x. is_beside (cell_at cells x) d) same ∙ beside),
+            λ c on _. record { from_first = omega (arith, on.from_first); until_end = omega (arith, on.until_end) },
+          )
+      go false not =
+          let until : part.until ≡ k = ap (λ (r : Run). r.until) is ∙ ap (λ b. cond b (k + 1) k) not in
+          let first : part.first ≡ k = ap (λ (r : Run). r.first) is in (
+            λ c on. absurd (omega (arith, on.from_first, on.until_end)),
+            λ c on beside. (let same : c ≡ k = omega (arith, on.from_first, on.until_end) in absurd (false≢true (sym not ∙ ap (λ x. is_beside (cell_at cells x) d) (sym same) ∙ beside))),
+          )
+
   module _ (fit : All (IsFit (length cells)) cells) where
     fit_at : (c : ℕ) → IsFit (length cells) (cell_at cells c)
     fit_at c = elim (cases_lt c (length cells)) [
@@ -77,7 +118,9 @@ module _ (cells : List ListedCell) where
       takes = λ c. (fit_at c).takes;
       small_seconds = λ c. (fit_at c).small_seconds;
       small_last = λ c. (fit_at c).small_last;
-      turns_in_runs = λ c d turn. beside_in (cell_at cells c) d turn;
+      turns_in_runs = λ c d turn. beside_in_numbered c d turn;
+      turns_in_runs_before = λ c d turn. (c, beside_inside c d turn, alone c);
+      numbers_inside = λ c k inside below. number_below c k inside;
       turns_inside = λ c d turn. (beside_inside c d turn, beside_below c d turn);
       starts_inside = started_inside;
       starts_in_runs = λ c s is. (0, omega arith, record { from_first = omega arith; until_end = started_inside c s is });
@@ -97,7 +140,9 @@ module _ (cells : List ListedCell) where
       small_from = λ c. (fit_at c).small_from;
       small_last = λ c. (fit_at c).small_last;
       small_finishes = λ c f is. finish_small (cell_at cells c).closing f (fit_at c).small_closing is;
-      turns_in_runs = λ c d turn. beside_in (cell_at cells d) c turn;
+      turns_in_runs = λ c d turn. beside_in_numbered d c turn;
+      turns_in_runs_after = λ c d turn. (d, beside_inside d c turn, alone d);
+      numbers_inside = λ c k inside below. number_below c k inside;
       turns_inside = λ c d turn. (beside_below d c turn, beside_inside d c turn);
       finishes_inside = finished_inside;
       finishes_in_runs = λ c f is. (0, omega arith, record { from_first = omega arith; until_end = finished_inside c f is });

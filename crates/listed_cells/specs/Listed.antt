@@ -1,5 +1,5 @@
 -- Which network is a list of cells?
-use Rattle.std.specs.Prelude.{ℕ, zero, suc, ◌^◌, ◌<◌, ◌≤◌, nat_le, nat_lt, Bool, false, ◌&&◌, ◌||◌, List, length, None, slice_index_or, IfSome}
+use Rattle.std.specs.Prelude.{ℕ, zero, suc, ◌+◌, ◌*◌, ◌/◌, ◌%◌, if◌then◌else◌, ◌^◌, ◌<◌, ◌≤◌, nat_le, nat_lt, Bool, false, ◌&&◌, ◌||◌, List, length, None, slice_index_or, IfSome}
 use Rattle.std.specs.Option.{option_map}
 use Rattle.label_search.specs.declared.cells.Run.{Run}
 use Rattle.listed_cells.specs.declared.list.ListedCell.{ListedCell}
@@ -32,6 +32,21 @@ abbrev pub run_of : ListedCell → ℕ → Run
 run_of x zero = x.near
 run_of x (suc k) = x.far
 
+-- the two runs of each cell, by their numbers
+abbrev pub number_of : ℕ → ℕ → ℕ
+number_of c zero = 2 * c
+number_of c (suc k) = 2 * c + 1
+
+abbrev pub numbered_run : List ListedCell → ℕ → Run
+numbered_run cells n = run_of (cell_at cells (n / 2)) (n % 2)
+
+-- a cell alone, and no cell if cell d is not beside it
+abbrev pub run_alone : ℕ → Run
+run_alone c = record { first = c; until = c + 1 }
+
+abbrev pub run_if_beside : ListedCell → ℕ → ℕ → Run
+run_if_beside x c d = record { first = c; until = if is_beside x d then c + 1 else c }
+
 -- the cells in the runs may follow
 abbrev pub listed_problem : List ListedCell → Problem
 listed_problem cells = record {
@@ -45,7 +60,11 @@ listed_problem cells = record {
   target = λ c. (cell_at cells c).is_goal;
   count = length cells;
   runs = λ c. 2;
-  run = λ c k. run_of (cell_at cells c) k;
+  number = number_of;
+  numbers = 2 * length cells;
+  run = numbered_run cells;
+  runs_before = λ d. length cells;
+  run_before = λ d k. run_alone k;
   first_runs = 1;
   first_run = λ k. record { first = 0; until = length cells };
 }
@@ -63,7 +82,11 @@ listed_backward cells = record {
   source = λ c. (cell_at cells c).is_goal;
   count = length cells;
   runs = λ c. 2;
-  run = λ c k. run_of (cell_at cells c) k;
+  number = number_of;
+  numbers = 2 * length cells;
+  run = numbered_run cells;
+  runs_after = λ c. length cells;
+  run_after = λ c k. run_alone k;
   last_runs = 1;
   last_run = λ k. record { first = 0; until = length cells };
 }

@@ -1,8 +1,8 @@
 //! A list of cells as a network, forward and backward.
-ghost use Rattle.std.specs.Prelude.{◌≡◌, ◌↔◌, length, IsTrue, All, ⊤};
+ghost use Rattle.std.specs.Prelude.{◌≡◌, ◌+◌, ◌*◌, ◌^◌, ◌<◌, ◌↔◌, length, IsTrue, All, ⊤};
 ghost use Rattle.label_search.specs.Problem.{IsProblem};
 ghost use Rattle.label_search.specs.Backward.{IsBackwardProblem};
-ghost use Rattle.listed_cells.specs.Listed.{listed_problem, listed_backward, cell_at, run_of, IsFit};
+ghost use Rattle.listed_cells.specs.Listed.{listed_problem, listed_backward, cell_at, run_of, number_of, is_beside, run_if_beside, IsFit};
 
 use label_search::{BackwardCells, Cell, CellValue, Closing, ForwardCells, Opening, Part, Run};
 
@@ -23,6 +23,39 @@ fn run_beside(cell: &ListedCell, run: usize) -> Run
     ensures { result ≡ run_of cell.now run }
 {
     if run == 0 { cell.near } else { cell.far }
+}
+
+/// The number of one of the two runs of a cell of so many.
+fn number_of(cell: usize, run: usize, count: usize) -> usize
+    requires inside { cell < count }
+    requires small { 2 * count < 2 ^ 64 }
+    ensures { result ≡ number_of cell run }
+{
+    if run == 0 { 2 * cell } else { 2 * cell + 1 }
+}
+
+/// Whether one of the two runs beside a cell has the other.
+fn is_beside(cell: &ListedCell, other: usize) -> bool
+    ensures { result ≡ is_beside cell.now other }
+{
+    let near = cell.near.first <= other && other < cell.near.until;
+    let far = cell.far.first <= other && other < cell.far.until;
+    near || far
+}
+
+/// The cell with this number alone, and no cell if the other is not beside it.
+fn run_if_beside(cell: &ListedCell, number: usize, other: usize) -> Run
+    requires { number + 1 < 2 ^ 64 }
+    ensures { result ≡ run_if_beside cell.now number other }
+{
+    Run {
+        first: number,
+        until: if is_beside(cell, other) {
+            number + 1
+        } else {
+            number
+        },
+    }
 }
 
 /// The cell with this number; where the list has none, one that no step can leave.
@@ -137,9 +170,28 @@ impl ForwardCells for ForwardList<'_> {
         2
     }
 
+    fn numbers(&self) -> usize {
+        2 * self.cells.len()
+    }
+
+    fn number(&self, cell: usize, _place: (), run: usize) -> usize {
+        number_of(cell, run, self.cells.len())
+    }
+
     fn run(&self, cell: usize, _place: (), run: usize, _ready: u32, _last: u32) -> Part<()> {
         Part {
             run: run_beside(&cell_at(self.cells, cell), run),
+            row: (),
+        }
+    }
+
+    fn runs_before(&self, _cell: usize, _place: ()) -> usize {
+        self.cells.len()
+    }
+
+    fn run_before(&self, cell: usize, _place: (), run: usize, _second: u32) -> Part<()> {
+        Part {
+            run: run_if_beside(&cell_at(self.cells, run), run, cell),
             row: (),
         }
     }
@@ -215,9 +267,28 @@ impl BackwardCells for BackwardList<'_> {
         2
     }
 
+    fn numbers(&self) -> usize {
+        2 * self.cells.len()
+    }
+
+    fn number(&self, cell: usize, _place: (), run: usize) -> usize {
+        number_of(cell, run, self.cells.len())
+    }
+
     fn run_before(&self, cell: usize, _place: (), run: usize, _ready: u32, _from: u32) -> Part<()> {
         Part {
             run: run_beside(&cell_at(self.cells, cell), run),
+            row: (),
+        }
+    }
+
+    fn runs_after(&self, _cell: usize, _place: ()) -> usize {
+        self.cells.len()
+    }
+
+    fn run_after(&self, cell: usize, _place: (), run: usize, _second: u32) -> Part<()> {
+        Part {
+            run: run_if_beside(&cell_at(self.cells, run), run, cell),
             row: (),
         }
     }

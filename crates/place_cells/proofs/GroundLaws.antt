@@ -1,5 +1,5 @@
 -- What a search over cells may rest on.
-use Rattle.std.proofs.Common.{◌≡◌, ℕ, ◌+◌, ◌-◌, ◌*◌, ◌^◌, ◌<◌, ◌≤◌, ◌&&◌, ltb, eqb, Bool, true, false, List, map, length, min, get_or, inl, inr, IsTrue, Option, Some, None, is_some, cond, unwrap_or, refl, sym, ◌∙◌, ap, subst, arith}
+use Rattle.std.proofs.Common.{◌≡◌, ℕ, ◌+◌, ◌-◌, ◌*◌, ◌^◌, ◌<◌, ◌≤◌, ◌&&◌, ltb, eqb, Bool, true, false, List, map, length, get_or, inl, inr, IsTrue, Option, Some, None, is_some, cond, unwrap_or, refl, sym, ◌∙◌, ap, subst, arith}
 use Rattle.std.specs.Prelude.{All}
 use Rattle.std.proofs.lemmas.Bool.{and_parts, and_from, lt-ltb, cond-true, cond-false}
 use Rattle.std.proofs.lemmas.Bool.Decides.{eqb_tells}
@@ -13,9 +13,7 @@ use Rattle.taxi_base.specs.Windows.{AreApart}
 use Rattle.taxi_base.specs.declared.numbers.Class.{Class}
 use Rattle.taxi_base.specs.declared.numbers.Node.{Node}
 use Rattle.taxi_base.specs.Airport.{Airport, IsWellFormed, Link, link_of, layout_of, ends, tail, head, arc_exists, permits, segment_of}
-use Rattle.taxi_base.proofs.AirportLaws.{seconds-range}
-use Rattle.label_core.specs.Labels.{entry, IsExpansion}
-use Rattle.label_core.specs.BackwardLabels.{IsExpansionBack}
+use Rattle.taxi_base.proofs.AirportLaws.{seconds-range, permits-exist}
 use Rattle.label_search.specs.declared.cells.Run.{Run}
 use Rattle.label_search.specs.Problem.{IsIn}
 use Rattle.walk_labels.specs.Places.{Place}
@@ -115,6 +113,13 @@ module _ (g : Ground) where
       let previous : Arc = get_or (previous_arcs g.layout y) i no_arc in
       ((previous_arcs-all g.layout y).each previous).0 (i, on, get_or_default (previous_arcs g.layout y) i previous no_arc on)
 
+  -- and the arcs are some of all
+  pub next_below : (x : Arc) (i : ℕ) → i < length (next_arcs g.layout x) → (get_or (next_arcs g.layout x) i no_arc).0 < 2 * length g.layout.links
+  next_below x i on = exists-below g.layout _ (permits-exist g.layout x (get_or (next_arcs g.layout x) i no_arc) (next_permitted x i on)).1
+
+  pub previous_below : (y : Arc) (i : ℕ) → i < length (previous_arcs g.layout y) → (get_or (previous_arcs g.layout y) i no_arc).0 < 2 * length g.layout.links
+  previous_below y i on = exists-below g.layout _ (permits-exist g.layout (get_or (previous_arcs g.layout y) i no_arc) y (previous_permitted y i on)).0
+
   -- ---- times
 
   module _ (sound : IsSound g) where
@@ -162,14 +167,6 @@ module _ (g : Ground) where
         part_leads permitted d on =
             let h = is_part.within d on in
             and_from _ _ (and_from _ _ h.1 usable) (subst (λ (a : Arc). IsTrue (permits g.layout a (arc_in g k))) (sym (of_arc d h.0)) permitted)
-
-        pub expansions_in_part : (ready : ℕ) → low ≡ ready → (d t : ℕ) → IsIn (run_of_arc g arc) d → IsExpansion (network_in g) k ready d t → entry (network_in g) d ready ≤ high → IsIn part d
-        expansions_in_part ready at d t inside e by =
-            cells_in_part d inside (turn_parts k d e.by_turn).1 (omega (arith, e.value, e.in_time, at)) (omega (arith, by))
-
-        pub expansions_back_in_part : (ready : ℕ) → ready ≤ high → (d t : ℕ) → IsIn (run_of_arc g arc) d → IsExpansionBack (network_in g) k ready d t → low ≤ min ready ((network_in g).last d) → IsIn part d
-        expansions_back_in_part ready at d t inside e by =
-            cells_in_part d inside (turn_parts d k e.by_turn).0 (omega (arith, by)) (omega (arith, e.value, e.in_window, at))
 
 -- ---- an airport's class in windows
 

@@ -1,5 +1,5 @@
 //! What a search asks of its ground.
-ghost use Rattle.std.specs.Prelude.{◌≡◌, ℕ, ◌/◌, ◌<◌, length, unwrap_or, Some, is_some, nat_lt, ◌&&◌, IsTrue, IfSome};
+ghost use Rattle.std.specs.Prelude.{◌≡◌, ℕ, ◌*◌, ◌/◌, ◌<◌, length, unwrap_or, Some, is_some, nat_lt, ◌&&◌, IsTrue, IfSome};
 ghost use Rattle.taxi_base.specs.declared.numbers.Arc.{Arc as ArcNumber};
 ghost use Rattle.taxi_base.specs.declared.numbers.Node.{Node as NodeNumber};
 ghost use Rattle.taxi_base.specs.Airport.{arc_exists, tail, head, meet, segment_of, seconds_in};
@@ -25,6 +25,13 @@ impl<'a> SearchGround<'a> {
         ensures { result ≡ length (cells_of (ground_of self.now)) }
     {
         self.numbers.spots.len()
+    }
+
+    /// How many arcs there are.
+    pub fn arcs(&self) -> usize
+        ensures { result ≡ 2 * length (ground_of self.now).layout.links }
+    {
+        self.numbers.first.len() - 1
     }
 
     /// The arc and the window of a number. Of one that is no cell's the window is empty.

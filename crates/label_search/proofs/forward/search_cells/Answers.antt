@@ -1,15 +1,27 @@
-use Rattle.std.proofs.Common.{map, ap, ◌∙◌}
+use Rattle.std.proofs.Common.{map, ap, ◌∙◌, arith}
 use Rattle.label_search.specs.Labels.{standing}
 use Rattle.label_search.specs.Values.{rows_from, values_kept}
 use Rattle.label_search.specs.Answer.{end_of_goal}
 use Rattle.label_search.proofs.Ends.{end_values, end_best, end_none}
+use Rattle.label_search.specs.Standing.{SettledValue}
 use Rattle.label_search.proofs.Steps.{traced_come_to}
+use Rattle.label_search.proofs.Reaching.{reached_none}
 use Rattle.label_search.proofs.forward.search_cells.Goals as goal
 
 pub take_rows-requires : goal.take_rows-requires
 take_rows-requires g c = record {
-  come_to = λ d label is. traced_come_to (g.C.ForwardCells.problem c.args.cells.now) _ d label (c.settle-goal.ensures.traced d label is);
+  come_to = λ d label is. traced_come_to (g.C.ForwardCells.problem c.args.cells.now) (SettledValue (standing c.settle-goal.new.labels) c.settle-goal.ensures.settled) d label (c.settle-goal.ensures.traced d label is);
 }
+
+pub settle-goal-requires-clause-reached : goal.settle-goal-requires-clause-reached
+settle-goal-requires-clause-reached g c =
+    let p = g.C.ForwardCells.problem c.args.cells.now in
+    rw c.deref_mut.ensures.value (record {
+      room = omega (arith, c.in_ok-reach_none.ensures.room, c.numbers.ensures);
+      now = 0;
+      are = reached_none p (standing c.begin.new.labels).known c.reach_none.new.reached.items c.in_ok-reach_none.ensures.none;
+      ahead = λ d key is. omega arith;
+    })
 
 pub returns-clause-table : goal.returns-clause-table
 returns-clause-table g c =

@@ -7,7 +7,7 @@ use Rattle.place_cells.specs.Grounds.{ground_of}
 use Rattle.place_cells.proofs.LaidLaws.{windows_of-length}
 use Rattle.taxi_base.proofs.AirportLaws.{permits-exist}
 use Rattle.place_cells.proofs.BesideLaws.{beside_at}
-use Rattle.place_cells.proofs.GroundLaws.{run_parts, previous_permitted, part_leads, expansions_back_in_part}
+use Rattle.place_cells.proofs.GroundLaws.{run_parts, previous_permitted, turn_parts, part_leads, cells_in_part}
 use Rattle.backward_search.proofs.cells.DepartureCellsBackwardCells.run_before.Goals as goal
 
 pub part-requires : goal.part-requires
@@ -31,5 +31,5 @@ returns-clause-part c =
     let part : IsArcPart g previous c.args.from c.args.ready c.part.result.run = subst (λ (a : Arc). IsArcPart g a c.args.from c.args.ready c.part.result.run) read c.part.ensures.part in
     record {
       permitted = part_leads g lists s.numbers.now.numbered s.room previous c.args.from c.args.ready c.part.result.run part exists c.args._cell parts.0 permitted;
-      expansions_in = expansions_back_in_part g lists s.numbers.now.numbered s.room previous c.args.from c.args.ready c.part.result.run part exists c.args._cell parts.0 c.args.ready (omega arith);
+      wanted_in = λ x e inside turn by in_time. cells_in_part g lists s.numbers.now.numbered s.room previous c.args.from c.args.ready c.part.result.run part exists x inside (turn_parts g x e turn).0 (omega (arith, by)) (omega (arith, in_time));
     }

@@ -1,4 +1,4 @@
-use Rattle.std.proofs.Common.{◌≡◌, length, get_or, IsTrue, refl, sym, ◌∙◌, subst}
+use Rattle.std.proofs.Common.{◌≡◌, length, get_or, IsTrue, sym, ◌∙◌, subst, arith}
 use Rattle.taxi_base.specs.declared.numbers.Arc.{Arc}
 use Rattle.taxi_base.specs.Airport.{arc_exists}
 use Rattle.place_cells.specs.Turns.{next_arcs, no_arc}
@@ -7,7 +7,7 @@ use Rattle.place_cells.specs.Grounds.{ground_of}
 use Rattle.place_cells.proofs.LaidLaws.{windows_of-length}
 use Rattle.taxi_base.proofs.AirportLaws.{permits-exist}
 use Rattle.place_cells.proofs.BesideLaws.{beside_at}
-use Rattle.place_cells.proofs.GroundLaws.{run_parts, next_permitted, part_follows, expansions_in_part}
+use Rattle.place_cells.proofs.GroundLaws.{run_parts, next_permitted, turn_parts, part_follows, cells_in_part}
 use Rattle.forward_search.proofs.cells.ArrivalCellsForwardCells.run.Goals as goal
 
 pub part-requires : goal.part-requires
@@ -31,5 +31,5 @@ returns-clause-part c =
     let part : IsArcPart g next c.args.ready c.args.last c.part.result.run = subst (λ (a : Arc). IsArcPart g a c.args.ready c.args.last c.part.result.run) read c.part.ensures.part in
     record {
       permitted = part_follows g lists s.numbers.now.numbered s.room next c.args.ready c.args.last c.part.result.run part exists c.args._cell parts.0 permitted;
-      expansions_in = expansions_in_part g lists s.numbers.now.numbered s.room next c.args.ready c.args.last c.part.result.run part exists c.args._cell parts.0 c.args.ready refl;
+      wanted_in = λ b d inside turn by in_time. cells_in_part g lists s.numbers.now.numbered s.room next c.args.ready c.args.last c.part.result.run part exists d inside (turn_parts g b d turn).1 (omega (arith, in_time)) (omega (arith, by));
     }
