@@ -1,4 +1,4 @@
-//! Whether each label of some arcs that is reached in time has a row, where it is kept in which stretches that is known.
+//! Whether each label of some arcs that is reached in time has a row, with what is kept of the arcs.
 ghost use Rattle.std.specs.Prelude.{◌≡◌, ◌↔◌, ◌≤◌, ℕ, Bool, Some, All, Contains, IfOk, IsTrue, length};
 ghost use Rattle.taxi_base.specs.declared.numbers.Segment.{Segment};
 ghost use Rattle.taxi_base.specs.Airport.{layout_of, arc_exists, segment_of, seconds as seconds_on};
@@ -22,6 +22,10 @@ use held_spans::HoldsOf;
 use segment_windows::windows_between;
 use std::cmp::min;
 use taxi_base::{Arc, Class, LabelRow, Memory, Span, Time};
+
+/// So many seconds behind a reach the windows of an arc are looked at: what leads to the arc from elsewhere mostly ends by then, and
+/// where traffic is dense there are many more.
+const BEHIND: Time = 900;
 
 /// Whether each label of some arcs that is reached in time has a row.
 #[inline(always)]
@@ -194,7 +198,7 @@ fn stretch_by_windows<H: HoldsOf>(
     ))
 }
 
-/// From where the first row of the arc begins, or the reach if it begins before, without an end.
+/// From where the first row of the arc begins, or the reach if it begins before, until some time behind the reach.
 #[inline(always)]
 fn widest_around(rows: &[LabelRow], reach: Reach, arc: Arc) -> Reach
     ensures { result.way ≡ reach.way }
@@ -206,7 +210,7 @@ fn widest_around(rows: &[LabelRow], reach: Reach, arc: Arc) -> Reach
     Reach {
         way: reach.way,
         from,
-        by: Time::MAX,
+        by: reach.by.saturating_add(BEHIND),
     }
 }
 
