@@ -288,8 +288,11 @@ fn main() {
     for command in commands.lines() {
         let asked: Vec<&str> = command.split(' ').collect();
         let head = transcript.next().unwrap().unwrap();
-        let counts: Vec<usize> = head.split(' ').skip(3).map(|count| count.parse().unwrap()).collect();
-        let block: Vec<String> = (0..counts[0] + counts[1]).map(|_| transcript.next().unwrap().unwrap()).collect();
+        // `route FLIGHT SECOND STEPS ROWS`, or `no-route ROWS`.
+        let fields: Vec<&str> = head.split(' ').collect();
+        let steps: usize = if fields[0] == "route" { fields[3].parse().unwrap() } else { 0 };
+        let labels: usize = fields[fields.len() - 1].parse().unwrap();
+        let block: Vec<String> = (0..steps + labels).map(|_| transcript.next().unwrap().unwrap()).collect();
         if asked[0] == "arrival" {
             let (at, queue): (u32, u32) = (asked[5].parse().unwrap(), asked[6].parse().unwrap());
             let (first, to) = (&airport.leaving[airport.nodes[asked[3]]], airport.nodes[asked[4]]);
@@ -303,13 +306,15 @@ fn main() {
                 let whole = Search { until: NONE, ..near };
                 room.search(&airport, &whole, first, at, at + queue, to)
             });
-            let taken = best.unwrap() - at;
-            room.reach = (taken + taken / 2).max(room.reach - room.reach / 64);
+            if let Some(best) = best {
+                let taken = best - at;
+                room.reach = (taken + taken / 2).max(room.reach - room.reach / 64);
+            }
             time += begun.elapsed();
-            assert_eq!(room.rows.len(), counts[1], "rows of {command}");
+            assert_eq!(room.rows.len(), labels, "rows of {command}");
             rows += room.rows.len();
         }
-        for step in &block[..counts[0]] {
+        for step in &block[..steps] {
             let fields: Vec<&str> = step.split(' ').collect();
             let segment = airport.segments[&fields[1][..fields[1].len() - 1]];
             for other in &airport.conflicts[segment] {
