@@ -2,6 +2,5 @@ pub mod Keys
 pub mod Least
 pub mod Entry
 pub mod Heap
-pub mod Places
+pub mod Entries
 pub mod First
-pub mod Place

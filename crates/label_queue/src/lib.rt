@@ -5,7 +5,6 @@
 
 mod entry;
 mod heap;
-mod place;
 mod queue;
 
 pub use queue::LabelQueue;

@@ -1,12 +1,14 @@
 -- What an offer to one cell does to its label and its key.
-use Rattle.std.proofs.Common.{◌≡◌, ℕ, ◌<◌, ◌≤◌, length, set, Option, Some, None, IfSome, refl, ap, inl, inr, arith}
+use Rattle.std.proofs.Common.{◌≡◌, ℕ, ◌<◌, ◌≤◌, List, length, set, Option, Some, None, IfSome, refl, sym, ap, ◌∙◌, inl, inr, arith}
 use Rattle.std.proofs.lemmas.Grind.{get_or-set_at}
 use Rattle.std.proofs.lemmas.List.{get_or-set_other, length-set}
-use Rattle.std.proofs.lemmas.Bool.{cases_lt}
+use Rattle.std.proofs.lemmas.Bool.{cases_eq, cases_lt}
+use Rattle.std.proofs.lemmas.Option.{none-some}
 use Rattle.label_queue.specs.Keys.{key_of, lesser, lowered}
 use Rattle.label_search.specs.declared.labels.Label.{Label}
 use Rattle.label_search.specs.Labels.{Standing, label_of, IsOffered, IsImproved}
 use Rattle.label_search.specs.Labels.IsOffered.{first, lower, kept}
+use Rattle.label_search.specs.Queued.{HaveLabels}
 
 offered_lower : (offer : Label) (old : Option Label) (key : Option ℕ) → IfSome old (λ l. offer.value < l.value) → IsOffered offer old key (Some offer) (Some (lesser key offer.value))
 offered_lower offer None key less = first key
@@ -52,3 +54,12 @@ module _ (s : Standing) (cell : ℕ) (offer : Label) (in_known : cell < length s
     here = offered_kept offer (label_of s.known cell) (key_of s.keys cell) not_less;
     elsewhere = λ x other. record { label = refl; key = refl };
   }
+
+-- cells that have keys still have labels once a label is written
+pub labels_written : (known : List (Option Label)) (keys : List (Option ℕ)) (cell : ℕ) (label : Label) → cell < length known → HaveLabels known keys
+    → HaveLabels (set known cell (Some label)) keys
+labels_written known keys cell label within have c none =
+    elim (cases_eq c cell) [
+      | inl same ↦ absurd (none-some label (sym none ∙ get_or-set_at known cell c (Some label) None same within))
+      | inr other ↦ have c (sym (get_or-set_other known cell c (Some label) None other) ∙ none)
+    ]

@@ -11,3 +11,4 @@ pub mod Begun
 pub mod Cut
 pub mod Reached
 pub mod Entering
+pub mod Queued

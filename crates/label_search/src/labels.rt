@@ -1,5 +1,6 @@
 //! The labels of a search, and the queue of those cells that are not settled.
 ghost use Rattle.std.specs.Prelude.{◌≡◌, ◌<◌, ◌≤◌, ◌+◌, ◌/◌, ◌^◌, false, length};
+ghost use Rattle.label_search.specs.Queued.{HaveLabels};
 ghost use Rattle.label_search.specs.Groups.{AreMarked, HaveNothing};
 
 use crate::known::Known;
@@ -28,5 +29,6 @@ pub(crate) struct Labels {
     ghost marked: { AreMarked known.items groups.items },
     ghost untouched: { touched ≡ false → HaveNothing known.items },
     ghost keyed: { length known.items ≤ length queue },
+    ghost queued: { HaveLabels known.items queue },
     ghost few: { length known.items < 2 ^ 32 },
 }

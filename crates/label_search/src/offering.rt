@@ -47,8 +47,6 @@ impl Labels {
             *self = Labels::new(alloc, count.saturating_add(count / 2))?;
         } else if self.touched {
             self.clear();
-        } else {
-            self.queue.clear();
         }
         Ok(())
     }
@@ -76,7 +74,10 @@ impl Labels {
         let old = self.known[cell];
         if old.gets_less_by(label) {
             self.write(cell, label);
-            self.queue.insert_or_lower(cell, label.value).unwrap();
+            match old.get() {
+                None => self.queue.insert(cell, label.value),
+                Some(_) => self.queue.insert_or_lower(cell, label.value),
+            }
         }
     }
 
@@ -105,6 +106,7 @@ impl Labels {
         ensures { IfOk result (λ rows. rows ≡ map (C.told cells.now) (rows_from 0 (values_kept bound self.old.known.items))) }
     {
         let mut rows = List::with_capacity(alloc, self.usual)?;
+        self.queue.clear();
         // Where memory runs out, some labels are left.
         self.touched = true;
         take_marked(cells, &mut rows, &mut self.known, &mut self.groups, bound)?;

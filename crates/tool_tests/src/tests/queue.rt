@@ -3,7 +3,6 @@ ghost use Rattle.std.specs.Prelude.{◌≡◌, ◌<◌, length};
 
 use label_queue::LabelQueue;
 use std::test::Fail;
-use taxi_base::Memory;
 
 const LABELS: usize = 40;
 
@@ -53,12 +52,12 @@ impl PlainQueue {
 #[test]
 fn a_label_whose_key_is_lowered_goes_first(rt: HostRuntime) -> Result<(), Fail> {
     let mut queue = LabelQueue::new(rt.alloc(), 4)?;
-    queue.insert_or_lower(2, 50)?;
-    queue.insert_or_lower(1, 50)?;
-    queue.insert_or_lower(3, 40)?;
-    queue.insert_or_lower(2, 30)?;
+    queue.insert(2, 50);
+    queue.insert(1, 50);
+    queue.insert(3, 40);
+    queue.insert_or_lower(2, 30);
     // A greater key is offered in vain.
-    queue.insert_or_lower(3, 60)?;
+    queue.insert_or_lower(3, 60);
     for least in [Some((2usize, 30u32)), Some((3, 40)), Some((1, 50)), None] {
         assert_eq!(rt; queue.pop_least(), least);
     }
@@ -66,28 +65,23 @@ fn a_label_whose_key_is_lowered_goes_first(rt: HostRuntime) -> Result<(), Fail> 
 }
 
 // Empties both, takes the least out of both, or puts a drawn label into both. Whether they tell the same.
-fn take_turn(
-    queue: &mut LabelQueue,
-    plain: &mut PlainQueue,
-    turn: u32,
-    draw: u64,
-) -> Result<bool, Memory>
+fn take_turn(queue: &mut LabelQueue, plain: &mut PlainQueue, turn: u32, draw: u64) -> bool
     requires { length queue.old ≡ 40 }
     ensures { length queue.new ≡ 40 }
 {
     if turn % 1000 == 999 {
         queue.clear();
         *plain = PlainQueue::new();
-        return Ok(queue.is_empty());
+        return queue.is_empty();
     }
     if draw / 640 % 5 < 2 {
-        return Ok(queue.pop_least() == plain.pop_least());
+        return queue.pop_least() == plain.pop_least();
     }
     let label = (draw % 40) as usize;
     let key = (draw / 40 % 16) as u32;
-    queue.insert_or_lower(label, key)?;
+    queue.insert_or_lower(label, key);
     plain.insert_or_lower(label, key);
-    Ok(!queue.is_empty())
+    !queue.is_empty()
 }
 
 #[test]
@@ -100,7 +94,7 @@ fn agrees_with_a_look_at_every_label(rt: HostRuntime) -> Result<(), Fail> {
             .wrapping_mul(6_364_136_223_846_793_005)
             .wrapping_add(1_442_695_040_888_963_407);
         assert!(rt;
-            take_turn(&mut queue, &mut plain, turn, seed >> 33)?,
+            take_turn(&mut queue, &mut plain, turn, seed >> 33),
             "turn {turn}"
         );
     }

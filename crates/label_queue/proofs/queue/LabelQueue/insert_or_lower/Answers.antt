@@ -1,17 +1,117 @@
-use Rattle.std.proofs.Common.{ap, ◌∙◌}
-use Rattle.std.proofs.lemmas.List.{with_items_is}
+use Rattle.std.proofs.Common.{◌≡◌, ◌≢◌, ◌<◌, ◌≤◌, ℕ, List, length, set, subst, ap, ◌∙◌, arith}
+use Rattle.std.specs.List.Sorted.{IsPermutation}
+use Rattle.std.proofs.lemmas.List.{get_or_read, take_at, with_items_is}
+use Rattle.std.proofs.lemmas.List.Elements.{All-get_or}
 use Rattle.label_queue.specs.Entry.{Entry}
+use Rattle.label_queue.specs.Heap.{entry_at}
 use Rattle.label_queue.specs.Keys.{lowered}
-use Rattle.label_queue.specs.Places.{keys_of}
+use Rattle.label_queue.specs.First.{entries_by}
+use Rattle.label_queue.specs.Entries.{keys_of, AreDistinct}
+use Rattle.label_queue.proofs.EntryKeys.{length-le, length-keys_of, no_entry-absent, distinct-moved, keys-moved, distinct-rekeyed, keys-lowered, keys-kept}
+use Rattle.label_queue.proofs.Changes.{label-in, ordered-distinct, ordered-keys}
 use Rattle.label_queue.proofs.queue.LabelQueue.insert_or_lower.Goals as goal
+use Rattle.label_queue.proofs.queue.LabelQueue.insert_or_lower.Goals.{After-put_in_order, After-key}
 
-pub returns-then-eq-clause-lowered : goal.returns-then-eq-clause-lowered
-returns-then-eq-clause-lowered c =
-    let lent_heap = c.deref_mut.ensures in
-    let lent_places = c.deref_mut-then-eq.ensures in
-    let heap_is = with_items_is c.self.inside.heap c.put_first.new.heap (c.put_first.auto.heap ∙ lent_heap.len) in
-    let places_is = with_items_is c.self.inside.places c.put_first.new.places (c.put_first.auto.places ∙ lent_places.len) in
-    (λ i. keys_of (heap_is i) (places_is i))
-    ∙ c.put_first.ensures.keys
-    ∙ (λ i. lowered (keys_of (lent_heap.value i) (lent_places.value i)) c.new-entry.result.label c.new-entry.result.key)
-    ∙ (λ i. lowered (c.self.view_is i) ((ap (λ (e : Entry). e.label) c.new-entry.ensures) i) ((ap (λ (e : Entry). e.key) c.new-entry.ensures) i))
+-- once the heap is in order its labels differ, and its keys are the same
+distinct : (c : After-put_in_order) → AreDistinct c.self.inside.limit c.put_in_order.new.heap.items
+distinct c = ordered-distinct c.self.inside.limit c.self.inside.first c.self.inside.heap.items _ c.self.invariant.1 c.put_in_order.ensures.entries
+
+same : (c : After-put_in_order) → keys_of c.self.inside.limit c.put_in_order.new.heap.items ≡ c.args.self.now
+same c = ordered-keys c.self.inside.limit c.self.inside.first c.self.inside.heap.items _ c.self.invariant.1 c.put_in_order.ensures.entries ∙ c.self.view_is
+
+pub put_in_order-requires-clause-small : goal.put_in_order-requires-clause-small
+put_in_order-requires-clause-small c = omega (arith, length-le c.self.inside.limit c.self.inside.heap.items c.self.invariant.1, c.self.invariant.3)
+
+pub overflow_cast-label : goal.overflow_cast-label
+overflow_cast-label c =
+    omega (arith, label-in c.self.inside.limit c.args.label (entries_by c.self.inside.first c.self.inside.heap.items) c.args.self.now c.self.view_is c.requires, c.self.invariant.3)
+
+pub invariant_of-self : goal.invariant_of-self
+invariant_of-self c =
+    let at = (goal.at.invariant_of-self c).After-put_in_order in
+    (c.put_in_order.ensures.heap, distinct at, omega (arith, c.put_in_order.ensures.capacity, c.self.invariant.2), c.self.invariant.3)
+
+-- ---- the label isn't there
+
+pub insert_among-requires-clause-within : goal.insert_among-requires-clause-within
+insert_among-requires-clause-within c =
+    let limit = c.self.inside.limit in
+    omega (arith, label-in limit c.args.label (entries_by c.self.inside.first c.self.inside.heap.items) c.args.self.now c.self.view_is c.requires, length-keys_of limit c.put_in_order.new.heap.items)
+
+pub insert_among-requires-clause-absent : goal.insert_among-requires-clause-absent
+insert_among-requires-clause-absent c =
+    let heap = c.put_in_order.new.heap.items in
+    let others = subst (λ (l : List Entry). (at : _) → at < length l → (entry_at l at).label ≢ c.args.label) c.deref.ensures.value
+    (λ at within. All-get_or (λ (e : Entry). e.label ≢ c.args.label) c.deref.result.now at _ within c.in-None.ensures.none) in
+    no_entry-absent c.self.inside.limit heap c.args.label others
+
+pub returns-in-None : goal.returns-in-None
+returns-in-None c =
+    c.insert_among.ensures ∙ ap (λ keys. lowered keys c.args.label c.args.key) (same (goal.at.returns-in-None c).After-put_in_order)
+
+-- ---- the label is there
+
+module _ (c : After-key) where
+  abbrev at : ℕ
+  at = c.in-Some.at
+
+  abbrev heap : List Entry
+  heap = c.put_in_order.new.heap.items
+
+  there : (at < length heap) × ((entry_at heap at).label ≡ c.args.label)
+  there = subst (λ (l : List Entry). (at < length l) × ((entry_at l at).label ≡ c.args.label)) c.deref.ensures.value c.in-Some.ensures.some
+
+  key_is : c.key.result ≡ (entry_at heap at).key
+  key_is = c.key.ensures ∙ ap (λ (e : Entry). e.key) (get_or_read heap at _ there.0 c.index.ensures _)
+
+pub index-requires : goal.index-requires
+index-requires c = omega (arith, (subst (λ (l : List Entry). (c.in-Some.at < length l) × ((entry_at l c.in-Some.at).label ≡ c.args.label)) c.deref.ensures.value c.in-Some.ensures.some).0, c.put_in_order.new.heap.ok.0)
+
+pub lower-requires-clause-within : goal.lower-requires-clause-within
+lower-requires-clause-within c =
+    let key_at = (goal.at.lower-requires-clause-within c).After-key in
+    omega (arith, (there key_at).0, ap length c.deref_mut.ensures.value)
+
+pub lower-requires-clause-lesser : goal.lower-requires-clause-lesser
+lower-requires-clause-lesser c =
+    let key_at = (goal.at.lower-requires-clause-lesser c).After-key in
+    let same_key = ap (λ (l : List Entry). (entry_at l c.in-Some.at).key) c.deref_mut.ensures.value in
+    omega (arith, key_is key_at, c.if-key.true, same_key)
+
+pub invariant_of-self-then-key : goal.invariant_of-self-then-key
+invariant_of-self-then-key c =
+    let order_at = (goal.at.invariant_of-self-then-key c).After-put_in_order in
+    let limit = c.self.inside.limit in
+    let ordered = c.put_in_order.new.heap.items in
+    let rekeyed = distinct-rekeyed limit ordered c.in-Some.at c.args.key (distinct order_at) in
+    let moved = subst (λ (l : List Entry). IsPermutation (set l c.in-Some.at (record { key = c.args.key; label = (entry_at l c.in-Some.at).label })) c.lower.new.heap) c.deref_mut.ensures.value c.lower.ensures.entries in
+    rw (take_at c.lower.new.heap _ _ (c.lower.auto.heap ∙ c.deref_mut.ensures.len))
+    (c.lower.ensures.heap, distinct-moved limit _ c.lower.new.heap moved rekeyed, omega (arith, c.put_in_order.ensures.capacity, c.self.invariant.2), c.self.invariant.3)
+
+pub returns-then-key : goal.returns-then-key
+returns-then-key c =
+    let order_at = (goal.at.returns-then-key c).After-put_in_order in
+    let key_at = (goal.at.returns-then-key c).After-key in
+    let limit = c.self.inside.limit in
+    let ordered = c.put_in_order.new.heap in
+    let rekeyed = distinct-rekeyed limit ordered.items c.in-Some.at c.args.key (distinct order_at) in
+    let moved = subst (λ (l : List Entry). IsPermutation (set l c.in-Some.at (record { key = c.args.key; label = (entry_at l c.in-Some.at).label })) c.lower.new.heap) c.deref_mut.ensures.value c.lower.ensures.entries in
+    let less : c.args.key ≤ (entry_at ordered.items c.in-Some.at).key = omega (arith, key_is key_at, c.if-key.true) in
+    ap (keys_of limit) (with_items_is ordered c.lower.new.heap (c.lower.auto.heap ∙ c.deref_mut.ensures.len))
+    ∙ keys-moved limit _ c.lower.new.heap moved rekeyed
+    ∙ keys-lowered limit ordered.items c.in-Some.at c.args.key (distinct order_at) (there key_at).0 less
+    ∙ (λ i. lowered (same order_at i) ((there key_at).1 i) c.args.key)
+
+pub invariant_of-self-else-key : goal.invariant_of-self-else-key
+invariant_of-self-else-key c =
+    let at = (goal.at.invariant_of-self-else-key c).After-put_in_order in
+    (c.put_in_order.ensures.heap, distinct at, omega (arith, c.put_in_order.ensures.capacity, c.self.invariant.2), c.self.invariant.3)
+
+pub returns-else-key : goal.returns-else-key
+returns-else-key c =
+    let order_at = (goal.at.returns-else-key c).After-put_in_order in
+    let key_at = (goal.at.returns-else-key c).After-key in
+    let limit = c.self.inside.limit in
+    let ordered = c.put_in_order.new.heap in
+    let less : (entry_at ordered.items c.in-Some.at).key ≤ c.args.key = omega (arith, key_is key_at, c.if-key.false) in
+    keys-kept limit ordered.items c.in-Some.at c.args.key (distinct order_at) (there key_at).0 less ∙ (λ i. lowered (same order_at i) ((there key_at).1 i) c.args.key)

@@ -1,9 +1,9 @@
-use Rattle.std.proofs.Common.{◌≡◌, replicate, None, ap, ◌∙◌, rules}
-use Rattle.label_queue.specs.Places.{keys_of}
-use Rattle.label_queue.proofs.Changes.{keys_of-none}
+use Rattle.std.proofs.Common.{arith}
+use Rattle.label_queue.proofs.EntryKeys.{no_entries}
+use Rattle.label_queue.proofs.Changes.{no-heap}
 use Rattle.label_queue.proofs.queue.LabelQueue.new.Goals as goal
 
-pub returns : goal.returns
-returns c =
-    let none : c.in_ok-places.places.items ≡ replicate c.args.limit None = search rules in
-    ap (keys_of _) none ∙ keys_of-none _ c.args.limit
+pub invariant_of-result : goal.invariant_of-result
+invariant_of-result c =
+    let heap = c.in_ok-heap in
+    rw heap.ensures.items (no-heap, no_entries c.args.limit, omega (arith, heap.ensures.capacity), omega (arith, c.if-limit-gt-LABELS.false))

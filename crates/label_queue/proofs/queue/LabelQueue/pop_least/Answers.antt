@@ -1,27 +1,30 @@
-use Rattle.std.proofs.Common.{refl, sym, ◌∙◌, ◌≡◌, ap, subst, length, arith}
-use Rattle.std.specs.Vec.{with_items}
+use Rattle.std.proofs.Common.{◌≡◌, ◌<◌, length, refl, sym, subst, ap, ◌∙◌, arith}
+use Rattle.std.proofs.lemmas.List.{get_or_read}
 use Rattle.std.proofs.lemmas.Bool.{eqb-true}
-use Rattle.std.proofs.lemmas.List.{with_items_is}
-use Rattle.std.proofs.lemmas.Option.{none-some}
+use Rattle.label_queue.specs.Entries.{keys_of, AreDistinct}
+use Rattle.label_queue.specs.Entry.{Entry}
+use Rattle.label_queue.specs.Heap.{entry_at}
 use Rattle.label_queue.specs.Keys.{IsEmpty, without}
 use Rattle.label_queue.specs.Least.{IsLeast}
-use Rattle.label_queue.specs.Places.{keys_of}
-use Rattle.label_queue.proofs.Changes.{empty-keys}
+use Rattle.label_queue.proofs.EntryKeys.{length-le}
+use Rattle.label_queue.proofs.Changes.{ordered-distinct, ordered-keys, empty-keys, some-keys, some-by, first-least, taken-keys}
 use Rattle.label_queue.proofs.queue.LabelQueue.pop_least.Goals as goal
-use Rattle.label_queue.proofs.queue.LabelQueue.pop_least.Goals.{After-put_in_order, After-take_first-first}
+use Rattle.label_queue.proofs.queue.LabelQueue.pop_least.Goals.{After-put_in_order, After-key}
 
--- once the heap is in order the keys are the same
-same : (c : After-put_in_order) → keys_of c.put_in_order.new.heap.items c.put_in_order.new.places ≡ c.args.self.now
-same c = c.put_in_order.ensures.keys ∙ ap (keys_of c.self.inside.heap.items) c.deref_mut.ensures.value ∙ c.self.view_is
+-- once the heap is in order its labels differ, and its keys are the same
+distinct : (c : After-put_in_order) → AreDistinct c.self.inside.limit c.put_in_order.new.heap.items
+distinct c = ordered-distinct c.self.inside.limit c.self.inside.first c.self.inside.heap.items _ c.self.invariant.1 c.put_in_order.ensures.entries
 
--- and so they are where the first is taken out
-lent : (c : After-take_first-first) → keys_of c.deref.result.now c.deref_mut-2.result.now ≡ c.args.self.now
-lent c =
-    let written = with_items_is c.self.inside.places c.put_in_order.new.places (c.put_in_order.auto.places ∙ c.deref_mut.ensures.len) in
-    (λ i. keys_of (c.deref.ensures.value i) ((c.deref_mut-2.ensures.value ∙ written) i)) ∙ c.put_in_order.ensures.keys ∙ ap (keys_of c.self.inside.heap.items) c.deref_mut.ensures.value ∙ c.self.view_is
+same : (c : After-put_in_order) → keys_of c.self.inside.limit c.put_in_order.new.heap.items ≡ c.args.self.now
+same c = ordered-keys c.self.inside.limit c.self.inside.first c.self.inside.heap.items _ c.self.invariant.1 c.put_in_order.ensures.entries ∙ c.self.view_is
 
-least : (c : After-take_first-first) → IsLeast c.args.self.now c.take_first-first.result.label c.take_first-first.result.key
-least c = subst (λ keys. IsLeast keys c.take_first-first.result.label c.take_first-first.result.key) (lent c) c.take_first-first.ensures.least
+pub put_in_order-requires-clause-small : goal.put_in_order-requires-clause-small
+put_in_order-requires-clause-small c = omega (arith, length-le c.self.inside.limit c.self.inside.heap.items c.self.invariant.1, c.self.invariant.3)
+
+pub invariant_of-self : goal.invariant_of-self
+invariant_of-self c =
+    let at = (goal.at.invariant_of-self c).After-put_in_order in
+    (c.put_in_order.ensures.heap, distinct at, omega (arith, c.put_in_order.ensures.capacity, c.self.invariant.2), c.self.invariant.3)
 
 pub returns-then-is_empty-clause-none : goal.returns-then-is_empty-clause-none
 returns-then-is_empty-clause-none c =
@@ -29,21 +32,48 @@ returns-then-is_empty-clause-none c =
     let empty = eqb-true heap.len 0 (sym c.is_empty.ensures ∙ c.if-is_empty.true) in
     let none : length heap.items ≡ 0 = omega (arith, heap.ok.0) in
     let at = (goal.at.returns-then-is_empty-clause-none c).After-put_in_order in
-    (λ _. subst IsEmpty (same at) (empty-keys heap.items c.put_in_order.new.places c.put_in_order.ensures.heap.indexed none), λ _. refl)
+    (λ _. subst IsEmpty (same at) (empty-keys c.self.inside.limit heap.items none), λ _. refl)
+
+pub returns-then-is_empty-clause-unchanged : goal.returns-then-is_empty-clause-unchanged
+returns-then-is_empty-clause-unchanged c = same (goal.at.returns-then-is_empty-clause-unchanged c).After-put_in_order
+
+-- there is a first entry, which is read
+some : (c : After-key) → 0 < length c.put_in_order.new.heap.items
+some c =
+    let heap = c.put_in_order.new.heap in
+    let there = some-by heap.len c.is_empty.result c.is_empty.ensures c.if-is_empty.false in
+    omega (arith, there, heap.ok.0)
+
+entry_is : (c : After-key) → c.index.result.now ≡ entry_at c.put_in_order.new.heap.items 0
+entry_is c = get_or_read c.put_in_order.new.heap.items 0 _ (some c) c.index.ensures _
+
+pub invariant_of-self-2 : goal.invariant_of-self-2
+invariant_of-self-2 c =
+    let at = (goal.at.invariant_of-self-2 c).After-put_in_order in (
+      record { some = some (goal.at.invariant_of-self-2 c).After-key; whole = c.put_in_order.ensures.heap },
+      distinct at,
+      omega (arith, c.put_in_order.ensures.capacity, c.self.invariant.2),
+      c.self.invariant.3,
+    )
 
 pub returns-clause-none : goal.returns-clause-none
 returns-clause-none c =
-    let first = c.take_first-first.result in
-    let has_key = (least (goal.at.returns-clause-none c).After-take_first-first).has_key in
-    (λ e. absurd cc, λ none. absurd (none-some first.key (sym (none first.label) ∙ has_key)))
+    let at = (goal.at.returns-clause-none c).After-put_in_order in
+    let there = some (goal.at.returns-clause-none c).After-key in
+    (λ e. absurd cc, λ none. absurd (some-keys c.self.inside.limit c.put_in_order.new.heap.items (distinct at) there (subst IsEmpty (sym (same at)) none)))
 
 pub returns-clause-least : goal.returns-clause-least
-returns-clause-least c = rw (c.label.ensures, c.key.ensures) (least (goal.at.returns-clause-least c).After-take_first-first)
+returns-clause-least c =
+    let at = (goal.at.returns-clause-least c).After-put_in_order in
+    let heap = c.put_in_order.new.heap.items in
+    let key_at = (goal.at.returns-clause-least c).After-key in
+    let least = first-least c.self.inside.limit heap (distinct at) c.put_in_order.ensures.heap (some key_at) in
+    rw (c.label.ensures, c.key.ensures, entry_is key_at)
+    (subst (λ keys. IsLeast keys (entry_at heap 0).label (entry_at heap 0).key) (same at) least)
 
 pub returns-clause-taken : goal.returns-clause-taken
 returns-clause-taken c =
-    let first = c.take_first-first in
-    let told = with_items_is (with_items c.self.inside.places c.put_in_order.new.places) first.new.places (first.auto.places ∙ c.deref_mut-2.ensures.len) in
-    (λ i. keys_of (sym c.deref.ensures.value i) (told i))
-    ∙ first.ensures.keys
-    ∙ (λ i. without (lent (goal.at.returns-clause-taken c).After-take_first-first i) (sym c.label.ensures i))
+    let at = (goal.at.returns-clause-taken c).After-put_in_order in
+    let key_at = (goal.at.returns-clause-taken c).After-key in
+    let label_is = c.label.ensures ∙ ap (λ (e : Entry). e.label) (entry_is key_at) in
+    taken-keys c.self.inside.limit c.put_in_order.new.heap.items (distinct at) (some key_at) ∙ (λ i. without (same at i) (sym label_is i))
