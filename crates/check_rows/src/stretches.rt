@@ -148,8 +148,8 @@ fn stretch_near<H: HoldsOf>(
     ensures way { IfOk result (λ stretch. stretch.way ≡ reach.way) }
     ensures served { IfOk result (λ stretch. HasEach stretch.way (IsReachedAt (conditions_among airport.now class (H.held holds.now)) stretch arc) table.now.bound table.now.rows.now) }
 {
-    let rows = table.rows_of(arc);
-    match row_around(rows_behind(rows, arc, reach.from), reach, arc) {
+    let near = rows_behind(table.rows_of(arc), arc, reach.from);
+    match row_around(near, reach, arc) {
         Some(row) => {
             let whole = Reach {
                 way: reach.way,
@@ -159,12 +159,12 @@ fn stretch_near<H: HoldsOf>(
             Ok(part_by_row(airport, class, row, whole, reach, seconds))
         }
         None => stretch_by_windows(
-            airport, class, holds, known, table, rows, reach, arc, seconds,
+            airport, class, holds, known, table, near, reach, arc, seconds,
         ),
     }
 }
 
-/// The same by the windows that a step may come to, from the first of the rows of the arc on.
+/// The same by the windows that a step may come to, from the first of some rows of the arc on, which are near the reach.
 #[inline(always)]
 fn stretch_by_windows<H: HoldsOf>(
     airport: &Airport,
@@ -172,14 +172,14 @@ fn stretch_by_windows<H: HoldsOf>(
     holds: &H,
     known: &mut KnownWindows,
     table: &Table<'_>,
-    rows: &[LabelRow],
+    near: &[LabelRow],
     reach: Reach,
     arc: Arc,
     seconds: Time,
 ) -> Result<Reach, Memory>
     requires exists { IsTrue (arc_exists (layout_of airport.now) arc) }
     requires takes { seconds_on airport.now class (segment_of arc) ≡ Some seconds }
-    requires among { All (Contains table.now.rows.now) rows.now }
+    requires near { All (Contains table.now.rows.now) near.now }
     requires ordered { AreOrdered table.now.rows.now }
     requires places { All (λ row. IsPlace (conditions_among airport.now class (H.held holds.now)) (place_of row)) table.now.rows.now }
     requires known { AreKnown (length airport.now.segments) (free_among airport.now (H.held holds.now)) known.old }
@@ -189,21 +189,21 @@ fn stretch_by_windows<H: HoldsOf>(
 {
     let segment = arc.segment();
     known.make(airport, holds, segment)?;
-    let widest = widest_around(rows, reach, arc);
+    let widest = widest_around(near, reach, arc);
     let short = short_part(widest, table.bound);
     let found = known.found(segment);
     let windows = windows_between(known.of(segment), short.from, short.by, found);
     Ok(stretch_in(
-        airport, class, windows, table, rows, widest, reach, arc, seconds,
+        airport, class, windows, table, near, widest, reach, arc, seconds,
     ))
 }
 
-/// From where the first row of the arc begins, or the reach if it begins before, until some time behind the reach.
+/// From where the first of some rows begins, if it is of the arc, or the reach if it begins before, until some time behind the reach.
 #[inline(always)]
-fn widest_around(rows: &[LabelRow], reach: Reach, arc: Arc) -> Reach
+fn widest_around(near: &[LabelRow], reach: Reach, arc: Arc) -> Reach
     ensures { result.way ≡ reach.way }
 {
-    let from = match rows.first() {
+    let from = match near.first() {
         Some(row) if row.arc == arc => min(reach.from, row.from),
         _ => reach.from,
     };

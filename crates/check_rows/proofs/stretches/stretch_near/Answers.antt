@@ -21,7 +21,11 @@ returns-in-Some-clause-served g c =
     let row = c.in-Some.row in
     let part = c.part_by_row.result in
     let around = c.in-Some.ensures in
-    let there = All-contains (Contains rows) c.rows_behind.result.now row (among-part rows c.rows_of-rows.result.now c.rows_behind.result.now c.rows_of-rows.ensures c.rows_behind.ensures) around.there in
+    let there = All-contains (Contains rows) c.rows_behind-near.result.now row (among-part rows c.rows_of.result.now c.rows_behind-near.result.now c.rows_of.ensures c.rows_behind-near.ensures) around.there in
     let served = subst (λ (a : Arc). HasEach part.way (IsReachedIn conditions part a c.args.seconds (window_of row)) bound rows) around.on (c.part_by_row.ensures.served free bound rows there) in
     (arc-by_row conditions c.args.arc c.args.seconds c.requires.takes part bound rows row around.on c.part_by_row.ensures.within.begins c.part_by_row.ensures.within.ends
     (All-contains (λ r. IsPlace conditions (place_of r)) rows row c.requires.places there)).0 served
+
+pub stretch_by_windows-requires-clause-near : goal.stretch_by_windows-requires-clause-near
+stretch_by_windows-requires-clause-near g c =
+    among-part c.args.table.now.rows.now c.rows_of.result.now c.rows_behind-near.result.now c.rows_of.ensures c.rows_behind-near.ensures
