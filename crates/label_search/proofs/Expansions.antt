@@ -1,12 +1,11 @@
 -- Expanding a cell to one next cell after another.
-use Rattle.std.proofs.Common.{◌≡◌, ℕ, ◌≤◌, List, Option, Some, None, refl, sym, ap, ◌∙◌, subst, ◌⊎◌, inl, inr, arith}
-use Rattle.std.specs.Prelude.{IsSomeAnd}
+use Rattle.std.proofs.Common.{◌≡◌, ℕ, Option, refl, sym, ◌∙◌, subst, ◌⊎◌, inl, inr, arith}
 use Rattle.std.proofs.lemmas.Bool.{cases_eq}
 use Rattle.label_core.specs.Walks.{Network}
 use Rattle.label_core.specs.Labels.{IsExpansion}
 use Rattle.label_core.specs.Tables.{HasAsGood}
 use Rattle.label_search.specs.declared.labels.Label.{Label}
-use Rattle.label_search.specs.Labels.{Standing, label_of, HasValue, IsOffered, IsImproved, Same, WasOffered}
+use Rattle.label_search.specs.Labels.{Standing, HasValue, IsOffered, IsImproved, Same, WasOffered}
 use Rattle.label_search.specs.Labels.IsOffered.{first, lower, kept}
 use Rattle.label_search.specs.Expanding.{label_by, WasExpandedTo, IsExpanded}
 use Rattle.label_search.proofs.Offers.{as_good_as_old, as_good_as_offer}
@@ -19,14 +18,6 @@ twice {offer} (lower old key less) (lower old' key' less') = absurd (omega arith
 twice {offer} (lower old key less) (kept old' key' by) = lower old key less
 twice {offer} (kept old key by) (lower old' key' less') = absurd (omega arith)
 twice {offer} (kept old key by) (kept old' key' by') = kept old key by
-
--- a label that isn't above a value is as good as what is above that
-known_by : (known : List (Option Label)) (d v t : ℕ) → IsSomeAnd (label_of known d) (λ l. l.value ≤ v) → v ≤ t → HasAsGood (HasValue known) d t
-known_by known d v t by above = go (label_of known d) refl by
-  where
-    go : (o : Option Label) → label_of known d ≡ o → IsSomeAnd o (λ l. l.value ≤ v) → HasAsGood (HasValue known) d t
-    go None is has = absurd has
-    go (Some l) is has = (l.value, (l, is, refl), omega (arith, has))
 
 -- what stands as it did, or was offered something, has a label as good as before
 pub good_still : (network : Network ℕ) (c v : ℕ) (old new : Standing) (d t : ℕ) → Same old new d ⊎ WasExpandedTo network c v old new d → HasAsGood (HasValue old.known) d t → HasAsGood (HasValue new.known) d t
@@ -44,12 +35,6 @@ module _ (network : Network ℕ) (c v : ℕ) where
   -- nothing changes where all have labels as good
   pub expanded_not : (IsDone : ℕ → Type 0) (s : Standing) → ((d t : ℕ) → IsDone d → IsExpansion network c v d t → HasAsGood (HasValue s.known) d t) → IsExpanded network c v IsDone s s
   expanded_not IsDone s done = record { lengths = record { known = refl; keys = refl }; each = λ d. inl (same_here s d); done = done }
-
-  -- the next cell's label is no later than the time at which cell c can be left
-  pub expanded_known : (s : Standing) (next : ℕ) → 1 ≤ network.seconds next → IsSomeAnd (label_of s.known next) (λ l. l.value ≤ v) → IsExpanded network c v (λ d. d ≡ next) s s
-  expanded_known s next takes by = expanded_not (λ d. d ≡ next) s (λ d t same e. (
-      let seconds : network.seconds d ≡ network.seconds next = ap network.seconds same in
-      known_by s.known d v t (subst (λ x. IsSomeAnd (label_of s.known x) (λ l. l.value ≤ v)) (sym same) by) (omega (arith, e.value))))
 
   -- there is no expansion to it
   pub expanded_nothing : (s : Standing) (next : ℕ) → ((t : ℕ) → IsExpansion network c v next t → ⊥) → IsExpanded network c v (λ d. d ≡ next) s s

@@ -34,7 +34,7 @@ fn leave_after(from: Ready, next: Cell) -> Option<u32>
     if leave > next.last { None } else { Some(leave) }
 }
 
-/// Offers the next cell its expansion. One that can't better its label is skipped early.
+/// Offers the next cell its expansion.
 fn expand_to<C: ForwardCells>(cells: &C, from: Ready, row: C::Row, next: usize, labels: &mut Labels)
     requires sound { IsProblem (C.problem cells.now) }
     requires room { HasRoom (C.problem cells.now).count (standing labels.old) }
@@ -43,9 +43,6 @@ fn expand_to<C: ForwardCells>(cells: &C, from: Ready, row: C::Row, next: usize, 
     requires told { C.tells cells.now row next }
     ensures { IsExpanded (C.problem cells.now).network from.cell from.at (λ d. d ≡ next) (standing labels.old) (standing labels.new) }
 {
-    if labels.known[next].is_by(from.at) {
-        return;
-    }
     if let Some(value) = leave_after(from, cells.cell_in(row, next)) {
         labels.offer(
             next,

@@ -1,5 +1,5 @@
 //! What is known of a cell: its label, if it has one.
-ghost use Rattle.std.specs.Prelude.{◌≡◌, ◌<◌, ◌≤◌, ◌^◌, ◌↔◌, Some, None, IsTrue, IfSome, IsSomeAnd};
+ghost use Rattle.std.specs.Prelude.{◌≡◌, ◌<◌, ◌^◌, ◌↔◌, Some, None, IsTrue, IfSome};
 
 use crate::labels::Label;
 use std::marker::Model;
@@ -62,14 +62,6 @@ impl Known {
                 via: self.via as usize,
             })
         }
-    }
-
-    /// Whether there is a label with a value no later than this.
-    pub(crate) fn is_by(self, time: u32) -> bool
-        requires { time < 2 ^ 31 }
-        ensures { IsTrue result ↔ IsSomeAnd self (λ l. l.value ≤ time) }
-    {
-        self.value <= time
     }
 
     /// Whether the cell's value gets less by the label.
