@@ -2,12 +2,14 @@
 use Rattle.std.proofs.Common.{◌≡◌, ◌<◌, ◌≤◌, ◌+◌, ◌∷◌, ◌∙◌, [], ℕ, zero, suc, List, Option, Some, None, refl, ap, arith, length, true, false, inl, add-one}
 use Rattle.std.specs.Borrow.{Bor}
 use Rattle.csv.specs.Machine.{next_record, Read, ends_at_end}
-use Rattle.csv.specs.Reading.{records_from, records_next, default_config, ReadsNext, NextIs, ReadRecord, pending_of, took_first, strip_bom}
+use Rattle.csv.specs.Reading.{records_from, records_next, default_config, ReadsNext, NextIs, ReadRecord, pending_of, took_first, strip_bom, is_flexible, ExplainsRead}
 use Rattle.csv.specs.declared.reader.Reader.{Reader}
 use Rattle.csv.specs.declared.parser.Config.{Config}
 use Rattle.csv.specs.declared.parser.State.{State}
 use Rattle.csv.specs.declared.parser.State.TheVariants as st
-use Rattle.airport_file.specs.Rows.{bytes_left, rows_of, rows_left, IsReading}
+use Rattle.airport_file.specs.Rows.{bytes_left, rows_of, rows_left, IsReading, IsOfMemory}
+use Rattle.csv.specs.declared.error.ErrorKind.{ErrorKind}
+use Rattle.csv.specs.declared.error.ErrorKind.TheVariants as kind
 use Rattle.airport_file.proofs.CsvRecords.{rest-lt, good-after, no-record, length-strip}
 
 -- a record leaves fewer bytes
@@ -88,13 +90,14 @@ read-go s s2 y (Some z) f good r =
     (z, refl, first-row s y n.0 good n.1 ∙ as-told n.0 f s2 z n.2 n.3 n.4, ap ends_at_end n.3 ∙ good-after default_config s [] [] y n.0 n.1)
 
 -- a read that found a record
-pub read-more : (a b : Reader (Bor (List ℕ))) (f : List (List ℕ)) → IsReading a → took_first b ≡ true → ReadRecord (λ (s : Bor (List ℕ)). Some s.now) a b true f
+pub read-more : (a b : Reader (Bor (List ℕ))) (f : List (List ℕ)) → IsReading a → took_first b ≡ true → is_flexible b ≡ is_flexible a → ReadRecord (λ (s : Bor (List ℕ)). Some s.now) a b true f
     → (rows_left a ≡ f ∷ rows_left b) × IsReading b
-read-more a b f reading first r =
+read-more a b f reading first flexible r =
     let g = read-go a.state b.state reading.bytes (pending_of (Some b.rdr.now) b) f reading.between (rw (reading.config, reading.known) at r.0) in
     let left : bytes_left b ≡ Some g.0 = rw r.1 g.1 in (
       rw (reading.known, left) g.2,
       record {
+        flexible = flexible ∙ reading.flexible;
         config = r.2 ∙ reading.config;
         trim = r.3 ∙ reading.trim;
         ready = inl first;
@@ -108,3 +111,12 @@ read-more a b f reading first r =
 pub read-end : (a b : Reader (Bor (List ℕ))) (f : List (List ℕ)) → IsReading a → ReadRecord (λ (s : Bor (List ℕ)). Some s.now) a b false f → rows_left a ≡ []
 read-end a b f reading r =
     rw reading.known (end-go a.state b.state reading.bytes (pending_of (Some b.rdr.now) b) f (rw (reading.config, reading.known) at r.0))
+
+-- why a read fails where records may have any length
+pub error-of-memory : (a b : Reader (Bor (List ℕ))) (k : ErrorKind) → is_flexible a ≡ true → ExplainsRead (λ (s : Bor (List ℕ)). Some s.now) a b false k → IsOfMemory k
+error-of-memory a b kind.OutOfMemory flexible why = tt
+error-of-memory a b (kind.Io error) flexible why = tt
+error-of-memory a b (kind.UnequalLengths pos expected len) flexible why = absurd (cc (flexible, why.0))
+error-of-memory a b (kind.Utf8 pos error) flexible why = absurd (cc why.0)
+error-of-memory a b (kind.Serialize text) flexible why = why
+error-of-memory a b (kind.Deserialize pos error) flexible why = why

@@ -1,6 +1,6 @@
 //! An airport, with its graph, the times of its classes and its conflicts.
 ghost use Rattle.std.specs.Prelude.{◌≡◌, ◌<◌, ◌≤◌, Some, length, map, slice_get, option_map};
-ghost use Rattle.taxi_base.specs.Airport.{IsWellFormed, layout_of, times_of, clearance_of, node_name, class_name, segment_name, node_named, class_named, segment_named, arc_named};
+ghost use Rattle.taxi_base.specs.Airport.{IsWellFormed, layout_of, times_of, clearance_of, node_name, class_name, segment_name, node_named, class_named, segment_named, arc_named, is_runway, is_stand, is_of_kind, is_node_of};
 
 use aircraft_class::Classes;
 use airport_rules::Plan;
@@ -76,6 +76,42 @@ impl Airport {
         ensures { option_map (λ n. n.kind) (slice_get self.now.nodes node.0) ≡ Some result }
     {
         self.plan.kinds()[node.0 as usize]
+    }
+
+    /// Whether a node is a runway node.
+    pub fn is_runway(&self, node: Node) -> bool
+        requires { node.0 < length self.now.nodes }
+        ensures { result ≡ is_of_kind is_runway self.now node }
+    {
+        matches!(self.kind(node), Kind::Runway)
+    }
+
+    /// Whether a node is a stand.
+    pub fn is_stand(&self, node: Node) -> bool
+        requires { node.0 < length self.now.nodes }
+        ensures { result ≡ is_of_kind is_stand self.now node }
+    {
+        matches!(self.kind(node), Kind::Stand)
+    }
+
+    /// Whether a runway node has this name.
+    pub fn has_runway(&self, name: &Name) -> bool
+        ensures { result ≡ is_node_of is_runway self.now name.now }
+    {
+        match self.node_named(name) {
+            Some(node) => self.is_runway(node),
+            None => false,
+        }
+    }
+
+    /// Whether a stand has this name.
+    pub fn has_stand(&self, name: &Name) -> bool
+        ensures { result ≡ is_node_of is_stand self.now name.now }
+    {
+        match self.node_named(name) {
+            Some(node) => self.is_stand(node),
+            None => false,
+        }
     }
 
     /// The name of a node.

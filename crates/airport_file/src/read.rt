@@ -127,6 +127,6 @@ fn judge_row(
     }
     match fields_of(alloc, row) {
         Ok(fields) => judge(alloc, version, plan, fields.as_slice()),
-        Err(_) => Err(NotTaken::Memory),
+        Err(memory) => Err(memory.into()),
     }
 }

@@ -4,9 +4,10 @@ ghost use Rattle.airport_rules.specs.Judged.{texts_of};
 ghost use Rattle.std.specs.Borrow.{Bor};
 ghost use Rattle.csv.specs.Records.{fields_of};
 ghost use Rattle.airport_file.specs.Reading.{records_of};
-ghost use Rattle.airport_file.specs.Rows.{IsReading, rows_left};
+ghost use Rattle.csv.specs.Reading.{error_kind};
+ghost use Rattle.airport_file.specs.Rows.{IsReading, IsOfMemory, rows_left};
 
-use csv::{ByteRecord, Reader, ReaderBuilder};
+use csv::{ByteRecord, Error, Reader, ReaderBuilder};
 use std::alloc::Global;
 use taxi_base::Memory;
 
@@ -22,7 +23,7 @@ pub fn reader_of(alloc: Global, bytes: &[u8]) -> Reader<&[u8]>
         .from_reader(alloc, bytes)
 }
 
-/// Reads the next record into `row`, and says whether there was one. Each error of the reader is taken for want of memory.
+/// Reads the next record into `row`, and says whether there was one.
 pub fn read_row(reader: &mut Reader<&[u8]>, row: &mut ByteRecord) -> Result<bool, Memory>
     requires { IsReading reader.old }
     ensures ready { IfOk result (λ found. found ≡ true → IsReading reader.new) }
@@ -31,8 +32,16 @@ pub fn read_row(reader: &mut Reader<&[u8]>, row: &mut ByteRecord) -> Result<bool
 {
     match reader.read_byte_record(row) {
         Ok(found) => Ok(found),
-        Err(_) => Err(Memory),
+        Err(error) => Err(want_of_memory(&error)),
     }
+}
+
+// What the reader calls want of memory in words of its own.
+fn want_of_memory(error: &Error) -> Memory
+    requires { IsOfMemory (error_kind error.now) }
+{
+    let _error = error;
+    Memory::told()
 }
 
 /// Every record of the bytes.

@@ -12,12 +12,12 @@ use taxi_base::Memory;
 #[derive(Drop)]
 pub(crate) struct RecordWriter {
     writer: Writer<Vec<u8>>,
-    // A record was cut off for want of memory, and no other may follow it.
-    failed: bool,
+    // Where a record was cut off for want of memory, no other may follow it.
+    lost: Option<Memory>,
 }
 
 impl Model for RecordWriter {
-    ghost use Rattle.std.specs.Prelude.{◌≡◌, ◌++◌, List, ℕ, false};
+    ghost use Rattle.std.specs.Prelude.{◌≡◌, ◌++◌, List, ℕ, None};
     ghost use Rattle.csv.specs.Writing.{writer_under, writer_pending};
 
     ghost Value = { List ℕ };
@@ -26,7 +26,7 @@ impl Model for RecordWriter {
 
     ghost view = { λ r. (writer_under r.writer).items ++ writer_pending r.writer };
 
-    ghost invariant = { λ r. r.failed ≡ false → IsBetweenRecords r.writer };
+    ghost invariant = { λ r. r.lost ≡ None → IsBetweenRecords r.writer };
 }
 
 impl RecordWriter {
@@ -37,22 +37,20 @@ impl RecordWriter {
         let writer = WriterBuilder::new()
             .flexible(true)
             .from_writer(Vec::new(alloc));
-        RecordWriter {
-            writer,
-            failed: false,
-        }
+        RecordWriter { writer, lost: None }
     }
 
     /// Adds a record of these fields. After an error no other is added.
     pub(crate) fn write(&mut self, fields: &[&[u8]]) -> Result<(), Memory>
         ensures { OnOk result (self.new ≡ and_records self.old (map (λ f. f.now) fields.now ∷ [])) }
     {
-        if self.failed {
-            return Err(Memory);
+        if let Some(memory) = self.lost {
+            return Err(memory);
         }
         if self.writer.write_fields(fields).is_err() {
-            self.failed = true;
-            return Err(Memory);
+            let memory = Memory::told();
+            self.lost = Some(memory);
+            return Err(memory);
         }
         Ok(())
     }
@@ -61,12 +59,13 @@ impl RecordWriter {
     pub(crate) fn write_row(&mut self, row: &ByteRecord) -> Result<(), Memory>
         ensures { OnOk result (self.new ≡ and_records self.old (fields_of row.now ∷ [])) }
     {
-        if self.failed {
-            return Err(Memory);
+        if let Some(memory) = self.lost {
+            return Err(memory);
         }
         if self.writer.write_byte_record(row).is_err() {
-            self.failed = true;
-            return Err(Memory);
+            let memory = Memory::told();
+            self.lost = Some(memory);
+            return Err(memory);
         }
         Ok(())
     }
@@ -77,7 +76,7 @@ impl RecordWriter {
     {
         match self.writer.into_inner() {
             Ok(text) => Ok(text),
-            Err(_) => Err(Memory),
+            Err(_) => Err(Memory::told()),
         }
     }
 }

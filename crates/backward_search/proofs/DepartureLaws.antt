@@ -25,14 +25,6 @@ use Rattle.backward_search.specs.Departures.{Ending, finish_at, last_arcs, depar
 
 -- ---- the finishes
 
-pub finish_here : {C : Type 0} (layout : Layout) (inside : C → Bool) (place : C → Place) (e : Ending) (x : C) → inside x ≡ true → finishes_at layout inside place e.to e.earliest e.latest x ≡ finish_at layout e (place x).arc
-finish_here layout inside place e x in' =
-    ap (λ t. cond (t && leads_to_one_of layout e.to (place x).arc) (Some (record { earliest_out = e.earliest; latest_out = e.latest })) None) in'
-
-pub finish_not : {C : Type 0} (layout : Layout) (inside : C → Bool) (place : C → Place) (e : Ending) (x : C) → inside x ≡ false → finishes_at layout inside place e.to e.earliest e.latest x ≡ None
-finish_not layout inside place e x out =
-    ap (λ t. cond (t && leads_to_one_of layout e.to (place x).arc) (Some (record { earliest_out = e.earliest; latest_out = e.latest })) None) out
-
 finish_parts : {C : Type 0} (layout : Layout) (inside : C → Bool) (place : C → Place) (e : Ending) (x : C) (f : Finish) → finishes_at layout inside place e.to e.earliest e.latest x ≡ Some f
     → (inside x ≡ true) × (OneOf (λ node. head layout (place x).arc ≡ Some node) e.to) × (f.earliest_out ≡ e.earliest) × (f.latest_out ≡ e.latest)
 finish_parts layout inside place e x f h =

@@ -1,7 +1,7 @@
 //! The search for a departure's route.
 ghost use Rattle.std.specs.Prelude.{◌≡◌, ◌^◌, ◌<◌, ◌≤◌, length, All, IfOk};
 ghost use Rattle.taxi_base.specs.Airport.{layout_of, IsWellFormed};
-ghost use Rattle.taxi_base.specs.Walks.{conditions_in_windows, ReachesNodeWithin};
+ghost use Rattle.taxi_base.specs.Walks.{conditions_of_class, ReachesNodeWithin};
 ghost use Rattle.taxi_base.specs.Labels.{AnswersDeparture};
 ghost use Rattle.walk_labels.specs.PlacesInWindows.{AreWindowLists};
 ghost use Rattle.taxi_base.specs.Choices.{ReachesOneOfWithin};
@@ -15,38 +15,32 @@ use std::alloc::Global;
 use taxi_base::{Class, Found, Memory, Node, Time};
 use window_store::WindowStore;
 
+/// A class that leaves a node, and leaves the last step of its way from `earliest_out` to `latest_out`.
+#[derive(Clone, Copy, Debug, PartialEq, Eq)]
+pub struct Departure {
+    pub class: Class,
+    pub from: Node,
+    pub earliest_out: Time,
+    pub latest_out: Time,
+}
+
 /// The picked one of the walks in the store's windows that end so and leave the node latest, with the labels past its begin;
-/// or that there is no walk, with all labels. Each step keeps the clearance after it inside its window, but no longer than to
-/// the horizon. What an earlier search left in the room does not matter.
+/// or that there is no walk, with all labels. Each step keeps the class's clearance after it inside its window, but no longer than
+/// to the horizon. What an earlier search left in the room does not matter.
 pub fn depart(
     alloc: Global,
     room: &mut SearchRoom,
     airport: &Airport,
     store: &WindowStore,
-    from: Node,
+    departure: Departure,
     to: Node,
-    class: Class,
-    earliest_out: Time,
-    latest_out: Time,
-    clearance: Time,
 ) -> Result<Found, Memory>
     requires segments { length store.now.lists ≡ length airport.now.segments }
     requires horizon { All (All (λ w. w.until ≤ airport.now.horizon)) (windows_of store.now) }
-    requires times { earliest_out < 2 ^ 31 }
-    ensures { IfOk result (AnswersDeparture (conditions_in_windows airport.now class clearance (windows_of store.now)) from (ReachesNodeWithin (layout_of airport.now) to earliest_out latest_out)) }
+    requires times { departure.earliest_out < 2 ^ 31 }
+    ensures { IfOk result (AnswersDeparture (conditions_of_class airport.now departure.class (windows_of store.now)) departure.from (ReachesNodeWithin (layout_of airport.now) to departure.earliest_out departure.latest_out)) }
 {
-    depart_to_one_of(
-        alloc,
-        room,
-        airport,
-        store,
-        from,
-        &[to],
-        class,
-        earliest_out,
-        latest_out,
-        clearance,
-    )
+    depart_to_one_of(alloc, room, airport, store, departure, &[to])
 }
 
 /// The same where walks may end at any of some nodes: the picked one of all of them, with the labels past its begin, each the
@@ -56,17 +50,13 @@ pub fn depart_to_one_of(
     room: &mut SearchRoom,
     airport: &Airport,
     store: &WindowStore,
-    from: Node,
+    departure: Departure,
     to: &[Node],
-    class: Class,
-    earliest_out: Time,
-    latest_out: Time,
-    clearance: Time,
 ) -> Result<Found, Memory>
     requires segments { length store.now.lists ≡ length airport.now.segments }
     requires horizon { All (All (λ w. w.until ≤ airport.now.horizon)) (windows_of store.now) }
-    requires times { earliest_out < 2 ^ 31 }
-    ensures { IfOk result (AnswersDeparture (conditions_in_windows airport.now class clearance (windows_of store.now)) from (ReachesOneOfWithin (layout_of airport.now) to.now earliest_out latest_out)) }
+    requires times { departure.earliest_out < 2 ^ 31 }
+    ensures { IfOk result (AnswersDeparture (conditions_of_class airport.now departure.class (windows_of store.now)) departure.from (ReachesOneOfWithin (layout_of airport.now) to.now departure.earliest_out departure.latest_out)) }
 {
     // With the horizon comes that the airport keeps the rules.
     let _horizon = airport.horizon();
@@ -77,12 +67,8 @@ pub fn depart_to_one_of(
         airport,
         store,
         &room.numbers,
-        from,
+        departure,
         to,
-        class,
-        earliest_out,
-        latest_out,
-        clearance,
     )
 }
 
@@ -93,19 +79,21 @@ fn search_among<'x>(
     airport: &'x Airport,
     store: &'x WindowStore,
     numbers: &'x CellNumbers,
-    from: Node,
+    departure: Departure,
     to: &'x [Node],
-    class: Class,
-    earliest_out: Time,
-    latest_out: Time,
-    clearance: Time,
 ) -> Result<Found, Memory>
     requires lists { AreWindowLists airport.now (windows_of store.now) }
     requires room { HaveNumbers (windows_of store.now) numbers.now.first.items }
     requires rules { IsWellFormed airport.now }
-    requires times { earliest_out < 2 ^ 31 }
-    ensures { IfOk result (AnswersDeparture (conditions_in_windows airport.now class clearance (windows_of store.now)) from (ReachesOneOfWithin (layout_of airport.now) to.now earliest_out latest_out)) }
+    requires times { departure.earliest_out < 2 ^ 31 }
+    ensures { IfOk result (AnswersDeparture (conditions_of_class airport.now departure.class (windows_of store.now)) departure.from (ReachesOneOfWithin (layout_of airport.now) to.now departure.earliest_out departure.latest_out)) }
 {
+    let Departure {
+        class,
+        from,
+        earliest_out,
+        latest_out,
+    } = departure;
     let classes = airport.classes();
     let ground = SearchGround {
         graph: airport.graph(),
@@ -115,7 +103,7 @@ fn search_among<'x>(
         class,
         times: classes.times(class),
         horizon: airport.horizon(),
-        clearance,
+        clearance: airport.clearance(class),
     };
     let last = last_arcs(alloc, &ground, to)?;
     let asked = DepartureCells {

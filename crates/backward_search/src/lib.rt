@@ -4,4 +4,4 @@
 mod cells;
 mod departing;
 
-pub use departing::{depart, depart_to_one_of};
+pub use departing::{Departure, depart, depart_to_one_of};

@@ -1,12 +1,13 @@
 -- A route that passes is the best walk that is sought, and where it passes that there is none there is none.
-use Rattle.std.proofs.Common.{◌≡◌, ℕ, ◌<◌, Bool, true, false, List, [], ◌∷◌, length, Option, Some, None, option_map, inl, inr, refl, sym, subst, arith}
+use Rattle.std.proofs.Common.{◌≡◌, ℕ, ◌<◌, Bool, true, false, List, [], ◌∷◌, ◌∙◌, length, map, All, Option, Some, None, option_map, inl, inr, refl, sym, ap, subst, arith}
 use Rattle.std.specs.Prelude.{MatchOption, Contains, option_and_then, ⊤}
 use Rattle.std.proofs.lemmas.Option.{none-some, same_Some}
 use Rattle.std.proofs.lemmas.Bool.{and_parts, ltb-true}
-use Rattle.std.proofs.lemmas.List.Elements.{All-contains}
+use Rattle.std.proofs.lemmas.List.Elements.{All-contains, All-nil}
 use Rattle.taxi_base.specs.declared.numbers.Class.{Class}
 use Rattle.taxi_base.specs.declared.numbers.Node.{Node}
 use Rattle.taxi_base.specs.declared.rows.Step.{Step}
+use Rattle.taxi_base.specs.declared.rows.LabelRow.{LabelRow}
 use Rattle.taxi_base.specs.declared.answers.Flight.{Flight}
 use Rattle.taxi_base.specs.declared.answers.Request.{Request}
 use Rattle.taxi_base.specs.declared.answers.Request.TheVariants as request
@@ -33,30 +34,42 @@ use Rattle.certificate.specs.Asked.{IsInGrammar, arrival_named, departure_named,
 use Rattle.certificate.specs.Refusals.{first_refusal}
 use Rattle.certificate.specs.CarriedOut.{second_of, routed_flight, IsCarriedOut}
 use Rattle.certificate.specs.Sought.{UnderWay, Sought, sought_new, sought_again, sought_by_class, sought_any, sought_choice, sought_to_one, sought_of, sought_by, IsWalkOnFor, IsWalkFor}
-use Rattle.certificate.specs.Passes.{IsFormOf, IsAsAsked, KeepsReply, KeepsSought, Keeps, IsPassed, TellsBest}
+use Rattle.certificate.specs.Passes.{IsFormOf, IsAsAsked, KeepsReply, KeepsSought, Keeps, IsPassed, IsBestTold, TellsBest}
+use Rattle.certificate.specs.Turns.{told_in}
 use Rattle.certificate.proofs.FiledLaws.{and_then-some, map-some}
 use Rattle.certificate.proofs.FlightLaws.{flight_named-there}
 use Rattle.certificate.proofs.RefusalLaws.{HasRoom, arrival-has_room, departure-has_room, arrival_any-has_room, departure_any-has_room}
 use Rattle.certificate.proofs.ReplyLaws.{due-kept}
 use Rattle.certificate.proofs.GrammarLaws.{command_of-in_grammar}
 use Rattle.certificate.proofs.ChoiceNames.{arrival_any-is, departure_any-is, one-met, met-reaches}
-use Rattle.certificate.proofs.TablesKept.{IsUnderWay, table-best, table-none}
+use Rattle.certificate.proofs.TablesKept.{IsUnderWay, HasFloorOf, table-best, table-none}
 use Rattle.certificate.proofs.PassLaws.{route-table, no_route-table}
+use Rattle.certificate.proofs.TurnLaws.{all-one, one_turn, keeps-one, is-after}
 
 module _ (airport : Airport) (state : State) (well : IsWellFormed airport) (sound : IsSound airport state) where
   -- ---- what is sought is sought rightly
 
-  -- walks can be searched, the flight under way is on a feasible walk, and with a walk that is sought the state stays sound
-  record IsRight (s : Sought) : Type 0 where
-    fit : AreFit s.conditions
-    way : IsUnderWay s.conditions s.others s.under_way
-    stays_sound : (steps : List Step) → IsWalkFor s steps → IsSound airport (s.with_steps steps)
+  -- walks can be searched, the flight under way is on a feasible walk, only a departure has a floor, and with a walk that is sought,
+  -- or with none, the state stays sound
+  pub record IsRight (s : Sought) : Type 0 where
+    pub fit : AreFit s.conditions
+    pub way : IsUnderWay s.conditions s.others s.under_way
+    pub floor : HasFloorOf s.request s.floor
+    pub stays_sound : (steps : List Step) → IsWalkFor s steps → IsSound airport (s.with_steps steps)
+    pub none_sound : IsSound airport s.with_none
+
+  no-floor : (request : Request) → HasFloorOf request None
+  no-floor request.Filed = refl
+  no-floor (request.Arrival from to asked hold) = refl
+  no-floor (request.Departure from to asked queue) = tt
 
   new-right : (name : List ℕ) (class : Class) (request : Request) → HasRoom state name → IsRight (sought_new airport state name class request)
   new-right name class request room = record {
     fit = among_fit airport class (holds_in airport state) well;
     way = tt;
+    floor = no-floor request;
     stays_sound = λ steps met. IsSound-with_flight airport (routed_flight name class request steps) state sound room.room room.absent met;
+    none_sound = sound;
   }
 
   class-right : (name class_name : List ℕ) (asked : Option Request) (s : Sought) → HasRoom state name → sought_by_class airport state name class_name asked ≡ Some s → IsRight s
@@ -70,6 +83,8 @@ module _ (airport : Airport) (state : State) (well : IsWellFormed airport) (soun
   any-right name class choice node others room = record {
     fit = among_fit airport class (holds_in airport state) well;
     way = tt;
+    floor = no-floor (request_for choice node);
+    none_sound = sound;
     stays_sound = λ steps met.
         (let one = one-met (conditions_in airport class state) choice node others steps met in
         subst (λ n. IsSound airport (with_flight (routed_flight name class (request_for choice n) steps) state)) (sym (met-reaches (conditions_in airport class state) choice one.0 node steps one.2))
@@ -111,6 +126,8 @@ module _ (airport : Airport) (state : State) (well : IsWellFormed airport) (soun
     again-right may_be_none r meets = record {
       fit = among_fit airport flight.class (holds_in airport (without flight.name state)) well;
       way = (refl, Meets-IsFeasibleWalk c flight.request flight.steps met);
+      floor = no-floor r;
+      none_sound = sound;
       stays_sound = λ steps on. IsSound-with_route airport flight state r steps sound there (meets steps on);
     }
 
@@ -125,11 +142,9 @@ module _ (airport : Airport) (state : State) (well : IsWellFormed airport) (soun
     other-meets (request.Departure from to asked queue) target met steps on = frozen-meets c flight.steps time target (request.Departure from to asked queue) steps met on
 
   sought-right : (command : Command) (s : Sought) → first_refusal airport state command ≡ None → sought_of airport state command ≡ Some s → IsRight s
-  sought-right (command.File flight class start steps) s none e = absurd (none-some s e)
-  sought-right (command.Arrival flight class from to time hold) s none e =
-      class-right flight class (arrival_named airport from to time hold) s (arrival-has_room airport state flight class from to time hold none) e
-  sought-right (command.Departure flight class from to time queue) s none e =
-      class-right flight class (departure_named airport from to time queue) s (departure-has_room airport state flight class from to time queue none) e
+  sought-right (command.File filed) s none e = absurd (none-some s e)
+  sought-right (command.Arrival asked) s none e = class-right asked.flight asked.class (arrival_named airport asked) s (arrival-has_room airport state asked none) e
+  sought-right (command.Departure asked) s none e = class-right asked.flight asked.class (departure_named airport asked) s (departure-has_room airport state asked none) e
   sought-right (command.Cancel flight) s none e = absurd (none-some s e)
   sought-right (command.Reroute name time) s none e =
       let flight = map-some (λ flight. sought_again airport state name time false flight flight.request) (flight_named name state.flights) s e in
@@ -143,12 +158,10 @@ module _ (airport : Airport) (state : State) (well : IsWellFormed airport) (soun
   sought-right (command.Windows segment) s none e = absurd (none-some s e)
   sought-right (command.Occupancy segment) s none e = absurd (none-some s e)
   sought-right command.Timetable s none e = absurd (none-some s e)
-  sought-right (command.Work name segment from until) s none e = absurd (none-some s e)
+  sought-right (command.Work shut) s none e = absurd (none-some s e)
   sought-right (command.WorkDone name) s none e = absurd (none-some s e)
-  sought-right (command.ArrivalAny flight class from time hold stands) s none e =
-      choice-right flight class (arrival_any_named airport from stands time hold) s (arrival_any-has_room airport state flight class from stands time hold none) e
-  sought-right (command.DepartureAny flight class from time queue nodes) s none e =
-      choice-right flight class (departure_any_named airport from nodes time queue) s (departure_any-has_room airport state flight class from nodes time queue none) e
+  sought-right (command.ArrivalAny asked) s none e = choice-right asked.flight asked.class (arrival_any_named airport asked) s (arrival_any-has_room airport state asked none) e
+  sought-right (command.DepartureAny asked) s none e = choice-right asked.flight asked.class (departure_any_named airport asked) s (departure_any-has_room airport state asked none) e
 
   -- ---- a route, or that there is none, answers a command that seeks a walk
 
@@ -161,28 +174,29 @@ module _ (airport : Airport) (state : State) (well : IsWellFormed airport) (soun
   -- what answers a command that seeks none tells of no search
   plain-none : (command : Command) (block : Block) (after : State) → IsInGrammar command → first_refusal airport state command ≡ None → sought_of airport state command ≡ None
       → IsCarriedOut airport state command block after → IsFound block → ⊥
-  plain-none (command.File flight class start steps) block after spoken none e done told = subst IsFound done.reply.0 told
-  plain-none (command.Arrival flight class from to time hold) block after spoken none e done told = absurd (cc (rw (done.class_known, done.nodes_known) at e))
-  plain-none (command.Departure flight class from to time queue) block after spoken none e done told = absurd (cc (rw (done.class_known, done.nodes_known) at e))
+  plain-none (command.File filed) block after spoken none e done told = subst IsFound done.reply.0 told
+  plain-none (command.Arrival asked) block after spoken none e done told = absurd (cc (rw (done.class_known, done.nodes_known) at e))
+  plain-none (command.Departure asked) block after spoken none e done told = absurd (cc (rw (done.class_known, done.nodes_known) at e))
   plain-none (command.Cancel flight) block after spoken none e done told = subst IsFound done.0 told
   plain-none (command.Reroute flight time) block after spoken none e done told = absurd (cc (rw done.in_force at e))
   plain-none (command.Divert flight time node) block after spoken none e done told = absurd (cc (rw (done.in_force, done.meant) at e))
   plain-none (command.Windows segment) block after spoken none e done told = subst IsFound done.reply.0 told
   plain-none (command.Occupancy segment) block after spoken none e done told = subst IsFound done.reply.0 told
   plain-none command.Timetable block after spoken none e done told = subst IsFound done.0 told
-  plain-none (command.Work name segment from until) block after spoken none e done told = subst IsFound done.reply.0 told
+  plain-none (command.Work shut) block after spoken none e done told = subst IsFound done.reply.0 told
   plain-none (command.WorkDone name) block after spoken none e done told = subst IsFound done.0 told
-  plain-none (command.ArrivalAny flight class from time hold stands) block after spoken none e done told =
-      choice-there flight class (arrival_any_named airport from stands time hold) done.class done.choice done.class_known done.nodes_known
-      (let is = arrival_any-is airport from stands time hold done.choice done.nodes_known in omega (arith, ltb-true 0 (length stands) (and_parts _ _ spoken.3).0, is.as_many)) e
-  plain-none (command.DepartureAny flight class from time queue nodes) block after spoken none e done told =
-      choice-there flight class (departure_any_named airport from nodes time queue) done.class done.choice done.class_known done.nodes_known
-      (let is = departure_any-is airport from nodes time queue done.choice done.nodes_known in omega (arith, ltb-true 0 (length nodes) (and_parts _ _ spoken.3).0, is.as_many)) e
+  plain-none (command.ArrivalAny asked) block after spoken none e done told =
+      choice-there asked.flight asked.class (arrival_any_named airport asked) done.class done.choice done.class_known done.nodes_known
+      (let is = arrival_any-is airport asked done.choice done.nodes_known in omega (arith, ltb-true 0 (length asked.nodes) (and_parts _ _ spoken.3).0, is.as_many)) e
+  plain-none (command.DepartureAny asked) block after spoken none e done told =
+      choice-there asked.flight asked.class (departure_any_named airport asked) done.class done.choice done.class_known done.nodes_known
+      (let is = departure_any-is airport asked done.choice done.nodes_known in omega (arith, ltb-true 0 (length asked.nodes) (and_parts _ _ spoken.3).0, is.as_many)) e
 
   -- what is sought by a line that is answered so
   record IsSoughtBy (line : List ℕ) (block : Block) : Type 0 where
     s : Sought
     by : sought_by airport state line ≡ Some s
+    form : IsFormOf s block
     right : IsRight s
 
   sought-there : (line : List ℕ) (block : Block) → IsFound block → KeepsReply airport state line block → IsSoughtBy line block
@@ -196,54 +210,60 @@ module _ (airport : Airport) (state : State) (well : IsWellFormed airport) (soun
       by_sought : first_refusal airport state command ≡ None → (o : Option Sought) → sought_of airport state command ≡ o
           → MatchOption o ((after : State) × IsCarriedOut airport state command block after) (λ s. IsFormOf s block) → IsSoughtBy line block
       by_sought none None e done = absurd (plain-none command block done.0 (rw read at (command_of-in_grammar line)) none e done.1 told)
-      by_sought none (Some s) e form = record { s = s; by = rw read e; right = sought-right command s none e }
+      by_sought none (Some s) e form = record { s = s; by = rw read e; form = form; right = sought-right command s none e }
 
       by_refusal : (o : Option Refusal) → first_refusal airport state command ≡ o → MatchOption o (IsAsAsked airport state command block) (λ why. block ≡ Refused why) → IsSoughtBy line block
       by_refusal None none asked = by_sought none (sought_of airport state command) refl asked
       by_refusal (Some why) e is = absurd (subst IsFound is told)
 
-  -- the rules for what is sought
-  sought-rules : (line : List ℕ) (block : Block) (s : Sought) → sought_by airport state line ≡ Some s → ((r : Rule) → Keeps airport state line block r) → (r : Rule) → KeepsSought r s block
-  sought-rules line block s by keeps rule.Reply = tt
-  sought-rules line block s by keeps rule.Walk = rw by at (keeps rule.Walk)
-  sought-rules line block s by keeps rule.Rows = rw by at (keeps rule.Rows)
-  sought-rules line block s by keeps rule.Start = rw by at (keeps rule.Start)
-  sought-rules line block s by keeps rule.Step = rw by at (keeps rule.Step)
-  sought-rules line block s by keeps rule.Target = rw by at (keeps rule.Target)
+  -- what is told of a search
+  told-best : (line : List ℕ) (block : Block) → IsSoughtBy line block → ((s : Sought) → IsRight s → ((r : Rule) → KeepsSought r s block) → IsBestTold s block) → ((r : Rule) → Keeps airport state line block r)
+      → told_in block ≡ block ∷ [] → TellsBest airport state line block
+  told-best line block there best keeps is =
+      let turn = one_turn airport state line there.s there.by block there.form in
+      record {
+        all_told = ap (map (λ t. t.told)) turn ∙ sym is;
+        best = subst (All (λ t. IsBestTold t.sought t.told)) (sym turn) (all-one (λ t. IsBestTold t.sought t.told) (record { sought = there.s; told = block })
+            (best there.s there.right (λ r. keeps-one airport state line there.s there.by block there.form r (keeps r))));
+      }
+
+  route-best : (name : List ℕ) (second : ℕ) (steps : List Step) (labels : List LabelRow) (s : Sought) → IsRight s → ((r : Rule) → KeepsSought r s (Route name second steps labels))
+      → IsBestTold s (Route name second steps labels)
+  route-best name second steps labels s right rules =
+      let walk = rules rule.Walk in (
+        table-best s.conditions right.fit s.request s.others s.under_way right.way s.floor steps labels walk.0
+            (route-table s name (second_of s.request steps) steps labels (λ r. subst (λ n. KeepsSought r s (Route name n steps labels)) (sym walk.1) (rules r))),
+        walk.1,
+      )
+
+  no_route-best : (labels : List LabelRow) (s : Sought) → IsRight s → ((r : Rule) → KeepsSought r s (NoRoute labels)) → IsBestTold s (NoRoute labels)
+  no_route-best labels s right rules =
+      table-none s.conditions right.fit s.request s.others s.under_way right.way s.floor right.floor labels (no_route-table s labels rules)
 
   -- what passes tells the best walk that is sought, or that there is none
   pub passed-best : (line : List ℕ) (block : Block) (after : State) → IsPassed airport state line block after → TellsBest airport state line block
   passed-best line (Route name second steps labels) after passed =
-      let there = sought-there line (Route name second steps labels) tt (passed.keeps rule.Reply) in
-      let s = there.s in
-      let rules = sought-rules line (Route name second steps labels) s there.by passed.keeps in
-      let walk = rules rule.Walk in (
-        s,
-        there.by,
-        table-best s.conditions there.right.fit s.request s.others s.under_way there.right.way steps labels walk.0
-            (route-table s name (second_of s.request steps) steps labels (λ r. subst (λ n. KeepsSought r s (Route name n steps labels)) (sym walk.1) (rules r))),
-        walk.1,
-      )
+      told-best line (Route name second steps labels) (sought-there line (Route name second steps labels) tt (passed.keeps rule.Reply)) (route-best name second steps labels) passed.keeps refl
   passed-best line (NoRoute labels) after passed =
-      let there = sought-there line (NoRoute labels) tt (passed.keeps rule.Reply) in
-      let s = there.s in
-      let rules = sought-rules line (NoRoute labels) s there.by passed.keeps in
-      (s, there.by, table-none s.conditions there.right.fit s.request s.others s.under_way there.right.way labels (no_route-table s labels rules))
-  passed-best line (Refused why) after passed = tt
-  passed-best line (Filed name start end) after passed = tt
-  passed-best line (Cancelled name) after passed = tt
-  passed-best line (Windows segment windows) after passed = tt
-  passed-best line (Occupancy segment held) after passed = tt
-  passed-best line (Timetable flights) after passed = tt
+      told-best line (NoRoute labels) (sought-there line (NoRoute labels) tt (passed.keeps rule.Reply)) (no_route-best labels) passed.keeps refl
+  passed-best line (Refused why) after passed = record { all_told = refl; best = All-nil _ }
+  passed-best line (Filed name start end) after passed = record { all_told = refl; best = All-nil _ }
+  passed-best line (Cancelled name) after passed = record { all_told = refl; best = All-nil _ }
+  passed-best line (Windows segment windows) after passed = record { all_told = refl; best = All-nil _ }
+  passed-best line (Occupancy segment held) after passed = record { all_told = refl; best = All-nil _ }
+  passed-best line (Timetable flights) after passed = record { all_told = refl; best = All-nil _ }
 
   -- and leaves the state sound
   pub passed-sound : (line : List ℕ) (block : Block) (after : State) → IsPassed airport state line block after → IsSound airport after
   passed-sound line (Route name second steps labels) after passed =
       let there = sought-there line (Route name second steps labels) tt (passed.keeps rule.Reply) in
-      let walk = sought-rules line (Route name second steps labels) there.s there.by passed.keeps rule.Walk in
-      let is : after ≡ there.s.with_steps steps = rw there.by at passed.after_it in
+      let walk = keeps-one airport state line there.s there.by (Route name second steps labels) there.form rule.Walk (passed.keeps rule.Walk) in
+      let is = is-after airport state line there.s there.by (Route name second steps labels) after there.form passed.after_it in
       subst (IsSound airport) (sym is) (there.right.stays_sound steps walk.0)
-  passed-sound line (NoRoute labels) after passed = subst (IsSound airport) (sym passed.after_it) sound
+  passed-sound line (NoRoute labels) after passed =
+      let there = sought-there line (NoRoute labels) tt (passed.keeps rule.Reply) in
+      let is = is-after airport state line there.s there.by (NoRoute labels) after there.form passed.after_it in
+      subst (IsSound airport) (sym is) there.right.none_sound
   passed-sound line (Refused why) after passed = subst (IsSound airport) (sym passed.after_it) sound
   passed-sound line (Filed name start end) after passed = (due-kept airport state sound line (Filed name start end) after passed.after_it).stays_sound
   passed-sound line (Cancelled name) after passed = (due-kept airport state sound line (Cancelled name) after passed.after_it).stays_sound

@@ -16,6 +16,7 @@ use Rattle.taxi_base.proofs.AirportLaws.{node_named-exists}
 use Rattle.taxi_base.proofs.ChoiceLaws.{AreNodes, IsRoute-OneOf}
 use Rattle.taxi_base.proofs.ListLaws.{Contains-map, map-Contains}
 use Rattle.taxi_base.proofs.OneOfLaws.{OneOf-found, OneOf-member}
+use Rattle.taxi_text.specs.declared.command.AskedAny.{AskedAny}
 use Rattle.certificate.specs.Asked.{Choice, arrival_any, departure_any, nodes_of, request_for, nodes_named, arrival_any_named, departure_any_named, AnswersChoice}
 use Rattle.certificate.specs.CarriedOut.{second_of}
 use Rattle.certificate.specs.Sought.{node_reached, MeetsOneOf}
@@ -45,21 +46,19 @@ pub record IsChoiceOf (airport : Airport) (count : ℕ) (choice : Choice) : Type
   pub exist : AreNodes airport (nodes_of choice)
   pub as_many : length (nodes_of choice) ≡ count
 
-pub arrival_any-is : (airport : Airport) (from : List ℕ) (stands : List (List ℕ)) (time hold : ℕ) (choice : Choice) → arrival_any_named airport from stands time hold ≡ Some choice
-    → IsChoiceOf airport (length stands) choice
-arrival_any-is airport from stands time hold choice e =
-    let start = and_then-some (λ start. option_map (λ nodes. arrival_any start nodes time hold) (nodes_named airport stands)) (node_named airport from) choice e in
-    let nodes = map-some (λ nodes. arrival_any start.0 nodes time hold) (nodes_named airport stands) choice start.2 in
-    let are = nodes_named-are airport stands nodes.0 nodes.1 in
-    subst (IsChoiceOf airport (length stands)) nodes.2 (record { exist = are.exist; as_many = are.as_many })
+pub arrival_any-is : (airport : Airport) (asked : AskedAny) (choice : Choice) → arrival_any_named airport asked ≡ Some choice → IsChoiceOf airport (length asked.nodes) choice
+arrival_any-is airport asked choice e =
+    let start = and_then-some (λ start. option_map (λ nodes. arrival_any start nodes asked.time asked.slack) (nodes_named airport asked.nodes)) (node_named airport asked.from) choice e in
+    let nodes = map-some (λ nodes. arrival_any start.0 nodes asked.time asked.slack) (nodes_named airport asked.nodes) choice start.2 in
+    let are = nodes_named-are airport asked.nodes nodes.0 nodes.1 in
+    subst (IsChoiceOf airport (length asked.nodes)) nodes.2 (record { exist = are.exist; as_many = are.as_many })
 
-pub departure_any-is : (airport : Airport) (from : List ℕ) (names : List (List ℕ)) (time queue : ℕ) (choice : Choice) → departure_any_named airport from names time queue ≡ Some choice
-    → IsChoiceOf airport (length names) choice
-departure_any-is airport from names time queue choice e =
-    let start = and_then-some (λ start. option_map (λ nodes. departure_any start nodes time queue) (nodes_named airport names)) (node_named airport from) choice e in
-    let nodes = map-some (λ nodes. departure_any start.0 nodes time queue) (nodes_named airport names) choice start.2 in
-    let are = nodes_named-are airport names nodes.0 nodes.1 in
-    subst (IsChoiceOf airport (length names)) nodes.2 (record { exist = are.exist; as_many = are.as_many })
+pub departure_any-is : (airport : Airport) (asked : AskedAny) (choice : Choice) → departure_any_named airport asked ≡ Some choice → IsChoiceOf airport (length asked.nodes) choice
+departure_any-is airport asked choice e =
+    let start = and_then-some (λ start. option_map (λ nodes. departure_any start nodes asked.time asked.slack) (nodes_named airport asked.nodes)) (node_named airport asked.from) choice e in
+    let nodes = map-some (λ nodes. departure_any start.0 nodes asked.time asked.slack) (nodes_named airport asked.nodes) choice start.2 in
+    let are = nodes_named-are airport asked.nodes nodes.0 nodes.1 in
+    subst (IsChoiceOf airport (length asked.nodes)) nodes.2 (record { exist = are.exist; as_many = are.as_many })
 
 -- ---- walks to one of the nodes
 

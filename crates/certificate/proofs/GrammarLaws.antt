@@ -76,7 +76,7 @@ work-count verb words =
       | inl e ↦ rw e (bind-name _ words (λ n name.
           bind-each IsInGrammar _ (first_as name_of (drop 1 words)) (λ s.
           bind-number _ (drop 1 (drop 1 words)) (λ a from.
-          bind-number _ (drop 1 (drop 1 (drop 1 words))) (λ b until. ended (Work n s a b) (drop 1 (drop 1 (drop 1 (drop 1 words)))) (name, from, until))))))
+          bind-number _ (drop 1 (drop 1 (drop 1 words))) (λ b until. ended (Work (record { name = n; segment = s; from = a; until = b })) (drop 1 (drop 1 (drop 1 (drop 1 words)))) (name, from, until))))))
       | inr e ↦ rw e (
           elim (cases_Bool (bytes_eq verb (codes "workdone"))) [
             | inl e ↦ rw e (bind-name _ words (λ n name. ended (WorkDone n) (drop 1 words) name))

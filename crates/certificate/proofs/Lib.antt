@@ -17,5 +17,6 @@ pub mod ReplyLaws
 pub mod OneReply
 pub mod AgainRefusals
 pub mod TablesKept
+pub mod TurnLaws
 pub mod PassLaws
 pub mod BestLaws

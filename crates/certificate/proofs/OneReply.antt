@@ -29,7 +29,7 @@ use Rattle.taxi_text.specs.declared.command.Command.{Command}
 use Rattle.taxi_text.specs.declared.command.Command.TheVariants as command
 use Rattle.taxi_text.specs.Commands.{command_of}
 use Rattle.certificate.specs.declared.block.Block.{Block}
-use Rattle.certificate.specs.Asked.{filed_steps, party_of, arrival_named, departure_named, AnswersRequest, Choice, arrival_any, departure_any, nodes_of, arrival_any_named, departure_any_named, AnswersChoice}
+use Rattle.certificate.specs.Asked.{route_filed, party_of, arrival_named, departure_named, AnswersRequest, Choice, arrival_any, departure_any, nodes_of, arrival_any_named, departure_any_named, AnswersChoice}
 use Rattle.certificate.specs.Refusals.{first_refusal}
 use Rattle.certificate.specs.CarriedOut.{Reply, IsOf, filed_reply, found_reply, routed_flight, IsRouted, chosen_reply, IsRoutedToOne, IsRoutedAgain, shut_reply, opened_reply, cancelled_reply, windows_reply, occupancy_reply, timetable_reply, IsCarriedOut}
 use Rattle.certificate.specs.Replies.{refused, IsDueTo, IsDue}
@@ -150,12 +150,12 @@ module _ (block : Block) (after : State) (other : Block) (others : State) where
     one-target (request.Departure from to time queue) m n a b = sym a ∙ b
 
     pub IsCarriedOut-same : IsWellFormed airport → (c : Command) → IsCarriedOut airport state c block after → IsCarriedOut airport state c other others → AreSame block after other others
-    IsCarriedOut-same well (command.File flight class start filed) a b =
-        let classes : a.class ≡ b.class = one-some (class_named airport class) a.class b.class a.class_known b.class_known in
-        let steps : a.steps ≡ b.steps = one-some (filed_steps airport start filed) a.steps b.steps a.steps_known b.steps_known in
-        of_same (filed_reply state flight a.class a.steps) (filed_reply state flight b.class b.steps) (λ i. filed_reply state flight (classes i) (steps i)) a.reply b.reply
-    IsCarriedOut-same well (command.Arrival flight class from to time hold) a b = IsRouted-same well flight class (arrival_named airport from to time hold) a b
-    IsCarriedOut-same well (command.Departure flight class from to time queue) a b = IsRouted-same well flight class (departure_named airport from to time queue) a b
+    IsCarriedOut-same well (command.File filed) a b =
+        let classes : a.class ≡ b.class = one-some (class_named airport filed.class) a.class b.class a.class_known b.class_known in
+        let steps : a.steps ≡ b.steps = one-some (route_filed airport filed) a.steps b.steps a.steps_known b.steps_known in
+        of_same (filed_reply state filed.flight a.class a.steps) (filed_reply state filed.flight b.class b.steps) (λ i. filed_reply state filed.flight (classes i) (steps i)) a.reply b.reply
+    IsCarriedOut-same well (command.Arrival asked) a b = IsRouted-same well asked.flight asked.class (arrival_named airport asked) a b
+    IsCarriedOut-same well (command.Departure asked) a b = IsRouted-same well asked.flight asked.class (departure_named airport asked) a b
     IsCarriedOut-same well (command.Cancel flight) a b = of_one (cancelled_reply state flight) a b
     IsCarriedOut-same well (command.Reroute flight time) a b = IsRoutedAgain-same well flight time IsTarget one-target a b
     IsCarriedOut-same well (command.Divert flight time node) a b =
@@ -169,14 +169,14 @@ module _ (block : Block) (after : State) (other : Block) (others : State) where
         let rows : a.rows ≡ b.rows = AreHeldRows-same airport state a.segment a.rows b.rows a.held held in
         of_same (occupancy_reply state a.segment a.rows) (occupancy_reply state b.segment b.rows) (λ i. occupancy_reply state (segments i) (rows i)) a.reply b.reply
     IsCarriedOut-same well command.Timetable a b = of_one (timetable_reply state) a b
-    IsCarriedOut-same well (command.Work name segment from until) a b =
-        let segments : a.segment ≡ b.segment = one-some (segment_named airport segment) a.segment b.segment a.segment_known b.segment_known in
-        of_same (shut_reply state (party_of name a.segment from until)) (shut_reply state (party_of name b.segment from until)) (ap (λ s. shut_reply state (party_of name s from until)) segments) a.reply b.reply
+    IsCarriedOut-same well (command.Work shut) a b =
+        let segments : a.segment ≡ b.segment = one-some (segment_named airport shut.segment) a.segment b.segment a.segment_known b.segment_known in
+        of_same (shut_reply state (party_of shut a.segment)) (shut_reply state (party_of shut b.segment)) (ap (λ s. shut_reply state (party_of shut s)) segments) a.reply b.reply
     IsCarriedOut-same well (command.WorkDone name) a b = of_one (opened_reply state name) a b
-    IsCarriedOut-same well (command.ArrivalAny flight class from time hold stands) a b =
-        IsRoutedToOne-same well flight class (arrival_any_named airport from stands time hold) (λ choice named. (arrival_any-is airport from stands time hold choice named).exist) a b
-    IsCarriedOut-same well (command.DepartureAny flight class from time queue nodes) a b =
-        IsRoutedToOne-same well flight class (departure_any_named airport from nodes time queue) (λ choice named. (departure_any-is airport from nodes time queue choice named).exist) a b
+    IsCarriedOut-same well (command.ArrivalAny asked) a b =
+        IsRoutedToOne-same well asked.flight asked.class (arrival_any_named airport asked) (λ choice named. (arrival_any-is airport asked choice named).exist) a b
+    IsCarriedOut-same well (command.DepartureAny asked) a b =
+        IsRoutedToOne-same well asked.flight asked.class (departure_any_named airport asked) (λ choice named. (departure_any-is airport asked choice named).exist) a b
 
     IsDueTo-same : IsWellFormed airport → (c : Command) → IsDueTo airport state c block after → IsDueTo airport state c other others → AreSame block after other others
     IsDueTo-same well c a b = go (first_refusal airport state c) a b where

@@ -39,7 +39,9 @@ use Rattle.certificate.specs.CarriedOut.{Reply, IsOf, second_of, found_reply, ro
 use Rattle.certificate.specs.Replies.{refused, IsDueTo, IsDue, IsReply, as_due, no_memory}
 use Rattle.certificate.specs.Sought.{UnderWay, Sought, sought_new, sought_again, sought_by_class, sought_any, sought_to_one, sought_of, sought_by, search_of, IsWalkOnFor}
 use Rattle.certificate.specs.TableRules.{KeepsTable}
-use Rattle.certificate.specs.Passes.{IsFormOf, KeepsReply, KeepsWalk, OfTable, KeepsSought, Keeps, IsAfter, IsPassed}
+use Rattle.certificate.specs.Turns.{told_in, after_told}
+use Rattle.certificate.specs.Passes.{IsFormOf, KeepsReply, KeepsWalk, OfTable, KeepsSought, IsAfter, IsPassed}
+use Rattle.certificate.proofs.TurnLaws.{plain-keeps, one-keeps, after-is}
 use Rattle.certificate.proofs.FlightLaws.{flight_named-there}
 use Rattle.certificate.proofs.AgainRefusals.{reroute-may, divert-before}
 use Rattle.certificate.proofs.FoundLaws.{found-meets, best-one, second-retargeted}
@@ -49,16 +51,11 @@ use Rattle.certificate.proofs.GrammarLaws.{command_of-in_grammar}
 
 -- ---- what passes where a walk is sought
 
--- the steps afterwards
-abbrev AfterOf : State → Sought → Block → State → Type 0
-AfterOf state s (Route name second steps labels) after = after ≡ s.with_steps steps
-AfterOf state s _ after = after ≡ state
-
-record PassesSought (state : State) (s : Sought) (block : Block) (after : State) : Type 0 where
-  form : IsFormOf s block
-  walk : KeepsWalk s block
-  table : OfTable (KeepsTable s.conditions) s block
-  after_it : AfterOf state s block after
+pub record PassesSought (s : Sought) (block : Block) (after : State) : Type 0 where
+  pub form : IsFormOf s block
+  pub walk : KeepsWalk s block
+  pub table : OfTable (KeepsTable s.conditions) s block
+  pub after_it : after ≡ after_told s block
 
 -- ---- the rules for a table, at once and one after the other
 
@@ -71,42 +68,42 @@ match-four : {X : Type 0} (o : Option X) (P Q R S : X → Type 0) → MatchOptio
 match-four None P Q R S p q r s = p
 match-four (Some x) P Q R S p q r s = (p, q, r, s)
 
--- a block with a table, or none
-sought-keeps : (s : Sought) (block : Block) → KeepsWalk s block → OfTable (KeepsTable s.conditions) s block → (r : Rule) → KeepsSought r s block
-sought-keeps s block walk table rule.Reply = tt
-sought-keeps s block walk table rule.Walk = walk
-sought-keeps s (Route name second steps labels) walk table rule.Rows = match-weaker (search_of s.request s.others s.under_way) _ _ (λ x k. k.rows_kept) table
-sought-keeps s (Route name second steps labels) walk table rule.Start = match-weaker (search_of s.request s.others s.under_way) _ _ (λ x k. k.start_kept) table
-sought-keeps s (Route name second steps labels) walk table rule.Step = match-weaker (search_of s.request s.others s.under_way) _ _ (λ x k. k.step_kept) table
-sought-keeps s (Route name second steps labels) walk table rule.Target = match-weaker (search_of s.request s.others s.under_way) _ _ (λ x k. k.target_kept) table
-sought-keeps s (NoRoute labels) walk table rule.Rows = match-weaker (search_of s.request s.others s.under_way) _ _ (λ x k. k.rows_kept) table
-sought-keeps s (NoRoute labels) walk table rule.Start = match-weaker (search_of s.request s.others s.under_way) _ _ (λ x k. k.start_kept) table
-sought-keeps s (NoRoute labels) walk table rule.Step = match-weaker (search_of s.request s.others s.under_way) _ _ (λ x k. k.step_kept) table
-sought-keeps s (NoRoute labels) walk table rule.Target = match-weaker (search_of s.request s.others s.under_way) _ _ (λ x k. k.target_kept) table
-sought-keeps s (Refused why) walk table rule.Rows = tt
-sought-keeps s (Refused why) walk table rule.Start = tt
-sought-keeps s (Refused why) walk table rule.Step = tt
-sought-keeps s (Refused why) walk table rule.Target = tt
-sought-keeps s (Filed name start end) walk table rule.Rows = tt
-sought-keeps s (Filed name start end) walk table rule.Start = tt
-sought-keeps s (Filed name start end) walk table rule.Step = tt
-sought-keeps s (Filed name start end) walk table rule.Target = tt
-sought-keeps s (Cancelled name) walk table rule.Rows = tt
-sought-keeps s (Cancelled name) walk table rule.Start = tt
-sought-keeps s (Cancelled name) walk table rule.Step = tt
-sought-keeps s (Cancelled name) walk table rule.Target = tt
-sought-keeps s (Windows segment windows) walk table rule.Rows = tt
-sought-keeps s (Windows segment windows) walk table rule.Start = tt
-sought-keeps s (Windows segment windows) walk table rule.Step = tt
-sought-keeps s (Windows segment windows) walk table rule.Target = tt
-sought-keeps s (Occupancy segment held) walk table rule.Rows = tt
-sought-keeps s (Occupancy segment held) walk table rule.Start = tt
-sought-keeps s (Occupancy segment held) walk table rule.Step = tt
-sought-keeps s (Occupancy segment held) walk table rule.Target = tt
-sought-keeps s (Timetable flights) walk table rule.Rows = tt
-sought-keeps s (Timetable flights) walk table rule.Start = tt
-sought-keeps s (Timetable flights) walk table rule.Step = tt
-sought-keeps s (Timetable flights) walk table rule.Target = tt
+-- the block of a search
+sought-keeps : (s : Sought) (block : Block) → IsFormOf s block → KeepsWalk s block → OfTable (KeepsTable s.conditions) s block → (r : Rule) → KeepsSought r s block
+sought-keeps s block form walk table rule.Reply = tt
+sought-keeps s block form walk table rule.Walk = walk
+sought-keeps s (Route name second steps labels) form walk table rule.Rows = match-weaker (search_of s.request s.others s.under_way) _ _ (λ x k. k.rows_kept) table
+sought-keeps s (Route name second steps labels) form walk table rule.Start = match-weaker (search_of s.request s.others s.under_way) _ _ (λ x k. k.start_kept) table
+sought-keeps s (Route name second steps labels) form walk table rule.Step = match-weaker (search_of s.request s.others s.under_way) _ _ (λ x k. k.step_kept) table
+sought-keeps s (Route name second steps labels) form walk table rule.Target = match-weaker (search_of s.request s.others s.under_way) _ _ (λ x k. k.target_kept) table
+sought-keeps s (NoRoute labels) form walk table rule.Rows = match-weaker (search_of s.request s.others s.under_way) _ _ (λ x k. k.rows_kept) table
+sought-keeps s (NoRoute labels) form walk table rule.Start = match-weaker (search_of s.request s.others s.under_way) _ _ (λ x k. k.start_kept) table
+sought-keeps s (NoRoute labels) form walk table rule.Step = match-weaker (search_of s.request s.others s.under_way) _ _ (λ x k. k.step_kept) table
+sought-keeps s (NoRoute labels) form walk table rule.Target = match-weaker (search_of s.request s.others s.under_way) _ _ (λ x k. k.target_kept) table
+sought-keeps s (Refused why) form walk table rule.Rows = absurd form
+sought-keeps s (Refused why) form walk table rule.Start = absurd form
+sought-keeps s (Refused why) form walk table rule.Step = absurd form
+sought-keeps s (Refused why) form walk table rule.Target = absurd form
+sought-keeps s (Filed name start end) form walk table rule.Rows = absurd form
+sought-keeps s (Filed name start end) form walk table rule.Start = absurd form
+sought-keeps s (Filed name start end) form walk table rule.Step = absurd form
+sought-keeps s (Filed name start end) form walk table rule.Target = absurd form
+sought-keeps s (Cancelled name) form walk table rule.Rows = absurd form
+sought-keeps s (Cancelled name) form walk table rule.Start = absurd form
+sought-keeps s (Cancelled name) form walk table rule.Step = absurd form
+sought-keeps s (Cancelled name) form walk table rule.Target = absurd form
+sought-keeps s (Windows segment windows) form walk table rule.Rows = absurd form
+sought-keeps s (Windows segment windows) form walk table rule.Start = absurd form
+sought-keeps s (Windows segment windows) form walk table rule.Step = absurd form
+sought-keeps s (Windows segment windows) form walk table rule.Target = absurd form
+sought-keeps s (Occupancy segment held) form walk table rule.Rows = absurd form
+sought-keeps s (Occupancy segment held) form walk table rule.Start = absurd form
+sought-keeps s (Occupancy segment held) form walk table rule.Step = absurd form
+sought-keeps s (Occupancy segment held) form walk table rule.Target = absurd form
+sought-keeps s (Timetable flights) form walk table rule.Rows = absurd form
+sought-keeps s (Timetable flights) form walk table rule.Start = absurd form
+sought-keeps s (Timetable flights) form walk table rule.Step = absurd form
+sought-keeps s (Timetable flights) form walk table rule.Target = absurd form
 
 pub route-table : (s : Sought) (name : List ℕ) (second : ℕ) (steps : List Step) (labels : List LabelRow) → ((r : Rule) → KeepsSought r s (Route name second steps labels))
     → HasKeptTable s.conditions (search_of s.request s.others s.under_way) (Some second) labels
@@ -115,7 +112,7 @@ route-table s name second steps labels keeps =
     (match-four (search_of s.request s.others s.under_way) _ _ _ _ (keeps rule.Rows) (keeps rule.Start) (keeps rule.Step) (keeps rule.Target))
 
 pub no_route-table : (s : Sought) (labels : List LabelRow) → ((r : Rule) → KeepsSought r s (NoRoute labels))
-    → HasKeptTable s.conditions (search_of s.request s.others s.under_way) None labels
+    → HasKeptTable s.conditions (search_of s.request s.others s.under_way) s.floor labels
 no_route-table s labels keeps =
     match-weaker (search_of s.request s.others s.under_way) _ _ (λ x k. record { rows_kept = k.0; start_kept = k.1; step_kept = k.2; target_kept = k.3 })
     (match-four (search_of s.request s.others s.under_way) _ _ _ _ (keeps rule.Rows) (keeps rule.Start) (keeps rule.Step) (keeps rule.Target))
@@ -123,7 +120,7 @@ no_route-table s labels keeps =
 module _ (airport : Airport) (state : State) (well : IsWellFormed airport) (sound : IsSound airport state) where
   -- ---- what is carried out for a new flight
 
-  of-reply : (s : Sought) (reply : Reply) (block : Block) (after : State) → IsOf reply block after → PassesSought state s reply.block reply.after → PassesSought state s block after
+  of-reply : (s : Sought) (reply : Reply) (block : Block) (after : State) → IsOf reply block after → PassesSought s reply.block reply.after → PassesSought s block after
   of-reply s reply block after of passes = rw (of.0, of.1) passes
 
   new-sought : (name class_name : List ℕ) (asked : Option Request) (class : Class) (request : Request) → class_named airport class_name ≡ Some class → asked ≡ Some request
@@ -134,7 +131,7 @@ module _ (airport : Airport) (state : State) (well : IsWellFormed airport) (soun
   new-fit class = among_fit airport class (holds_in airport state) well
 
   new-passes : (name class_name : List ℕ) (asked : Option Request) (block : Block) (after : State) → IsRouted airport state name class_name asked block after
-      → (s : Sought) × (sought_by_class airport state name class_name asked ≡ Some s) × PassesSought state s block after
+      → (s : Sought) × (sought_by_class airport state name class_name asked ≡ Some s) × PassesSought s block after
   new-passes name class_name asked block after done =
       (s, new-sought name class_name asked done.class done.request done.class_known done.nodes_known, go done.found done.answers done.reply)
     where
@@ -142,7 +139,7 @@ module _ (airport : Airport) (state : State) (well : IsWellFormed airport) (soun
       s = sought_new airport state name done.class done.request
 
       go : (answer : Found) → AnswersRequest (conditions_in airport done.class state) done.request answer
-          → IsOf (found_reply state name done.request (λ steps. with_flight (routed_flight name done.class done.request steps) state) answer) block after → PassesSought state s block after
+          → IsOf (found_reply state name done.request (λ steps. with_flight (routed_flight name done.class done.request steps) state) answer) block after → PassesSought s block after
       go (found.Route steps labels) answers of =
           of-reply s (record { block = Route name (second_of done.request steps) steps labels; after = with_flight (routed_flight name done.class done.request steps) state }) block after of (record {
             form = refl;
@@ -166,18 +163,18 @@ module _ (airport : Airport) (state : State) (well : IsWellFormed airport) (soun
   choice-sought name class_name asked class choice node others known named are = rw (known, named, are) refl
 
   choice-passes : (name class_name : List ℕ) (asked : Option Choice) (block : Block) (after : State) → ((choice : Choice) → asked ≡ Some choice → 0 < length (nodes_of choice))
-      → IsRoutedToOne airport state name class_name asked block after → (s : Sought) × (sought_to_one airport state name class_name asked ≡ Some s) × PassesSought state s block after
+      → IsRoutedToOne airport state name class_name asked block after → (s : Sought) × (sought_to_one airport state name class_name asked ≡ Some s) × PassesSought s block after
   choice-passes name class_name asked block after some done = with_nodes (nodes_of done.choice) refl (some done.choice done.nodes_known) where
     c : Conditions
     c = conditions_in airport done.class state
 
-    with_nodes : (nodes : List Node) → nodes_of done.choice ≡ nodes → 0 < length nodes → (s : Sought) × (sought_to_one airport state name class_name asked ≡ Some s) × PassesSought state s block after
+    with_nodes : (nodes : List Node) → nodes_of done.choice ≡ nodes → 0 < length nodes → (s : Sought) × (sought_to_one airport state name class_name asked ≡ Some s) × PassesSought s block after
     with_nodes [] are none = absurd (omega arith)
     with_nodes (node ∷ others) are _ = (s, choice-sought name class_name asked done.class done.choice node others done.class_known done.nodes_known are, go done.chosen done.answers done.reply) where
       s : Sought
       s = sought_any airport state name done.class done.choice node others
 
-      go : (answer : Chosen) → AnswersChoice c done.choice answer → IsOf (chosen_reply state name done.class done.choice answer) block after → PassesSought state s block after
+      go : (answer : Chosen) → AnswersChoice c done.choice answer → IsOf (chosen_reply state name done.class done.choice answer) block after → PassesSought s block after
       go (chosen.Route to steps labels) answers of =
           let met : Meets c (request_for done.choice to) steps = chosen-meets c done.choice to steps labels answers in
           let among : Contains (node ∷ others) to = subst (λ (ns : List Node). Contains ns to) are (chosen-among c done.choice to steps labels answers) in
@@ -223,7 +220,7 @@ module _ (airport : Airport) (state : State) (well : IsWellFormed airport) (soun
     again-passes : (may_be_none : Bool) (target : Node) → IsBefore flight.steps time flight.request → (answer : Found) → AnswersAgain c flight.steps time target flight.request answer
         → (((labels : List LabelRow) → answer ≡ found.NoRoute labels → IsTrue may_be_none)) → (block : Block) (after : State)
         → IsOf (found_reply state name flight.request (λ steps. with_route flight (retargeted flight.request target) steps state) answer) block after
-        → PassesSought state (sought_again airport state name time may_be_none flight (retargeted flight.request target)) block after
+        → PassesSought (sought_again airport state name time may_be_none flight (retargeted flight.request target)) block after
     again-passes may_be_none target before (found.Route steps labels) answers none block after of =
         let second = second-retargeted flight.request target steps in
         of-reply (sought_again airport state name time may_be_none flight (retargeted flight.request target))
@@ -270,14 +267,14 @@ module _ (airport : Airport) (state : State) (well : IsWellFormed airport) (soun
 
   reroute-passes : (name : List ℕ) (time : ℕ) (block : Block) (after : State) → first_refusal airport state (command.Reroute name time) ≡ None
       → IsRoutedAgain airport state name time IsTarget block after
-      → (s : Sought) × (sought_of airport state (command.Reroute name time) ≡ Some s) × PassesSought state s block after
+      → (s : Sought) × (sought_of airport state (command.Reroute name time) ≡ Some s) × PassesSought s block after
   reroute-passes name time block after none done =
       let flight = done.flight in
       let may = reroute-may airport state name time flight done.in_force none in
       let same = same-request name time flight done.in_force flight.request done.target done.meant in (
         sought_again airport state name time false flight flight.request,
         rw done.in_force refl,
-        subst (λ r. PassesSought state (sought_again airport state name time false flight r) block after) same
+        subst (λ r. PassesSought (sought_again airport state name time false flight r) block after) same
             (again-passes name time flight done.in_force false done.target (may-before name time flight done.in_force flight.request may) done.found done.answers
             (λ labels e. absurd (old-none name time flight done.in_force done.target may done.meant labels
             (subst (AnswersAgain (conditions_of airport state flight) flight.steps time done.target flight.request) e done.answers)))
@@ -286,7 +283,7 @@ module _ (airport : Airport) (state : State) (well : IsWellFormed airport) (soun
 
   divert-passes : (name : List ℕ) (time : ℕ) (node : List ℕ) (block : Block) (after : State) → first_refusal airport state (command.Divert name time node) ≡ None
       → IsRoutedAgain airport state name time (λ asked target. node_named airport node ≡ Some target) block after
-      → (s : Sought) × (sought_of airport state (command.Divert name time node) ≡ Some s) × PassesSought state s block after
+      → (s : Sought) × (sought_of airport state (command.Divert name time node) ≡ Some s) × PassesSought s block after
   divert-passes name time node block after none done =
       let flight = done.flight in (
         sought_again airport state name time true flight (retargeted flight.request done.target),
@@ -298,110 +295,68 @@ module _ (airport : Airport) (state : State) (well : IsWellFormed airport) (soun
 
   -- ---- the due block passes
 
-  keeps-other : (line : List ℕ) (block : Block) → ((s : Sought) (r : Rule) → KeepsSought r s block) → KeepsReply airport state line block → (r : Rule) → Keeps airport state line block r
-  keeps-other line block others reply r = go (sought_by airport state line) refl r where
-    go : (o : Option Sought) → sought_by airport state line ≡ o → (r : Rule) → Keeps airport state line block r
-    go o e rule.Reply = reply
-    go None e rule.Walk = rw e tt
-    go None e rule.Rows = rw e tt
-    go None e rule.Start = rw e tt
-    go None e rule.Step = rw e tt
-    go None e rule.Target = rw e tt
-    go (Some s) e rule.Walk = rw e (others s rule.Walk)
-    go (Some s) e rule.Rows = rw e (others s rule.Rows)
-    go (Some s) e rule.Start = rw e (others s rule.Start)
-    go (Some s) e rule.Step = rw e (others s rule.Step)
-    go (Some s) e rule.Target = rw e (others s rule.Target)
-
-  refused-keeps : (why : Refusal) (s : Sought) (r : Rule) → KeepsSought r s (Refused why)
-  refused-keeps why s rule.Reply = tt
-  refused-keeps why s rule.Walk = tt
-  refused-keeps why s rule.Rows = tt
-  refused-keeps why s rule.Start = tt
-  refused-keeps why s rule.Step = tt
-  refused-keeps why s rule.Target = tt
-
   -- a choice of 1 to 16 nodes has one
   some-nodes : (count : ℕ) (choice : Choice) → IsTrue (is_choice_count count) → IsChoiceOf airport count choice → 0 < length (nodes_of choice)
   some-nodes count choice few is = omega (arith, ltb-true 0 count (and_parts _ _ few).0, is.as_many)
 
   module _ (line : List ℕ) (block : Block) (after : State) where
+    -- what tells of no search
+    plain-passes : (told : Block) → block ≡ told → told_in told ≡ [] → IsAfter airport state line told after → KeepsReply airport state line block → IsPassed airport state line block after
+    plain-passes told is none after_told reply = subst (λ b. IsPassed airport state line b after) (sym is) (record {
+      keeps = plain-keeps airport state line told none (subst (KeepsReply airport state line) is reply);
+      after_it = after_told;
+    })
+
     refused-passes : (why : Refusal) → IsOf (refused state why) block after → KeepsReply airport state line block → IsPassed airport state line block after
-    refused-passes why of reply = record {
-      keeps = keeps-other line block (λ s r. subst (KeepsSought r s) (sym of.0) (refused-keeps why s r)) reply;
-      after_it = subst (λ b. IsAfter airport state line b after) (sym of.0) of.1;
-    }
+    refused-passes why of reply = plain-passes (Refused why) of.0 refl of.1 reply
 
-    module _ (c : Command) (read : command_of line ≡ Some c) (none : first_refusal airport state c ≡ None) where
-      sought-after : (s : Sought) → sought_by airport state line ≡ Some s → (b : Block) → IsFormOf s b → AfterOf state s b after → IsAfter airport state line b after
-      sought-after s by (Route name second steps labels) form is = rw by is
-      sought-after s by (NoRoute labels) form is = is
-      sought-after s by (Refused why) form is = absurd form
-      sought-after s by (Filed name start end) form is = absurd form
-      sought-after s by (Cancelled name) form is = absurd form
-      sought-after s by (Windows segment windows) form is = absurd form
-      sought-after s by (Occupancy segment held) form is = absurd form
-      sought-after s by (Timetable flights) form is = absurd form
-
-      sought-passes : (s : Sought) × (sought_of airport state c ≡ Some s) × PassesSought state s block after → IsPassed airport state line block after
-      sought-passes p =
-          let by : sought_by airport state line ≡ Some p.0 = rw read p.1 in
-          record {
-            keeps = keeps-by p.0 by (inr (rw (read, none, p.1) p.2.form)) (sought-keeps p.0 block p.2.walk p.2.table);
-            after_it = sought-after p.0 by block p.2.form p.2.after_it;
-          }
-        where
-          keeps-by : (s : Sought) → sought_by airport state line ≡ Some s → KeepsReply airport state line block → ((r : Rule) → KeepsSought r s block) → (r : Rule) → Keeps airport state line block r
-          keeps-by s by reply others rule.Reply = reply
-          keeps-by s by reply others rule.Walk = rw by (others rule.Walk)
-          keeps-by s by reply others rule.Rows = rw by (others rule.Rows)
-          keeps-by s by reply others rule.Start = rw by (others rule.Start)
-          keeps-by s by reply others rule.Step = rw by (others rule.Step)
-          keeps-by s by reply others rule.Target = rw by (others rule.Target)
-
-    -- what answers a command that seeks no walk
-    plain-passes : (told : Block) → block ≡ told → ((s : Sought) (r : Rule) → KeepsSought r s told) → IsAfter airport state line told after → KeepsReply airport state line block
+    -- what tells of what is sought
+    sought-passes : (c : Command) → command_of line ≡ Some c → first_refusal airport state c ≡ None → (s : Sought) × (sought_of airport state c ≡ Some s) × PassesSought s block after
         → IsPassed airport state line block after
-    plain-passes told is others after_told reply = record {
-      keeps = keeps-other line block (λ s r. subst (KeepsSought r s) (sym is) (others s r)) reply;
-      after_it = subst (λ b. IsAfter airport state line b after) (sym is) after_told;
-    }
+    sought-passes c read none p =
+        let s = p.0 in
+        let by : sought_by airport state line ≡ Some p.0 = rw read p.1 in
+        let reply : KeepsReply airport state line block = inr (rw (read, none, p.1) p.2.form) in
+        record {
+          keeps = λ r. one-keeps airport state line s by block p.2.form reply r (sought-keeps s block p.2.form p.2.walk p.2.table r);
+          after_it = after-is airport state line s by block after p.2.form p.2.after_it;
+        }
 
     carried-passes : (c : Command) → IsInGrammar c → command_of line ≡ Some c → first_refusal airport state c ≡ None → IsDue airport state line block after
         → IsCarriedOut airport state c block after → IsPassed airport state line block after
-    carried-passes (command.File flight class start steps) spoken read none due done =
-        plain-passes (Filed flight (begin_of done.steps) (end_of done.steps)) done.reply.0 (λ s. sought-keeps s (Filed flight (begin_of done.steps) (end_of done.steps)) tt tt)
+    carried-passes (command.File filed) spoken read none due done =
+        plain-passes (Filed filed.flight (begin_of done.steps) (end_of done.steps)) done.reply.0 refl
         (subst (λ b. IsDue airport state line b after) done.reply.0 due) (inr (rw (read, none) (after, done)))
-    carried-passes (command.Arrival flight class from to time hold) spoken read none due done =
-        sought-passes (command.Arrival flight class from to time hold) read none (new-passes flight class (arrival_named airport from to time hold) block after done)
-    carried-passes (command.Departure flight class from to time queue) spoken read none due done =
-        sought-passes (command.Departure flight class from to time queue) read none (new-passes flight class (departure_named airport from to time queue) block after done)
+    carried-passes (command.Arrival asked) spoken read none due done =
+        sought-passes (command.Arrival asked) read none (new-passes asked.flight asked.class (arrival_named airport asked) block after done)
+    carried-passes (command.Departure asked) spoken read none due done =
+        sought-passes (command.Departure asked) read none (new-passes asked.flight asked.class (departure_named airport asked) block after done)
     carried-passes (command.Cancel flight) spoken read none due done =
-        plain-passes (Cancelled flight) done.0 (λ s. sought-keeps s (Cancelled flight) tt tt) (subst (λ b. IsDue airport state line b after) done.0 due) (inr (rw (read, none) (after, done)))
+        plain-passes (Cancelled flight) done.0 refl (subst (λ b. IsDue airport state line b after) done.0 due) (inr (rw (read, none) (after, done)))
     carried-passes (command.Reroute flight time) spoken read none due done =
         sought-passes (command.Reroute flight time) read none (reroute-passes flight time block after none done)
     carried-passes (command.Divert flight time node) spoken read none due done =
         sought-passes (command.Divert flight time node) read none (divert-passes flight time node block after none done)
     carried-passes (command.Windows segment) spoken read none due done =
-        plain-passes (Windows done.segment (windows_among airport state done.segment)) done.reply.0 (λ s. sought-keeps s (Windows done.segment (windows_among airport state done.segment)) tt tt)
+        plain-passes (Windows done.segment (windows_among airport state done.segment)) done.reply.0 refl
         done.reply.1 (inr (rw (read, none) (after, done)))
     carried-passes (command.Occupancy segment) spoken read none due done =
-        plain-passes (Occupancy done.segment done.rows) done.reply.0 (λ s. sought-keeps s (Occupancy done.segment done.rows) tt tt) done.reply.1 (inr (rw (read, none) (after, done)))
+        plain-passes (Occupancy done.segment done.rows) done.reply.0 refl done.reply.1 (inr (rw (read, none) (after, done)))
     carried-passes command.Timetable spoken read none due done =
-        plain-passes (Timetable (timetable_rows state)) done.0 (λ s. sought-keeps s (Timetable (timetable_rows state)) tt tt) done.1 (inr (rw read (after, done)))
-    carried-passes (command.Work name segment from until) spoken read none due done =
-        plain-passes (Filed name from until) done.reply.0 (λ s. sought-keeps s (Filed name from until) tt tt)
+        plain-passes (Timetable (timetable_rows state)) done.0 refl done.1 (inr (rw read (after, done)))
+    carried-passes (command.Work shut) spoken read none due done =
+        plain-passes (Filed shut.name shut.from shut.until) done.reply.0 refl
         (subst (λ b. IsDue airport state line b after) done.reply.0 due) (inr (rw (read, none) (after, done)))
     carried-passes (command.WorkDone name) spoken read none due done =
-        plain-passes (Cancelled name) done.0 (λ s. sought-keeps s (Cancelled name) tt tt) (subst (λ b. IsDue airport state line b after) done.0 due) (inr (rw (read, none) (after, done)))
-    carried-passes (command.ArrivalAny flight class from time hold stands) spoken read none due done =
-        sought-passes (command.ArrivalAny flight class from time hold stands) read none
-        (choice-passes flight class (arrival_any_named airport from stands time hold) block after
-        (λ choice named. some-nodes (length stands) choice spoken.3 (arrival_any-is airport from stands time hold choice named)) done)
-    carried-passes (command.DepartureAny flight class from time queue nodes) spoken read none due done =
-        sought-passes (command.DepartureAny flight class from time queue nodes) read none
-        (choice-passes flight class (departure_any_named airport from nodes time queue) block after
-        (λ choice named. some-nodes (length nodes) choice spoken.3 (departure_any-is airport from nodes time queue choice named)) done)
+        plain-passes (Cancelled name) done.0 refl (subst (λ b. IsDue airport state line b after) done.0 due) (inr (rw (read, none) (after, done)))
+    carried-passes (command.ArrivalAny asked) spoken read none due done =
+        sought-passes (command.ArrivalAny asked) read none
+        (choice-passes asked.flight asked.class (arrival_any_named airport asked) block after
+        (λ choice named. some-nodes (length asked.nodes) choice spoken.3 (arrival_any-is airport asked choice named)) done)
+    carried-passes (command.DepartureAny asked) spoken read none due done =
+        sought-passes (command.DepartureAny asked) read none
+        (choice-passes asked.flight asked.class (departure_any_named airport asked) block after
+        (λ choice named. some-nodes (length asked.nodes) choice spoken.3 (departure_any-is airport asked choice named)) done)
 
     pub due-passes : IsDue airport state line block after → IsPassed airport state line block after
     unfolding IsDue

@@ -21,7 +21,7 @@ use Rattle.taxi_base.specs.declared.answers.Chosen.TheVariants as chosen
 use Rattle.taxi_base.specs.declared.answers.Request.{Request}
 use Rattle.taxi_base.specs.declared.answers.Refusal.{Refusal}
 use Rattle.taxi_base.specs.declared.answers.Refusal.TheVariants as refusal
-use Rattle.taxi_base.specs.Airport.{Airport, IsWellFormed, segment_of, seconds, class_named, node_named, segment_named}
+use Rattle.taxi_base.specs.Airport.{Airport, IsWellFormed, segment_of, seconds, class_named, node_named, segment_named, is_runway, is_stand}
 use Rattle.taxi_base.specs.Windows.{Hold}
 use Rattle.taxi_base.specs.Walks.{Conditions, free_among, hold_under, IsFeasibleWalk, Meets, begin_of, end_of}
 use Rattle.taxi_base.specs.State.{State, flight_named, with_flight, with_route, without, party_hold, holds_in, conditions_of, IsSound}
@@ -29,15 +29,16 @@ use Rattle.taxi_base.specs.Again.{retargeted, IsTarget, AnswersAgain}
 use Rattle.taxi_base.specs.Faults.{first_taken, holder_at, taken_by, conditions_in, may_follow, cause_of, fault_after, route_fault, taken_cause, hold_cause, hold_fault}
 use Rattle.taxi_base.proofs.FaultLaws.{first_taken-Some, route_fault-None}
 use Rattle.taxi_base.proofs.WalkLaws.{conditions_among-bounded, Meets-IsFeasibleWalk}
-use Rattle.taxi_text.specs.declared.command.FiledStep.{FiledStep}
+use Rattle.taxi_text.specs.declared.command.Filed as filing
+use Rattle.taxi_text.specs.declared.command.Shut.{Shut}
 use Rattle.taxi_text.specs.declared.command.Command.{Command}
 use Rattle.taxi_text.specs.declared.command.Command.TheVariants as command
 use Rattle.taxi_text.specs.Commands.{command_of}
 use Rattle.certificate.specs.declared.block.Block.{Block}
 use Rattle.certificate.specs.declared.block.Block.TheVariants.{Refused, Filed, Cancelled, Route, NoRoute, Windows, Occupancy, Timetable}
 use Rattle.certificate.specs.Printable.{IsShort, IsName, IsPrintableCause, IsPrintableRefusal, IsPrintableStep, IsPrintableWindow, IsPrintable}
-use Rattle.certificate.specs.Asked.{filed_steps, party_of, IsInGrammar, arrival_named, departure_named, AnswersRequest, Choice, request_for, arrival_any_named, departure_any_named, AnswersChoice}
-use Rattle.certificate.specs.Refusals.{refused_if, first_of, of_flight, not_routed, not_arrival, already_done, already_moving, in_force, is_runway, is_stand, unknown_class, unknown_node, unknown_node_of, not_all, no_runway, no_stand, unknown_segment, unknown_arc, not_in_force, not_at_work, full, step_fails, hold_fails, is_filed, is_departure, first_refusal}
+use Rattle.certificate.specs.Asked.{route_filed, party_of, IsInGrammar, arrival_named, departure_named, AnswersRequest, Choice, request_for, arrival_any_named, departure_any_named, AnswersChoice}
+use Rattle.certificate.specs.Refusals.{refused_if, first_of, of_flight, not_routed, not_arrival, already_done, already_moving, in_force, unknown_class, unknown_node, unknown_node_of, not_all, no_runway, no_stand, unknown_segment, unknown_arc, not_in_force, not_at_work, full, step_fails, hold_fails, is_filed, is_departure, first_refusal}
 use Rattle.certificate.specs.CarriedOut.{Reply, IsOf, filed_reply, IsFiled, second_of, found_reply, routed_flight, IsRouted, chosen_reply, IsRoutedToOne, IsRoutedAgain, shut_reply, opened_reply, cancelled_reply, windows_among, windows_reply, occupancy_reply, timetable_reply, IsCarriedOut}
 use Rattle.certificate.specs.Replies.{refused, IsDueTo, IsDue, HaveNames, DoesAsItSays}
 use Rattle.certificate.proofs.FiledLaws.{filed_steps-length, filed_steps-arcs, filed_steps-joined}
@@ -160,17 +161,17 @@ module _ (airport : Airport) (state : State) (well : IsWellFormed airport) (name
     of_fault None h = tt
     of_fault (Some fault) h = ((h.0, omega (arith, h.1, few)), h.2)
 
-  step-fine : (class : List ℕ) (start : ℕ) (filed : List FiledStep) → length filed ≤ 256 → IsFine (step_fails airport state class start filed)
-  step-fine class start filed few = of_class (class_named airport class) where
-    of_steps : (class : Class) (o : Option (List Step)) → filed_steps airport start filed ≡ o
+  step-fine : (filed : filing.Filed) → length filed.steps ≤ 256 → IsFine (step_fails airport state filed)
+  step-fine filed few = of_class (class_named airport filed.class) where
+    of_steps : (class : Class) (o : Option (List Step)) → route_filed airport filed ≡ o
         → IsFine (option_and_then (λ steps. option_map (λ fault. refusal.Step fault) (route_fault airport class state steps)) o)
     of_steps class None e = tt
-    of_steps class (Some steps) e = route-fine class steps (omega (arith, few, filed_steps-length airport start filed steps e))
+    of_steps class (Some steps) e = route-fine class steps (omega (arith, few, filed_steps-length airport filed.start filed.steps steps e))
 
     of_class : (o : Option Class)
-        → IsFine (option_and_then (λ class. option_and_then (λ steps. option_map (λ fault. refusal.Step fault) (route_fault airport class state steps)) (filed_steps airport start filed)) o)
+        → IsFine (option_and_then (λ class. option_and_then (λ steps. option_map (λ fault. refusal.Step fault) (route_fault airport class state steps)) (route_filed airport filed)) o)
     of_class None = tt
-    of_class (Some class) = of_steps class (filed_steps airport start filed) refl
+    of_class (Some class) = of_steps class (route_filed airport filed) refl
 
   shut-fine : (hold : Hold) → IsFine (option_map (λ fault. refusal.Step fault) (hold_fault airport state hold))
   unfolding hold_fault
@@ -179,24 +180,24 @@ module _ (airport : Airport) (state : State) (well : IsWellFormed airport) (name
     of_cause None h = tt
     of_cause (Some cause) h = ((omega arith, omega arith), h)
 
-  hold-fine : (name segment : List ℕ) (from until : ℕ) → IsFine (hold_fails airport state name segment from until)
-  hold-fine name segment from until = of_segment (segment_named airport segment) where
+  hold-fine : (shut : Shut) → IsFine (hold_fails airport state shut)
+  hold-fine shut = of_segment (segment_named airport shut.segment) where
     of_segment : (o : Option Segment)
-        → IsFine (option_and_then (λ s. option_map (λ fault. refusal.Step fault) (hold_fault airport state (party_hold (party_of name s from until)))) o)
+        → IsFine (option_and_then (λ s. option_map (λ fault. refusal.Step fault) (hold_fault airport state (party_hold (party_of shut s)))) o)
     of_segment None = tt
-    of_segment (Some s) = shut-fine (party_hold (party_of name s from until))
+    of_segment (Some s) = shut-fine (party_hold (party_of shut s))
 
   refusal-fine : (c : Command) → IsInGrammar c → IsFine (first_refusal airport state c)
-  refusal-fine (command.File flight class start steps) spoken =
-      first-fine (in_force state flight) _ (if-fine _ _ tt) (first-fine (unknown_class airport class) _ (if-fine _ _ tt) (first-fine (unknown_arc airport start steps) _ (if-fine _ _ tt)
-      (first-fine (full state) _ (if-fine _ _ tt) (first-fine (step_fails airport state class start steps) [] (step-fine class start steps (leb-true (length steps) 256 (and_parts _ _ spoken.1).1)) tt))))
-  refusal-fine (command.Arrival flight class from to time hold) spoken =
-      first-fine (in_force state flight) _ (if-fine _ _ tt) (first-fine (unknown_class airport class) _ (if-fine _ _ tt) (first-fine (unknown_node airport from) _ (if-fine _ _ tt)
-      (first-fine (unknown_node airport to) _ (if-fine _ _ tt) (first-fine (no_runway airport from) _ (if-fine _ _ tt) (first-fine (no_stand airport to) _ (if-fine _ _ tt)
+  refusal-fine (command.File filed) spoken =
+      first-fine (in_force state filed.flight) _ (if-fine _ _ tt) (first-fine (unknown_class airport filed.class) _ (if-fine _ _ tt) (first-fine (unknown_arc airport filed) _ (if-fine _ _ tt)
+      (first-fine (full state) _ (if-fine _ _ tt) (first-fine (step_fails airport state filed) [] (step-fine filed (leb-true (length filed.steps) 256 (and_parts _ _ spoken.1).1)) tt))))
+  refusal-fine (command.Arrival asked) spoken =
+      first-fine (in_force state asked.flight) _ (if-fine _ _ tt) (first-fine (unknown_class airport asked.class) _ (if-fine _ _ tt) (first-fine (unknown_node airport asked.from) _ (if-fine _ _ tt)
+      (first-fine (unknown_node airport asked.to) _ (if-fine _ _ tt) (first-fine (no_runway airport asked.from) _ (if-fine _ _ tt) (first-fine (no_stand airport asked.to) _ (if-fine _ _ tt)
       (first-fine (full state) [] (if-fine _ _ tt) tt))))))
-  refusal-fine (command.Departure flight class from to time queue) spoken =
-      first-fine (in_force state flight) _ (if-fine _ _ tt) (first-fine (unknown_class airport class) _ (if-fine _ _ tt) (first-fine (unknown_node airport from) _ (if-fine _ _ tt)
-      (first-fine (unknown_node airport to) _ (if-fine _ _ tt) (first-fine (no_stand airport from) _ (if-fine _ _ tt) (first-fine (no_runway airport to) _ (if-fine _ _ tt)
+  refusal-fine (command.Departure asked) spoken =
+      first-fine (in_force state asked.flight) _ (if-fine _ _ tt) (first-fine (unknown_class airport asked.class) _ (if-fine _ _ tt) (first-fine (unknown_node airport asked.from) _ (if-fine _ _ tt)
+      (first-fine (unknown_node airport asked.to) _ (if-fine _ _ tt) (first-fine (no_stand airport asked.from) _ (if-fine _ _ tt) (first-fine (no_runway airport asked.to) _ (if-fine _ _ tt)
       (first-fine (full state) [] (if-fine _ _ tt) tt))))))
   refusal-fine (command.Cancel flight) spoken = first-fine (not_in_force state flight) [] (if-fine _ _ tt) tt
   refusal-fine (command.Reroute flight time) spoken =
@@ -209,17 +210,17 @@ module _ (airport : Airport) (state : State) (well : IsWellFormed airport) (name
   refusal-fine (command.Windows segment) spoken = first-fine (unknown_segment airport segment) [] (if-fine _ _ tt) tt
   refusal-fine (command.Occupancy segment) spoken = first-fine (unknown_segment airport segment) [] (if-fine _ _ tt) tt
   refusal-fine command.Timetable spoken = tt
-  refusal-fine (command.Work name segment from until) spoken =
-      first-fine (in_force state name) _ (if-fine _ _ tt) (first-fine (unknown_segment airport segment) _ (if-fine _ _ tt) (first-fine (full state) _ (if-fine _ _ tt)
-      (first-fine (hold_fails airport state name segment from until) [] (hold-fine name segment from until) tt)))
+  refusal-fine (command.Work shut) spoken =
+      first-fine (in_force state shut.name) _ (if-fine _ _ tt) (first-fine (unknown_segment airport shut.segment) _ (if-fine _ _ tt) (first-fine (full state) _ (if-fine _ _ tt)
+      (first-fine (hold_fails airport state shut) [] (hold-fine shut) tt)))
   refusal-fine (command.WorkDone name) spoken = first-fine (not_at_work state name) [] (if-fine _ _ tt) tt
-  refusal-fine (command.ArrivalAny flight class from time hold stands) spoken =
-      first-fine (in_force state flight) _ (if-fine _ _ tt) (first-fine (unknown_class airport class) _ (if-fine _ _ tt) (first-fine (unknown_node airport from) _ (if-fine _ _ tt)
-      (first-fine (unknown_node_of airport stands) _ (if-fine _ _ tt) (first-fine (no_runway airport from) _ (if-fine _ _ tt) (first-fine (not_all is_stand airport stands) _ (if-fine _ _ tt)
+  refusal-fine (command.ArrivalAny asked) spoken =
+      first-fine (in_force state asked.flight) _ (if-fine _ _ tt) (first-fine (unknown_class airport asked.class) _ (if-fine _ _ tt) (first-fine (unknown_node airport asked.from) _ (if-fine _ _ tt)
+      (first-fine (unknown_node_of airport asked.nodes) _ (if-fine _ _ tt) (first-fine (no_runway airport asked.from) _ (if-fine _ _ tt) (first-fine (not_all is_stand airport asked.nodes) _ (if-fine _ _ tt)
       (first-fine (full state) [] (if-fine _ _ tt) tt))))))
-  refusal-fine (command.DepartureAny flight class from time queue nodes) spoken =
-      first-fine (in_force state flight) _ (if-fine _ _ tt) (first-fine (unknown_class airport class) _ (if-fine _ _ tt) (first-fine (unknown_node airport from) _ (if-fine _ _ tt)
-      (first-fine (unknown_node_of airport nodes) _ (if-fine _ _ tt) (first-fine (no_stand airport from) _ (if-fine _ _ tt) (first-fine (not_all is_runway airport nodes) _ (if-fine _ _ tt)
+  refusal-fine (command.DepartureAny asked) spoken =
+      first-fine (in_force state asked.flight) _ (if-fine _ _ tt) (first-fine (unknown_class airport asked.class) _ (if-fine _ _ tt) (first-fine (unknown_node airport asked.from) _ (if-fine _ _ tt)
+      (first-fine (unknown_node_of airport asked.nodes) _ (if-fine _ _ tt) (first-fine (no_stand airport asked.from) _ (if-fine _ _ tt) (first-fine (not_all is_runway airport asked.nodes) _ (if-fine _ _ tt)
       (first-fine (full state) [] (if-fine _ _ tt) tt))))))
 
   -- ---- what is carried out
@@ -227,17 +228,17 @@ module _ (airport : Airport) (state : State) (well : IsWellFormed airport) (name
   of-reply : (reply : Reply) (block : Block) (after : State) → IsOf reply block after → IsPrintable airport reply.block → IsPrintable airport block
   of-reply reply block after of fine = rw of.0 fine
 
-  file-printable : (name class : List ℕ) (start : ℕ) (filed : List FiledStep) (block : Block) (after : State) → IsName name → 0 < length filed
-      → first_refusal airport state (command.File name class start filed) ≡ None → IsFiled airport state name class start filed block after → IsPrintable airport block
-  file-printable name class start filed block after named some none done =
+  file-printable : (filed : filing.Filed) (block : Block) (after : State) → IsName filed.flight → 0 < length filed.steps
+      → first_refusal airport state (command.File filed) ≡ None → IsFiled airport state filed block after → IsPrintable airport block
+  file-printable filed block after named some none done =
       let steps = done.steps in
       let made = done.steps_known in
       let c : Conditions = conditions_in airport done.class state in
       let walk : IsFeasibleWalk c steps =
-      (route_fault-None airport done.class state steps (omega (arith, some, filed_steps-length airport start filed steps made))
-      (filed_steps-arcs airport start filed steps made) (filed_steps-joined airport start filed steps made)).0
-      (none-fails airport state class start filed done.class steps done.class_known made (file-does_not_fail airport state name class start filed none)) in
-      of-reply (filed_reply state name done.class steps) block after done.reply (named, (number (begin_of steps) (walk-begin c steps walk), number (end_of steps) (walk-end c steps walk)))
+      (route_fault-None airport done.class state steps (omega (arith, some, filed_steps-length airport filed.start filed.steps steps made))
+      (filed_steps-arcs airport filed.start filed.steps steps made) (filed_steps-joined airport filed.start filed.steps steps made)).0
+      (none-fails airport state filed done.class steps done.class_known made (file-does_not_fail airport state filed none)) in
+      of-reply (filed_reply state filed.flight done.class steps) block after done.reply (named, (number (begin_of steps) (walk-begin c steps walk), number (end_of steps) (walk-end c steps walk)))
 
   -- a route that was found, with its labels
   route-printable : (c : Conditions) (name : List ℕ) (request : Request) (steps : List Step) (labels : List LabelRow) → c.airport ≡ airport → IsName name
@@ -312,12 +313,12 @@ module _ (airport : Airport) (state : State) (well : IsWellFormed airport) (name
   -- what is carried out has a text
   pub carried_out-printable : (c : Command) (block : Block) (after : State) → IsInGrammar c → first_refusal airport state c ≡ None
       → IsCarriedOut airport state c block after → IsPrintable airport block
-  carried_out-printable (command.File flight class start steps) block after spoken none done =
-      file-printable flight class start steps block after spoken.0 (ltb-true 0 (length steps) (and_parts _ _ spoken.1).0) none done
-  carried_out-printable (command.Arrival flight class from to time hold) block after spoken none done =
-      routed-printable flight class (arrival_named airport from to time hold) block after spoken.0 done
-  carried_out-printable (command.Departure flight class from to time queue) block after spoken none done =
-      routed-printable flight class (departure_named airport from to time queue) block after spoken.0 done
+  carried_out-printable (command.File filed) block after spoken none done =
+      file-printable filed block after spoken.0 (ltb-true 0 (length filed.steps) (and_parts _ _ spoken.1).0) none done
+  carried_out-printable (command.Arrival asked) block after spoken none done =
+      routed-printable asked.flight asked.class (arrival_named airport asked) block after spoken.0 done
+  carried_out-printable (command.Departure asked) block after spoken none done =
+      routed-printable asked.flight asked.class (departure_named airport asked) block after spoken.0 done
   carried_out-printable (command.Cancel flight) block after spoken none done = of-reply (cancelled_reply state flight) block after done spoken
   carried_out-printable (command.Reroute flight time) block after spoken none done = again-printable flight time IsTarget block after spoken.0 done
   carried_out-printable (command.Divert flight time node) block after spoken none done =
@@ -335,13 +336,13 @@ module _ (airport : Airport) (state : State) (well : IsWellFormed airport) (name
       )
   carried_out-printable command.Timetable block after spoken none done =
       of-reply (timetable_reply state) block after done (timetable-count airport state well sound, timetable-printable airport state well sound names)
-  carried_out-printable (command.Work name segment from until) block after spoken none done =
-      of-reply (shut_reply state (party_of name done.segment from until)) block after done.reply (spoken.0, (spoken.1, spoken.2))
+  carried_out-printable (command.Work shut) block after spoken none done =
+      of-reply (shut_reply state (party_of shut done.segment)) block after done.reply (spoken.0, (spoken.1, spoken.2))
   carried_out-printable (command.WorkDone name) block after spoken none done = of-reply (opened_reply state name) block after done spoken
-  carried_out-printable (command.ArrivalAny flight class from time hold stands) block after spoken none done =
-      chosen-has_text flight class (arrival_any_named airport from stands time hold) block after spoken.0 done
-  carried_out-printable (command.DepartureAny flight class from time queue nodes) block after spoken none done =
-      chosen-has_text flight class (departure_any_named airport from nodes time queue) block after spoken.0 done
+  carried_out-printable (command.ArrivalAny asked) block after spoken none done =
+      chosen-has_text asked.flight asked.class (arrival_any_named airport asked) block after spoken.0 done
+  carried_out-printable (command.DepartureAny asked) block after spoken none done =
+      chosen-has_text asked.flight asked.class (departure_any_named airport asked) block after spoken.0 done
 
   of-refusal : (why : Refusal) (block : Block) (after : State) → IsOf (refused state why) block after → IsPrintableRefusal why → IsPrintable airport block
   of-refusal why block after of fine = of-reply (refused state why) block after of fine

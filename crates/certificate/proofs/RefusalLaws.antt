@@ -7,13 +7,16 @@ use Rattle.taxi_base.specs.declared.rows.Step.{Step}
 use Rattle.taxi_base.specs.declared.answers.StepFault.{StepFault}
 use Rattle.taxi_base.specs.declared.answers.Refusal.{Refusal}
 use Rattle.taxi_base.specs.declared.answers.Refusal.TheVariants as refusal
-use Rattle.taxi_base.specs.Airport.{Airport, class_named, segment_named}
+use Rattle.taxi_base.specs.Airport.{Airport, class_named, segment_named, is_runway, is_stand}
 use Rattle.taxi_base.specs.State.{State, party_hold, holder_count, has_holder}
 use Rattle.taxi_base.specs.Faults.{route_fault, hold_fault}
-use Rattle.taxi_text.specs.declared.command.FiledStep.{FiledStep}
-use Rattle.certificate.specs.Asked.{filed_steps, party_of}
+use Rattle.taxi_text.specs.declared.command.Asked.{Asked}
+use Rattle.taxi_text.specs.declared.command.AskedAny.{AskedAny}
+use Rattle.taxi_text.specs.declared.command.Filed.{Filed}
+use Rattle.taxi_text.specs.declared.command.Shut.{Shut}
+use Rattle.certificate.specs.Asked.{route_filed, party_of}
 use Rattle.taxi_text.specs.declared.command.Command.TheVariants as command
-use Rattle.certificate.specs.Refusals.{refused_if, first_of, is_in_force, is_at_work, most_holders, in_force, unknown_class, is_runway, is_stand, unknown_node, unknown_node_of, not_all, no_runway, no_stand, unknown_segment, unknown_arc, not_in_force, not_at_work, full, step_fails, hold_fails, first_refusal}
+use Rattle.certificate.specs.Refusals.{refused_if, first_of, is_in_force, is_at_work, most_holders, in_force, unknown_class, unknown_node, unknown_node_of, not_all, no_runway, no_stand, unknown_segment, unknown_arc, not_in_force, not_at_work, full, step_fails, hold_fails, first_refusal}
 
 -- none of the tests gives a refusal, so neither the first does nor the others
 pub none-first : (o : Option Refusal) (tests : List (Option Refusal)) → first_of (o ∷ tests) ≡ None → o ≡ None
@@ -52,15 +55,15 @@ no_fault None h = refl
 no_fault (Some fault) h = absurd (cc h)
 
 -- no step of the route fails
-pub none-fails : (airport : Airport) (state : State) (name : List ℕ) (start : ℕ) (filed : List FiledStep) (class : Class) (steps : List Step)
-    → class_named airport name ≡ Some class → filed_steps airport start filed ≡ Some steps
-    → step_fails airport state name start filed ≡ None → route_fault airport class state steps ≡ None
-none-fails airport state name start filed class steps known made e = no_fault (route_fault airport class state steps) (rw (known, made) at e)
+pub none-fails : (airport : Airport) (state : State) (filed : Filed) (class : Class) (steps : List Step)
+    → class_named airport filed.class ≡ Some class → route_filed airport filed ≡ Some steps
+    → step_fails airport state filed ≡ None → route_fault airport class state steps ≡ None
+none-fails airport state filed class steps known made e = no_fault (route_fault airport class state steps) (rw (known, made) at e)
 
 -- the segment may be shut
-pub none-holds : (airport : Airport) (state : State) (name segment : List ℕ) (from until : ℕ) (s : Segment) → segment_named airport segment ≡ Some s
-    → hold_fails airport state name segment from until ≡ None → hold_fault airport state (party_hold (party_of name s from until)) ≡ None
-none-holds airport state name segment from until s known e = no_fault (hold_fault airport state (party_hold (party_of name s from until))) (rw known at e)
+pub none-holds : (airport : Airport) (state : State) (shut : Shut) (s : Segment) → segment_named airport shut.segment ≡ Some s
+    → hold_fails airport state shut ≡ None → hold_fault airport state (party_hold (party_of shut s)) ≡ None
+none-holds airport state shut s known e = no_fault (hold_fault airport state (party_hold (party_of shut s))) (rw known at e)
 
 -- ---- what the commands that put a holder in force are not refused
 
@@ -69,56 +72,55 @@ pub record HasRoom (state : State) (name : List ℕ) : Type 0 where
   pub absent : IsFalse (has_holder name state)
   pub room : holder_count state < most_holders
 
-module _ (airport : Airport) (state : State) (name class : List ℕ) where
-  pub file-has_room : (start : ℕ) (filed : List FiledStep) → first_refusal airport state (command.File name class start filed) ≡ None → HasRoom state name
-  file-has_room start filed e = record {
-    absent = not_refused (has_holder name state) refusal.InForce (none-first (in_force state name) _ e);
-    room = not-full state (none-first (full state) _ (none-others (unknown_arc airport start filed) _ (none-others (unknown_class airport class) _ (none-others (in_force state name) _ e))));
+module _ (airport : Airport) (state : State) where
+  pub file-has_room : (filed : Filed) → first_refusal airport state (command.File filed) ≡ None → HasRoom state filed.flight
+  file-has_room filed e = record {
+    absent = not_refused (has_holder filed.flight state) refusal.InForce (none-first (in_force state filed.flight) _ e);
+    room = not-full state (none-first (full state) _ (none-others (unknown_arc airport filed) _ (none-others (unknown_class airport filed.class) _ (none-others (in_force state filed.flight) _ e))));
   }
 
-  pub file-does_not_fail : (start : ℕ) (filed : List FiledStep) → first_refusal airport state (command.File name class start filed) ≡ None → step_fails airport state class start filed ≡ None
-  file-does_not_fail start filed e =
-      none-first (step_fails airport state class start filed) [] (none-others (full state) _ (none-others (unknown_arc airport start filed) _ (none-others (unknown_class airport class) _ (none-others (in_force state name) _ e))))
+  pub file-does_not_fail : (filed : Filed) → first_refusal airport state (command.File filed) ≡ None → step_fails airport state filed ≡ None
+  file-does_not_fail filed e =
+      none-first (step_fails airport state filed) [] (none-others (full state) _ (none-others (unknown_arc airport filed) _ (none-others (unknown_class airport filed.class) _ (none-others (in_force state filed.flight) _ e))))
 
-  pub arrival-has_room : (from to : List ℕ) (time hold : ℕ) → first_refusal airport state (command.Arrival name class from to time hold) ≡ None → HasRoom state name
-  arrival-has_room from to time hold e = record {
-    absent = not_refused (has_holder name state) refusal.InForce (none-first (in_force state name) _ e);
+  pub arrival-has_room : (asked : Asked) → first_refusal airport state (command.Arrival asked) ≡ None → HasRoom state asked.flight
+  arrival-has_room asked e = record {
+    absent = not_refused (has_holder asked.flight state) refusal.InForce (none-first (in_force state asked.flight) _ e);
     room = not-full state (none-first (full state) _
-        (none-others (no_stand airport to) _ (none-others (no_runway airport from) _ (none-others (unknown_node airport to) _ (none-others (unknown_node airport from) _
-        (none-others (unknown_class airport class) _ (none-others (in_force state name) _ e)))))));
+        (none-others (no_stand airport asked.to) _ (none-others (no_runway airport asked.from) _ (none-others (unknown_node airport asked.to) _ (none-others (unknown_node airport asked.from) _
+        (none-others (unknown_class airport asked.class) _ (none-others (in_force state asked.flight) _ e)))))));
   }
 
-  pub departure-has_room : (from to : List ℕ) (time queue : ℕ) → first_refusal airport state (command.Departure name class from to time queue) ≡ None → HasRoom state name
-  departure-has_room from to time queue e = record {
-    absent = not_refused (has_holder name state) refusal.InForce (none-first (in_force state name) _ e);
+  pub departure-has_room : (asked : Asked) → first_refusal airport state (command.Departure asked) ≡ None → HasRoom state asked.flight
+  departure-has_room asked e = record {
+    absent = not_refused (has_holder asked.flight state) refusal.InForce (none-first (in_force state asked.flight) _ e);
     room = not-full state (none-first (full state) _
-        (none-others (no_runway airport to) _ (none-others (no_stand airport from) _ (none-others (unknown_node airport to) _ (none-others (unknown_node airport from) _
-        (none-others (unknown_class airport class) _ (none-others (in_force state name) _ e)))))));
+        (none-others (no_runway airport asked.to) _ (none-others (no_stand airport asked.from) _ (none-others (unknown_node airport asked.to) _ (none-others (unknown_node airport asked.from) _
+        (none-others (unknown_class airport asked.class) _ (none-others (in_force state asked.flight) _ e)))))));
   }
 
-  pub arrival_any-has_room : (from : List ℕ) (stands : List (List ℕ)) (time hold : ℕ) → first_refusal airport state (command.ArrivalAny name class from time hold stands) ≡ None → HasRoom state name
-  arrival_any-has_room from stands time hold e = record {
-    absent = not_refused (has_holder name state) refusal.InForce (none-first (in_force state name) _ e);
+  pub arrival_any-has_room : (asked : AskedAny) → first_refusal airport state (command.ArrivalAny asked) ≡ None → HasRoom state asked.flight
+  arrival_any-has_room asked e = record {
+    absent = not_refused (has_holder asked.flight state) refusal.InForce (none-first (in_force state asked.flight) _ e);
     room = not-full state (none-first (full state) _
-        (none-others (not_all is_stand airport stands) _ (none-others (no_runway airport from) _ (none-others (unknown_node_of airport stands) _ (none-others (unknown_node airport from) _
-        (none-others (unknown_class airport class) _ (none-others (in_force state name) _ e)))))));
+        (none-others (not_all is_stand airport asked.nodes) _ (none-others (no_runway airport asked.from) _ (none-others (unknown_node_of airport asked.nodes) _ (none-others (unknown_node airport asked.from) _
+        (none-others (unknown_class airport asked.class) _ (none-others (in_force state asked.flight) _ e)))))));
   }
 
-  pub departure_any-has_room : (from : List ℕ) (nodes : List (List ℕ)) (time queue : ℕ) → first_refusal airport state (command.DepartureAny name class from time queue nodes) ≡ None → HasRoom state name
-  departure_any-has_room from nodes time queue e = record {
-    absent = not_refused (has_holder name state) refusal.InForce (none-first (in_force state name) _ e);
+  pub departure_any-has_room : (asked : AskedAny) → first_refusal airport state (command.DepartureAny asked) ≡ None → HasRoom state asked.flight
+  departure_any-has_room asked e = record {
+    absent = not_refused (has_holder asked.flight state) refusal.InForce (none-first (in_force state asked.flight) _ e);
     room = not-full state (none-first (full state) _
-        (none-others (not_all is_runway airport nodes) _ (none-others (no_stand airport from) _ (none-others (unknown_node_of airport nodes) _ (none-others (unknown_node airport from) _
-        (none-others (unknown_class airport class) _ (none-others (in_force state name) _ e)))))));
+        (none-others (not_all is_runway airport asked.nodes) _ (none-others (no_stand airport asked.from) _ (none-others (unknown_node_of airport asked.nodes) _ (none-others (unknown_node airport asked.from) _
+        (none-others (unknown_class airport asked.class) _ (none-others (in_force state asked.flight) _ e)))))));
   }
 
-module _ (airport : Airport) (state : State) (name segment : List ℕ) (from until : ℕ) where
-  pub work-has_room : first_refusal airport state (command.Work name segment from until) ≡ None → HasRoom state name
-  work-has_room e = record {
-    absent = not_refused (has_holder name state) refusal.InForce (none-first (in_force state name) _ e);
-    room = not-full state (none-first (full state) _ (none-others (unknown_segment airport segment) _ (none-others (in_force state name) _ e)));
+  pub work-has_room : (shut : Shut) → first_refusal airport state (command.Work shut) ≡ None → HasRoom state shut.name
+  work-has_room shut e = record {
+    absent = not_refused (has_holder shut.name state) refusal.InForce (none-first (in_force state shut.name) _ e);
+    room = not-full state (none-first (full state) _ (none-others (unknown_segment airport shut.segment) _ (none-others (in_force state shut.name) _ e)));
   }
 
-  pub work-does_not_fail : first_refusal airport state (command.Work name segment from until) ≡ None → hold_fails airport state name segment from until ≡ None
-  work-does_not_fail e =
-      none-first (hold_fails airport state name segment from until) [] (none-others (full state) _ (none-others (unknown_segment airport segment) _ (none-others (in_force state name) _ e)))
+  pub work-does_not_fail : (shut : Shut) → first_refusal airport state (command.Work shut) ≡ None → hold_fails airport state shut ≡ None
+  work-does_not_fail shut e =
+      none-first (hold_fails airport state shut) [] (none-others (full state) _ (none-others (unknown_segment airport shut.segment) _ (none-others (in_force state shut.name) _ e)))

@@ -20,7 +20,8 @@ use Rattle.taxi_base.specs.Again.{retargeted, IsTarget, AnswersAgain}
 use Rattle.taxi_base.proofs.FaultLaws.{route_fault-None, hold_fault-None}
 use Rattle.taxi_base.proofs.StateLaws.{IsSound-with_flight, IsSound-with_party, IsSound-with_route, IsSound-without, IsClashFree-feasible}
 use Rattle.std.proofs.lemmas.List.Elements.{All-contains}
-use Rattle.taxi_text.specs.declared.command.FiledStep.{FiledStep}
+use Rattle.taxi_text.specs.declared.command.Filed as filing
+use Rattle.taxi_text.specs.declared.command.Shut.{Shut}
 use Rattle.taxi_text.specs.declared.command.Command.{Command}
 use Rattle.taxi_text.specs.declared.command.Command.TheVariants as command
 use Rattle.taxi_text.specs.Commands.{command_of}
@@ -52,17 +53,18 @@ module _ (airport : Airport) (state : State) (sound : IsSound airport state) whe
   refused-kept : (why : Refusal) → IsKept (Refused why) state
   refused-kept why = record { as_it_says = refl; stays_sound = sound }
 
-  file-kept : (name class : List ℕ) (start : ℕ) (filed : List FiledStep) (block : Block) (after : State) → 0 < length filed
-      → first_refusal airport state (command.File name class start filed) ≡ None → IsFiled airport state name class start filed block after → IsKept block after
-  file-kept name class start filed block after some none done =
+  file-kept : (filed : filing.Filed) (block : Block) (after : State) → 0 < length filed.steps
+      → first_refusal airport state (command.File filed) ≡ None → IsFiled airport state filed block after → IsKept block after
+  file-kept filed block after some none done =
       let steps = done.steps in
       let made = done.steps_known in
-      let room : HasRoom state name = file-has_room airport state name class start filed none in
+      let name = filed.flight in
+      let room : HasRoom state filed.flight = file-has_room airport state filed none in
       let faultless : route_fault airport done.class state steps ≡ None =
-      none-fails airport state class start filed done.class steps done.class_known made (file-does_not_fail airport state name class start filed none) in
+      none-fails airport state filed done.class steps done.class_known made (file-does_not_fail airport state filed none) in
       let walk : IsFeasibleWalk (conditions_in airport done.class state) steps =
-      (route_fault-None airport done.class state steps (omega (arith, some, filed_steps-length airport start filed steps made))
-      (filed_steps-arcs airport start filed steps made) (filed_steps-joined airport start filed steps made)).0 faultless in
+      (route_fault-None airport done.class state steps (omega (arith, some, filed_steps-length airport filed.start filed.steps steps made))
+      (filed_steps-arcs airport filed.start filed.steps steps made) (filed_steps-joined airport filed.start filed.steps steps made)).0 faultless in
       of-reply (filed_reply state name done.class steps) block after done.reply (record {
         as_it_says = inl (record { flight = filed_flight name done.class steps; name_told = refl; goes_in = refl; walk = walk; start_told = refl; end_told = refl });
         stays_sound = IsSound-with_flight airport (filed_flight name done.class steps) state sound room.room room.absent walk;
@@ -121,14 +123,14 @@ module _ (airport : Airport) (state : State) (sound : IsSound airport state) whe
           stays_sound = IsSound-with_route airport flight state asked steps sound there met;
         })
 
-  work-kept : (name segment : List ℕ) (from until : ℕ) (block : Block) (after : State) → first_refusal airport state (command.Work name segment from until) ≡ None
-      → IsShut airport state name segment from until block after → IsKept block after
-  work-kept name segment from until block after none done =
-      let party : Party = party_of name done.segment from until in
-      let room : HasRoom state name = work-has_room airport state name segment from until none in
+  work-kept : (shut : Shut) (block : Block) (after : State) → first_refusal airport state (command.Work shut) ≡ None
+      → IsShut airport state shut block after → IsKept block after
+  work-kept shut block after none done =
+      let party : Party = party_of shut done.segment in
+      let room : HasRoom state shut.name = work-has_room airport state shut none in
       let hold : IsFeasibleHold airport state (party_hold party) =
-      (hold_fault-None airport state (party_hold party) (segment_named-exists airport segment done.segment done.segment_known)).0
-      (none-holds airport state name segment from until done.segment done.segment_known (work-does_not_fail airport state name segment from until none)) in
+      (hold_fault-None airport state (party_hold party) (segment_named-exists airport shut.segment done.segment done.segment_known)).0
+      (none-holds airport state shut done.segment done.segment_known (work-does_not_fail airport state shut none)) in
       of-reply (shut_reply state party) block after done.reply (record {
         as_it_says = inr (record { party = party; name_told = refl; goes_in = refl; hold = hold; start_told = refl; end_told = refl });
         stays_sound = IsSound-with_party airport party state sound room.room room.absent hold;
@@ -146,12 +148,11 @@ module _ (airport : Airport) (state : State) (sound : IsSound airport state) whe
   -- a command that is refused nothing and is carried out keeps the state sound
   pub carried_out-kept : (c : Command) (block : Block) (after : State) → IsInGrammar c → first_refusal airport state c ≡ None
       → IsCarriedOut airport state c block after → IsKept block after
-  carried_out-kept (command.File flight class start steps) block after spoken none done =
-      file-kept flight class start steps block after (ltb-true 0 (length steps) (and_parts _ _ spoken.1).0) none done
-  carried_out-kept (command.Arrival flight class from to time hold) block after spoken none done =
-      routed-kept flight class (arrival_named airport from to time hold) block after (arrival-has_room airport state flight class from to time hold none) done
-  carried_out-kept (command.Departure flight class from to time queue) block after spoken none done =
-      routed-kept flight class (departure_named airport from to time queue) block after (departure-has_room airport state flight class from to time queue none) done
+  carried_out-kept (command.File filed) block after spoken none done = file-kept filed block after (ltb-true 0 (length filed.steps) (and_parts _ _ spoken.1).0) none done
+  carried_out-kept (command.Arrival asked) block after spoken none done =
+      routed-kept asked.flight asked.class (arrival_named airport asked) block after (arrival-has_room airport state asked none) done
+  carried_out-kept (command.Departure asked) block after spoken none done =
+      routed-kept asked.flight asked.class (departure_named airport asked) block after (departure-has_room airport state asked none) done
   carried_out-kept (command.Cancel flight) block after spoken none done =
       of-reply (cancelled_reply state flight) block after done (record {
         as_it_says = (or_right (is_at_work flight state) (is_in_force flight state) (is-in_force state flight (none-first (not_in_force state flight) [] none)), refl);
@@ -165,13 +166,13 @@ module _ (airport : Airport) (state : State) (sound : IsSound airport state) whe
       of-reply (occupancy_reply state done.segment done.rows) block after done.reply (record { as_it_says = (done.held, refl); stays_sound = sound })
   carried_out-kept command.Timetable block after spoken none done =
       of-reply (timetable_reply state) block after done (record { as_it_says = (refl, refl); stays_sound = sound })
-  carried_out-kept (command.Work name segment from until) block after spoken none done = work-kept name segment from until block after none done
+  carried_out-kept (command.Work shut) block after spoken none done = work-kept shut block after none done
   carried_out-kept (command.WorkDone name) block after spoken none done =
       work_done-kept name block after (is-at_work state name (none-first (not_at_work state name) [] none)) done
-  carried_out-kept (command.ArrivalAny flight class from time hold stands) block after spoken none done =
-      chosen-kept flight class (arrival_any_named airport from stands time hold) block after (arrival_any-has_room airport state flight class from stands time hold none) done
-  carried_out-kept (command.DepartureAny flight class from time queue nodes) block after spoken none done =
-      chosen-kept flight class (departure_any_named airport from nodes time queue) block after (departure_any-has_room airport state flight class from nodes time queue none) done
+  carried_out-kept (command.ArrivalAny asked) block after spoken none done =
+      chosen-kept asked.flight asked.class (arrival_any_named airport asked) block after (arrival_any-has_room airport state asked none) done
+  carried_out-kept (command.DepartureAny asked) block after spoken none done =
+      chosen-kept asked.flight asked.class (departure_any_named airport asked) block after (departure_any-has_room airport state asked none) done
 
   of-refusal : (why : Refusal) (block : Block) (after : State) → IsOf (refused state why) block after → IsKept block after
   of-refusal why block after of = of-reply (refused state why) block after of (refused-kept why)
@@ -227,19 +228,19 @@ due-bad_line airport state line e = rw e (refl, refl)
 -- whether a command needs no memory
 pub needs_no_memory-or : (o : Option Command) → NeedsNoMemory o ⊎ (NeedsNoMemory o → ⊥)
 needs_no_memory-or None = inr (λ needs. needs)
-needs_no_memory-or (Some (command.File flight class start steps)) = inr (λ needs. needs)
-needs_no_memory-or (Some (command.Arrival flight class from to time hold)) = inr (λ needs. needs)
-needs_no_memory-or (Some (command.Departure flight class from to time queue)) = inr (λ needs. needs)
+needs_no_memory-or (Some (command.File filed)) = inr (λ needs. needs)
+needs_no_memory-or (Some (command.Arrival asked)) = inr (λ needs. needs)
+needs_no_memory-or (Some (command.Departure asked)) = inr (λ needs. needs)
 needs_no_memory-or (Some (command.Cancel flight)) = inl tt
 needs_no_memory-or (Some (command.Reroute flight time)) = inr (λ needs. needs)
 needs_no_memory-or (Some (command.Divert flight time node)) = inr (λ needs. needs)
 needs_no_memory-or (Some (command.Windows segment)) = inr (λ needs. needs)
 needs_no_memory-or (Some (command.Occupancy segment)) = inr (λ needs. needs)
 needs_no_memory-or (Some command.Timetable) = inr (λ needs. needs)
-needs_no_memory-or (Some (command.Work name segment from until)) = inr (λ needs. needs)
+needs_no_memory-or (Some (command.Work shut)) = inr (λ needs. needs)
 needs_no_memory-or (Some (command.WorkDone name)) = inl tt
-needs_no_memory-or (Some (command.ArrivalAny flight class from time hold stands)) = inr (λ needs. needs)
-needs_no_memory-or (Some (command.DepartureAny flight class from time queue nodes)) = inr (λ needs. needs)
+needs_no_memory-or (Some (command.ArrivalAny asked)) = inr (λ needs. needs)
+needs_no_memory-or (Some (command.DepartureAny asked)) = inr (λ needs. needs)
 
 cancel-due : (airport : Airport) (state : State) (name : List ℕ) → (reply : Reply) × IsDueTo airport state (command.Cancel name) reply.block reply.after
 cancel-due airport state name = go (is_in_force name state) refl where
@@ -266,9 +267,9 @@ reply-is_there airport state line = go (command_of line) refl where
   ] where
     by_due : (o : Option Command) → command_of line ≡ o → NeedsNoMemory o → (reply : Reply) × IsReply airport state line reply.block reply.after
     by_due None e needs = absurd needs
-    by_due (Some (command.File flight class start steps)) e needs = absurd needs
-    by_due (Some (command.Arrival flight class from to time hold)) e needs = absurd needs
-    by_due (Some (command.Departure flight class from to time queue)) e needs = absurd needs
+    by_due (Some (command.File filed)) e needs = absurd needs
+    by_due (Some (command.Arrival asked)) e needs = absurd needs
+    by_due (Some (command.Departure asked)) e needs = absurd needs
     by_due (Some (command.Cancel flight)) e needs =
         let due = cancel-due airport state flight in
         (due.0, as_due due.0.block due.0.after (due-command airport state line (command.Cancel flight) due.0.block due.0.after e due.1))
@@ -277,9 +278,9 @@ reply-is_there airport state line = go (command_of line) refl where
     by_due (Some (command.Windows segment)) e needs = absurd needs
     by_due (Some (command.Occupancy segment)) e needs = absurd needs
     by_due (Some command.Timetable) e needs = absurd needs
-    by_due (Some (command.Work name segment from until)) e needs = absurd needs
-    by_due (Some (command.ArrivalAny flight class from time hold stands)) e needs = absurd needs
-    by_due (Some (command.DepartureAny flight class from time queue nodes)) e needs = absurd needs
+    by_due (Some (command.Work shut)) e needs = absurd needs
+    by_due (Some (command.ArrivalAny asked)) e needs = absurd needs
+    by_due (Some (command.DepartureAny asked)) e needs = absurd needs
     by_due (Some (command.WorkDone name)) e needs =
         let due = work_done-due airport state name in
         (due.0, as_due due.0.block due.0.after (due-command airport state line (command.WorkDone name) due.0.block due.0.after e due.1))

@@ -1,7 +1,8 @@
 -- The table of what is found keeps the rules, and a table that keeps them leaves no walk out.
-use Rattle.std.proofs.Common.{◌≡◌, ℕ, ◌+◌, ◌-◌, ◌≤◌, max, List, [], ◌∷◌, Option, Some, None, refl, sym, subst, arith}
+use Rattle.std.proofs.Common.{◌≡◌, ℕ, ◌+◌, ◌-◌, ◌<◌, ◌≤◌, max, List, [], ◌∷◌, Option, Some, None, refl, sym, subst, arith}
 use Rattle.std.specs.Prelude.{MatchOption, ⊤}
 use Rattle.std.specs.Option.{option_map_or}
+use Rattle.std.proofs.lemmas.Option.{none-some}
 use Rattle.taxi_base.specs.declared.numbers.Node.{Node}
 use Rattle.taxi_base.specs.declared.rows.Step.{Step}
 use Rattle.taxi_base.specs.declared.rows.LabelRow.{LabelRow}
@@ -29,7 +30,7 @@ use Rattle.taxi_base.proofs.ChoiceLaws.{chosen-earliest, chosen-latest}
 use Rattle.taxi_base.proofs.AgainLaws.{end_of-back}
 use Rattle.certificate.specs.Asked.{AnswersRequest, Choice, arrival_any, departure_any, nodes_of, request_for, AnswersChoice}
 use Rattle.certificate.specs.CarriedOut.{second_of}
-use Rattle.certificate.specs.Sought.{UnderWay, Search, onward, backward, search_of, MeetsOneOf, IsWalkOnFor}
+use Rattle.certificate.specs.Sought.{UnderWay, Search, onward, backward, search_of, DoesAsAsked}
 use Rattle.certificate.specs.TableRules.{KeepsTable}
 use Rattle.certificate.proofs.FoundLaws.{labels_of, labels_of_chosen}
 use Rattle.certificate.proofs.ChoiceNames.{arrival-one, departure-one}
@@ -181,8 +182,18 @@ abbrev pub IsUnderWay : Conditions → List Node → Option UnderWay → Type 0
 IsUnderWay c others None = ⊤
 IsUnderWay c others (Some way) = (others ≡ []) × IsFeasibleWalk c way.steps
 
-abbrev IsMeant : Conditions → Request → List Node → Option UnderWay → List Step → Type 0
-IsMeant c request others way steps = MatchOption way (MeetsOneOf c request others steps) (λ w. IsWalkOnFor c request w steps)
+-- a walk that begins after a floor, where there is one
+abbrev IsMeant : Conditions → Request → List Node → Option UnderWay → Option ℕ → List Step → Type 0
+IsMeant c request others way floor steps = MatchOption floor (DoesAsAsked c request others way steps) (λ f. DoesAsAsked c request others way steps × (f < begin_of steps))
+
+meant-asked : (c : Conditions) (request : Request) (others : List Node) (way : Option UnderWay) (floor : Option ℕ) (steps : List Step) → IsMeant c request others way floor steps → DoesAsAsked c request others way steps
+meant-asked c request others way None steps meant = meant
+meant-asked c request others way (Some f) steps meant = meant.0
+
+-- only a departure has a floor
+abbrev pub HasFloorOf : Request → Option ℕ → Type 0
+HasFloorOf (request.Departure from to asked queue) floor = ⊤
+HasFloorOf _ floor = floor ≡ None
 
 -- a walk is no better than a second
 abbrev IsNoBetter : Request → ℕ → List Step → Type 0
@@ -192,7 +203,7 @@ IsNoBetter (request.Departure from to asked queue) second steps = begin_of steps
 
 module _ (c : Conditions) (fit : AreFit c) where
   table-sooner : (request : Request) (others : List Node) (way : Option UnderWay) → IsUnderWay c others way → (second : ℕ) (labels : List LabelRow)
-      → HasKeptTable c (search_of request others way) (Some second) labels → (steps : List Step) → IsMeant c request others way steps → IsNoBetter request second steps
+      → HasKeptTable c (search_of request others way) (Some second) labels → (steps : List Step) → DoesAsAsked c request others way steps → IsNoBetter request second steps
   table-sooner request.Filed others way walk second labels kept steps meant = tt
   table-sooner (request.Arrival from to asked hold) others None walk second labels kept steps meant =
       begun_none_sooner c fit (at_node from asked (asked + hold)) tt (to ∷ others) second labels (to_forward c (at_node from asked (asked + hold)) (to ∷ others) (Some second) labels kept) steps
@@ -217,14 +228,14 @@ module _ (c : Conditions) (fit : AreFit c) where
       ended_none_later c fit (to ∷ []) (asked - queue) asked from second labels
       (to_backward c from (to ∷ []) (asked - queue) asked (Some second) labels (subst (λ (ns : List Node). KeepsTable c (backward from (to ∷ ns) (asked - queue) asked) (Some second) labels) walk.0 kept)) steps meant
 
-  -- where there is no bound there is no walk that is sought
-  pub table-none : (request : Request) (others : List Node) (way : Option UnderWay) → IsUnderWay c others way → (labels : List LabelRow)
-      → HasKeptTable c (search_of request others way) None labels → (steps : List Step) → IsMeant c request others way steps → ⊥
-  table-none request.Filed others way walk labels kept steps meant = kept
-  table-none (request.Arrival from to asked hold) others None walk labels kept steps meant =
+  -- where there is no bound no walk does as is asked
+  table-none_at_all : (request : Request) (others : List Node) (way : Option UnderWay) → IsUnderWay c others way → (labels : List LabelRow)
+      → HasKeptTable c (search_of request others way) None labels → (steps : List Step) → DoesAsAsked c request others way steps → ⊥
+  table-none_at_all request.Filed others way walk labels kept steps meant = kept
+  table-none_at_all (request.Arrival from to asked hold) others None walk labels kept steps meant =
       begun_none_at_all c fit (at_node from asked (asked + hold)) tt (to ∷ others) labels (to_forward c (at_node from asked (asked + hold)) (to ∷ others) None labels kept) steps
       (arrival-one c from to others asked hold steps meant)
-  table-none (request.Arrival from to asked hold) others (Some way) walk labels kept steps meant =
+  table-none_at_all (request.Arrival from to asked hold) others (Some way) walk labels kept steps meant =
       go (step_begun way.time way.steps) refl
       (subst (λ (ns : List Node). KeepsTable c (onward (option_map_or (λ begun. resuming begun way.time) (step_begun way.time way.steps) at_start) (to ∷ ns)) None labels) walk.0 kept) meant
     where
@@ -237,18 +248,32 @@ module _ (c : Conditions) (fit : AreFit c) where
       go None e kept meant = begun_none_at_all c fit at_start tt (to ∷ []) labels (to_forward c at_start (to ∷ []) None labels kept) steps meant
       go (Some begun) e kept meant =
           resumed_none_at_all c fit way.steps walk.1 way.time begun e to labels (to_forward c (resuming begun way.time) (to ∷ []) None labels kept) steps meant
-  table-none (request.Departure from to asked queue) others None walk labels kept steps meant =
+  table-none_at_all (request.Departure from to asked queue) others None walk labels kept steps meant =
       ended_none_at_all c fit (to ∷ others) (asked - queue) asked from labels (to_backward c from (to ∷ others) (asked - queue) asked None labels kept) steps
       (departure-one c from to others asked queue steps meant)
-  table-none (request.Departure from to asked queue) others (Some way) walk labels kept steps meant =
+  table-none_at_all (request.Departure from to asked queue) others (Some way) walk labels kept steps meant =
       ended_none_at_all c fit (to ∷ []) (asked - queue) asked from labels
       (to_backward c from (to ∷ []) (asked - queue) asked None labels (subst (λ (ns : List Node). KeepsTable c (backward from (to ∷ ns) (asked - queue) asked) None labels) walk.0 kept)) steps meant
 
+  -- where the bound is the floor, if there is one, there is no walk that is sought
+  pub table-none : (request : Request) (others : List Node) (way : Option UnderWay) → IsUnderWay c others way → (floor : Option ℕ) → HasFloorOf request floor → (labels : List LabelRow)
+      → HasKeptTable c (search_of request others way) floor labels → (steps : List Step) → IsMeant c request others way floor steps → ⊥
+  table-none request others way walk None has labels kept steps meant = table-none_at_all request others way walk labels kept steps meant
+  table-none request.Filed others way walk (Some f) has labels kept steps meant = kept
+  table-none (request.Arrival from to asked hold) others way walk (Some f) has labels kept steps meant = absurd (none-some f (sym has))
+  table-none (request.Departure from to asked queue) others way walk (Some f) has labels kept steps meant =
+      let by : begin_of steps ≤ f = table-sooner (request.Departure from to asked queue) others way walk f labels kept steps meant.0 in
+      omega (arith, by, meant.1)
+
   -- a walk that is sought is the best one, where its second is the bound of a table that keeps the rules
-  pub table-best : (request : Request) (others : List Node) (way : Option UnderWay) → IsUnderWay c others way → (steps : List Step) (labels : List LabelRow) → IsMeant c request others way steps
-      → HasKeptTable c (search_of request others way) (Some (second_of request steps)) labels → IsBestFor request (IsMeant c request others way) steps
-  table-best request.Filed others way walk steps labels one kept = kept
-  table-best (request.Arrival from to asked hold) others way walk steps labels one kept =
-      record { one = one; earliest = λ walks meant. table-sooner (request.Arrival from to asked hold) others way walk (end_of steps) labels kept walks meant }
-  table-best (request.Departure from to asked queue) others way walk steps labels one kept =
-      record { one = one; latest = λ walks meant. table-sooner (request.Departure from to asked queue) others way walk (begin_of steps) labels kept walks meant }
+  pub table-best : (request : Request) (others : List Node) (way : Option UnderWay) → IsUnderWay c others way → (floor : Option ℕ) (steps : List Step) (labels : List LabelRow) → IsMeant c request others way floor steps
+      → HasKeptTable c (search_of request others way) (Some (second_of request steps)) labels → IsBestFor request (IsMeant c request others way floor) steps
+  table-best request.Filed others way walk floor steps labels one kept = kept
+  table-best (request.Arrival from to asked hold) others way walk floor steps labels one kept = record {
+    one = one;
+    earliest = λ other meant. table-sooner (request.Arrival from to asked hold) others way walk (end_of steps) labels kept other (meant-asked c (request.Arrival from to asked hold) others way floor other meant);
+  }
+  table-best (request.Departure from to asked queue) others way walk floor steps labels one kept = record {
+    one = one;
+    latest = λ other meant. table-sooner (request.Departure from to asked queue) others way walk (begin_of steps) labels kept other (meant-asked c (request.Departure from to asked queue) others way floor other meant);
+  }

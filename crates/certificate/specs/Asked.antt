@@ -13,6 +13,10 @@ use Rattle.taxi_base.specs.declared.answers.Chosen.{Chosen}
 use Rattle.taxi_base.specs.Labels.{AnswersArrival, AnswersDeparture}
 use Rattle.taxi_base.specs.Choices.{AnswersArrivalChoice, AnswersDepartureChoice}
 use Rattle.taxi_text.specs.declared.command.FiledStep.{FiledStep}
+use Rattle.taxi_text.specs.declared.command.Asked.{Asked}
+use Rattle.taxi_text.specs.declared.command.AskedAny.{AskedAny}
+use Rattle.taxi_text.specs.declared.command.Filed.{Filed}
+use Rattle.taxi_text.specs.declared.command.Shut.{Shut}
 use Rattle.taxi_text.specs.declared.command.Command.{Command}
 use Rattle.taxi_text.specs.declared.command.Command.TheVariants as command
 use Rattle.taxi_text.specs.Commands.{is_step_count, is_choice_count}
@@ -28,37 +32,41 @@ filed_steps airport enter (filed ∷ rest) =
     option_and_then (λ arc. option_map (λ steps. record { arc = arc; enter = enter; leave = filed.leave } ∷ steps) (filed_steps airport filed.leave rest))
     (arc_named airport filed.segment filed.forward)
 
+-- the steps of a route given by hand
+abbrev pub route_filed : Airport → Filed → Option (List Step)
+route_filed airport filed = filed_steps airport filed.start filed.steps
+
 -- What the grammar promises of a command: the name that a flight or a work party has or is to have is a name, times have at
 -- most 7 digits, a route given by hand has 1 to 256 steps, and a choice 1 to 16 nodes.
 abbrev pub IsInGrammar : Command → Type 0
-IsInGrammar (command.File flight class start steps) = IsName flight × IsTrue (is_step_count (length steps))
-IsInGrammar (command.Arrival flight class from to time hold) = IsName flight × IsShort time × IsShort hold
-IsInGrammar (command.Departure flight class from to time queue) = IsName flight × IsShort time × IsShort queue
+IsInGrammar (command.File filed) = IsName filed.flight × IsTrue (is_step_count (length filed.steps))
+IsInGrammar (command.Arrival asked) = IsName asked.flight × IsShort asked.time × IsShort asked.slack
+IsInGrammar (command.Departure asked) = IsName asked.flight × IsShort asked.time × IsShort asked.slack
 IsInGrammar (command.Cancel flight) = IsName flight
 IsInGrammar (command.Reroute flight time) = IsName flight × IsShort time
 IsInGrammar (command.Divert flight time node) = IsName flight × IsShort time
-IsInGrammar (command.Work name segment from until) = IsName name × IsShort from × IsShort until
+IsInGrammar (command.Work shut) = IsName shut.name × IsShort shut.from × IsShort shut.until
 IsInGrammar (command.WorkDone name) = IsName name
-IsInGrammar (command.ArrivalAny flight class from time hold stands) = IsName flight × IsShort time × IsShort hold × IsTrue (is_choice_count (length stands))
-IsInGrammar (command.DepartureAny flight class from time queue nodes) = IsName flight × IsShort time × IsShort queue × IsTrue (is_choice_count (length nodes))
+IsInGrammar (command.ArrivalAny asked) = IsName asked.flight × IsShort asked.time × IsShort asked.slack × IsTrue (is_choice_count (length asked.nodes))
+IsInGrammar (command.DepartureAny asked) = IsName asked.flight × IsShort asked.time × IsShort asked.slack × IsTrue (is_choice_count (length asked.nodes))
 IsInGrammar _ = ⊤
 
 -- ---- a segment to be shut
 
--- the work party of a name that shuts a segment for a span
-abbrev pub party_of : List ℕ → Segment → ℕ → ℕ → Party
-party_of name segment from until = record { name = name; segment = segment; from = from; until = until }
+-- the work party that shuts a segment as was asked
+abbrev pub party_of : Shut → Segment → Party
+party_of shut segment = record { name = shut.name; segment = segment; from = shut.from; until = shut.until }
 
 -- ---- a route to be found
 
--- the request between the nodes of two names; none where a name is no node's
-abbrev pub arrival_named : Airport → List ℕ → List ℕ → ℕ → ℕ → Option Request
-arrival_named airport from to time hold =
-    option_and_then (λ start. option_map (λ target. request.Arrival start target time hold) (node_named airport to)) (node_named airport from)
+-- the request between the nodes of the two names; none where a name is no node's
+abbrev pub arrival_named : Airport → Asked → Option Request
+arrival_named airport asked =
+    option_and_then (λ start. option_map (λ target. request.Arrival start target asked.time asked.slack) (node_named airport asked.to)) (node_named airport asked.from)
 
-abbrev pub departure_named : Airport → List ℕ → List ℕ → ℕ → ℕ → Option Request
-departure_named airport from to time queue =
-    option_and_then (λ start. option_map (λ target. request.Departure start target time queue) (node_named airport to)) (node_named airport from)
+abbrev pub departure_named : Airport → Asked → Option Request
+departure_named airport asked =
+    option_and_then (λ start. option_map (λ target. request.Departure start target asked.time asked.slack) (node_named airport asked.to)) (node_named airport asked.from)
 
 -- what is found for a request: the picked route with its labels, or that there is no walk, with all labels
 abbrev pub AnswersRequest : Conditions → Request → Found → Type 0
@@ -87,14 +95,14 @@ abbrev pub nodes_named : Airport → List (List ℕ) → Option (List Node)
 nodes_named airport [] = Some []
 nodes_named airport (name ∷ names) = option_and_then (λ node. option_map (λ nodes. node ∷ nodes) (nodes_named airport names)) (node_named airport name)
 
--- the choice between the nodes of names
-abbrev pub arrival_any_named : Airport → List ℕ → List (List ℕ) → ℕ → ℕ → Option Choice
-arrival_any_named airport from stands time hold =
-    option_and_then (λ start. option_map (λ nodes. arrival_any start nodes time hold) (nodes_named airport stands)) (node_named airport from)
+-- the choice between the nodes of the names
+abbrev pub arrival_any_named : Airport → AskedAny → Option Choice
+arrival_any_named airport asked =
+    option_and_then (λ start. option_map (λ nodes. arrival_any start nodes asked.time asked.slack) (nodes_named airport asked.nodes)) (node_named airport asked.from)
 
-abbrev pub departure_any_named : Airport → List ℕ → List (List ℕ) → ℕ → ℕ → Option Choice
-departure_any_named airport from nodes time queue =
-    option_and_then (λ start. option_map (λ nodes. departure_any start nodes time queue) (nodes_named airport nodes)) (node_named airport from)
+abbrev pub departure_any_named : Airport → AskedAny → Option Choice
+departure_any_named airport asked =
+    option_and_then (λ start. option_map (λ nodes. departure_any start nodes asked.time asked.slack) (nodes_named airport asked.nodes)) (node_named airport asked.from)
 
 -- what is found for a choice: the chosen node with the picked route to it and the labels, or that there is no walk, with all labels
 abbrev pub AnswersChoice : Conditions → Choice → Chosen → Type 0

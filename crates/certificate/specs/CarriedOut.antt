@@ -21,12 +21,13 @@ use Rattle.taxi_base.specs.State.{State, flight_named, parties_without, with_fli
 use Rattle.taxi_base.specs.Faults.{conditions_in}
 use Rattle.taxi_base.specs.Again.{retargeted, IsTarget, AnswersAgain}
 use Rattle.taxi_base.specs.Reports.{timetable_rows, AreHeldRows}
-use Rattle.taxi_text.specs.declared.command.FiledStep.{FiledStep}
+use Rattle.taxi_text.specs.declared.command.Filed as filing
+use Rattle.taxi_text.specs.declared.command.Shut.{Shut}
 use Rattle.taxi_text.specs.declared.command.Command.{Command}
 use Rattle.taxi_text.specs.declared.command.Command.TheVariants as command
 use Rattle.certificate.specs.declared.block.Block.{Block}
 use Rattle.certificate.specs.declared.block.Block.TheVariants.{Filed, Cancelled, Route, NoRoute, Windows, Occupancy, Timetable}
-use Rattle.certificate.specs.Asked.{filed_steps, party_of, arrival_named, departure_named, AnswersRequest, Choice, request_for, arrival_any_named, departure_any_named, AnswersChoice}
+use Rattle.certificate.specs.Asked.{route_filed, party_of, arrival_named, departure_named, AnswersRequest, Choice, request_for, arrival_any_named, departure_any_named, AnswersChoice}
 
 -- what is answered, and the state afterwards
 pub record Reply : Type 0 where
@@ -47,12 +48,12 @@ abbrev pub filed_reply : State → List ℕ → Class → List Step → Reply
 filed_reply state name class steps =
     record { block = Filed name (begin_of steps) (end_of steps); after = with_flight (filed_flight name class steps) state }
 
-pub record IsFiled (airport : Airport) (state : State) (name class_name : List ℕ) (start : ℕ) (filed : List FiledStep) (block : Block) (after : State) : Type 0 where
+pub record IsFiled (airport : Airport) (state : State) (asked : filing.Filed) (block : Block) (after : State) : Type 0 where
   pub class : Class
   pub steps : List Step
-  pub class_known : class_named airport class_name ≡ Some class
-  pub steps_known : filed_steps airport start filed ≡ Some steps
-  pub reply : IsOf (filed_reply state name class steps) block after
+  pub class_known : class_named airport asked.class ≡ Some class
+  pub steps_known : route_filed airport asked ≡ Some steps
+  pub reply : IsOf (filed_reply state asked.flight class steps) block after
 
 -- ---- a route that was found
 
@@ -114,10 +115,10 @@ pub record IsRoutedAgain (airport : Airport) (state : State) (name : List ℕ) (
 abbrev pub shut_reply : State → Party → Reply
 shut_reply state party = record { block = Filed party.name party.from party.until; after = with_party party state }
 
-pub record IsShut (airport : Airport) (state : State) (name segment_name : List ℕ) (from until : ℕ) (block : Block) (after : State) : Type 0 where
+pub record IsShut (airport : Airport) (state : State) (shut : Shut) (block : Block) (after : State) : Type 0 where
   pub segment : Segment
-  pub segment_known : segment_named airport segment_name ≡ Some segment
-  pub reply : IsOf (shut_reply state (party_of name segment from until)) block after
+  pub segment_known : segment_named airport shut.segment ≡ Some segment
+  pub reply : IsOf (shut_reply state (party_of shut segment)) block after
 
 -- the party is out
 abbrev pub opened_reply : State → List ℕ → Reply
@@ -159,18 +160,16 @@ timetable_reply state = record { block = Timetable (timetable_rows state); after
 -- ---- every command
 
 abbrev pub IsCarriedOut : Airport → State → Command → Block → State → Type 0
-IsCarriedOut airport state (command.File flight class start steps) = IsFiled airport state flight class start steps
-IsCarriedOut airport state (command.Arrival flight class from to time hold) = IsRouted airport state flight class (arrival_named airport from to time hold)
-IsCarriedOut airport state (command.Departure flight class from to time queue) = IsRouted airport state flight class (departure_named airport from to time queue)
+IsCarriedOut airport state (command.File filed) = IsFiled airport state filed
+IsCarriedOut airport state (command.Arrival asked) = IsRouted airport state asked.flight asked.class (arrival_named airport asked)
+IsCarriedOut airport state (command.Departure asked) = IsRouted airport state asked.flight asked.class (departure_named airport asked)
 IsCarriedOut airport state (command.Cancel flight) = IsOf (cancelled_reply state flight)
 IsCarriedOut airport state (command.Reroute flight time) = IsRoutedAgain airport state flight time IsTarget
 IsCarriedOut airport state (command.Divert flight time node) = IsRoutedAgain airport state flight time (λ asked target. node_named airport node ≡ Some target)
 IsCarriedOut airport state (command.Windows segment) = AreWindowsTold airport state segment
 IsCarriedOut airport state (command.Occupancy segment) = IsOccupancyTold airport state segment
 IsCarriedOut airport state command.Timetable = IsOf (timetable_reply state)
-IsCarriedOut airport state (command.Work name segment from until) = IsShut airport state name segment from until
+IsCarriedOut airport state (command.Work shut) = IsShut airport state shut
 IsCarriedOut airport state (command.WorkDone name) = IsOf (opened_reply state name)
-IsCarriedOut airport state (command.ArrivalAny flight class from time hold stands) =
-    IsRoutedToOne airport state flight class (arrival_any_named airport from stands time hold)
-IsCarriedOut airport state (command.DepartureAny flight class from time queue nodes) =
-    IsRoutedToOne airport state flight class (departure_any_named airport from nodes time queue)
+IsCarriedOut airport state (command.ArrivalAny asked) = IsRoutedToOne airport state asked.flight asked.class (arrival_any_named airport asked)
+IsCarriedOut airport state (command.DepartureAny asked) = IsRoutedToOne airport state asked.flight asked.class (departure_any_named airport asked)

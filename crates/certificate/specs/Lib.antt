@@ -6,5 +6,6 @@ pub mod Refusals
 pub mod CarriedOut
 pub mod Replies
 pub mod Sought
+pub mod Turns
 pub mod TableRules
 pub mod Passes

@@ -1,6 +1,6 @@
 -- Which blocks pass a check in a state, by which rule does one fail first, and what is in force afterwards? No rule speaks of
 -- best walks, of tables that are whole or of how a route is picked.
-use Rattle.std.specs.Prelude.{ℕ, ◌≡◌, ◌⊎◌, ◌<◌, List, Option, Some, None, IsTrue, MatchOption, ⊤}
+use Rattle.std.specs.Prelude.{ℕ, ◌≡◌, ◌⊎◌, ◌<◌, List, [], ◌∷◌, map, All, Option, Some, None, IsTrue, MatchOption, ⊤}
 use Rattle.taxi_base.specs.declared.answers.Refusal.TheVariants as refusal
 use Rattle.taxi_base.specs.declared.rows.LabelRow.{LabelRow}
 use Rattle.taxi_base.specs.Airport.{Airport}
@@ -16,7 +16,8 @@ use Rattle.certificate.specs.declared.rule.Rule.TheVariants as rule
 use Rattle.certificate.specs.CarriedOut.{second_of, IsCarriedOut}
 use Rattle.certificate.specs.Refusals.{first_refusal}
 use Rattle.certificate.specs.Replies.{IsDue, NeedsNoMemory}
-use Rattle.certificate.specs.Sought.{Sought, Search, sought_of, sought_by, search_of, IsWalkFor}
+use Rattle.certificate.specs.Sought.{Sought, Search, sought_of, search_of, IsWalkFor}
+use Rattle.certificate.specs.Turns.{Turn, told_in, turns_of, after_turns}
 use Rattle.certificate.specs.TableRules.{KeepsRows, KeepsStart, KeepsStep, KeepsTarget}
 
 -- ---- the first rule, reply
@@ -49,10 +50,10 @@ abbrev pub KeepsWalk : Sought → Block → Type 0
 KeepsWalk s (Route name second steps labels) = IsWalkFor s steps × (second_of s.request steps ≡ second)
 KeepsWalk s _ = ⊤
 
--- a rule for the table of a block, whose bound is the second of its route
+-- a rule for the table of a block, whose bound is the second of its route, or the floor where there is none
 abbrev pub OfTable : (Search → Option ℕ → List LabelRow → Type 0) → Sought → Block → Type 0
 OfTable Holds s (Route name second steps labels) = MatchOption (search_of s.request s.others s.under_way) ⊥ (λ search. Holds search (Some second) labels)
-OfTable Holds s (NoRoute labels) = MatchOption (search_of s.request s.others s.under_way) ⊥ (λ search. Holds search None labels)
+OfTable Holds s (NoRoute labels) = MatchOption (search_of s.request s.others s.under_way) ⊥ (λ search. Holds search s.floor labels)
 OfTable Holds s _ = ⊤
 
 abbrev pub KeepsSought : Rule → Sought → Block → Type 0
@@ -63,49 +64,62 @@ KeepsSought rule.Start s = OfTable (KeepsStart s.conditions) s
 KeepsSought rule.Step s = OfTable (KeepsStep s.conditions) s
 KeepsSought rule.Target s = OfTable (KeepsTarget s.conditions) s
 
+-- the same of a turn
+abbrev pub KeepsTurn : Turn → Rule → Type 0
+KeepsTurn turn rule = KeepsSought rule turn.sought turn.told
+
 -- ---- all rules
 
--- a block keeps a rule
+-- a block keeps a rule: the first one as a whole, and the others in each of its searches
 abbrev pub Keeps : Airport → State → List ℕ → Block → Rule → Type 0
 Keeps airport state line block rule.Reply = KeepsReply airport state line block
-Keeps airport state line block rule.Walk = MatchOption (sought_by airport state line) ⊤ (λ s. KeepsSought rule.Walk s block)
-Keeps airport state line block rule.Rows = MatchOption (sought_by airport state line) ⊤ (λ s. KeepsSought rule.Rows s block)
-Keeps airport state line block rule.Start = MatchOption (sought_by airport state line) ⊤ (λ s. KeepsSought rule.Start s block)
-Keeps airport state line block rule.Step = MatchOption (sought_by airport state line) ⊤ (λ s. KeepsSought rule.Step s block)
-Keeps airport state line block rule.Target = MatchOption (sought_by airport state line) ⊤ (λ s. KeepsSought rule.Target s block)
+Keeps airport state line block rule = All (λ turn. KeepsTurn turn rule) (turns_of airport state line block)
 
 -- the order in which the rules are tried
-abbrev pub turn_of : Rule → ℕ
-turn_of rule.Reply = 0
-turn_of rule.Walk = 1
-turn_of rule.Rows = 2
-turn_of rule.Start = 3
-turn_of rule.Step = 4
-turn_of rule.Target = 5
+abbrev pub rank_of : Rule → ℕ
+rank_of rule.Reply = 0
+rank_of rule.Walk = 1
+rank_of rule.Rows = 2
+rank_of rule.Start = 3
+rank_of rule.Step = 4
+rank_of rule.Target = 5
 
--- the first rule that a block breaks
-pub record IsFirstBroken (airport : Airport) (state : State) (line : List ℕ) (block : Block) (rule : Rule) : Type 0 where
-  pub broken : Keeps airport state line block rule → ⊥
-  pub before : (other : Rule) → turn_of other < turn_of rule → Keeps airport state line block other
+-- none of the rules is broken; or one is, and each before it is kept
+abbrev pub IsFirstOf : (Rule → Type 0) → Option Rule → Type 0
+IsFirstOf IsKept None = (rule : Rule) → IsKept rule
+IsFirstOf IsKept (Some rule) = (IsKept rule → ⊥) × ((other : Rule) → rank_of other < rank_of rule → IsKept other)
+
+-- the first rule that turns break: the first turn that breaks one breaks it first
+abbrev pub BreaksFirst : List Turn → Rule → Type 0
+BreaksFirst [] rule = ⊥
+BreaksFirst (turn ∷ later) rule = IsFirstOf (KeepsTurn turn) (Some rule) ⊎ (IsFirstOf (KeepsTurn turn) None × BreaksFirst later rule)
+
+-- the first rule that a block breaks: reply, or where it keeps that one, the first that its turns break
+abbrev pub IsFirstBroken : Airport → State → List ℕ → Block → Rule → Type 0
+IsFirstBroken airport state line block rule.Reply = KeepsReply airport state line block → ⊥
+IsFirstBroken airport state line block rule = KeepsReply airport state line block × BreaksFirst (turns_of airport state line block) rule
 
 -- ---- what passes
 
--- a route is in force afterwards on the steps that are told; what else passes leaves the state that is due
+-- What is filed or cancelled leaves the state that is due, and every other block that after its searches: a route is in force on the
+-- steps that are told.
 abbrev pub IsAfter : Airport → State → List ℕ → Block → State → Type 0
-IsAfter airport state line (Route name second steps labels) after = MatchOption (sought_by airport state line) ⊥ (λ s. after ≡ s.with_steps steps)
 IsAfter airport state line (Filed name start end) after = IsDue airport state line (Filed name start end) after
 IsAfter airport state line (Cancelled name) after = IsDue airport state line (Cancelled name) after
-IsAfter airport state line _ after = after ≡ state
+IsAfter airport state line block after = after ≡ after_turns state (turns_of airport state line block)
 
 -- a block that keeps every rule passes, and this is the state afterwards
 pub record IsPassed (airport : Airport) (state : State) (line : List ℕ) (block : Block) (after : State) : Type 0 where
   pub keeps : (rule : Rule) → Keeps airport state line block rule
   pub after_it : IsAfter airport state line block after
 
--- What a block that passes says of walks is so: a route is the best walk that is sought, with its second, and where there is no
--- route no walk is.
-abbrev pub TellsBest : Airport → State → List ℕ → Block → Type 0
-TellsBest airport state line (Route name second steps labels) =
-    (s : Sought) × (sought_by airport state line ≡ Some s) × IsBestFor s.request (IsWalkFor s) steps × (second_of s.request steps ≡ second)
-TellsBest airport state line (NoRoute labels) = (s : Sought) × (sought_by airport state line ≡ Some s) × ((steps : List Step) → IsWalkFor s steps → ⊥)
-TellsBest airport state line _ = ⊤
+-- What is told of a search is so: a route is the best walk that is sought, with its second, and where there is no route no walk is.
+abbrev pub IsBestTold : Sought → Block → Type 0
+IsBestTold s (Route name second steps labels) = IsBestFor s.request (IsWalkFor s) steps × (second_of s.request steps ≡ second)
+IsBestTold s (NoRoute labels) = (steps : List Step) → IsWalkFor s steps → ⊥
+IsBestTold s _ = ⊤
+
+-- whatever a block tells of searches has its turn, and is so
+pub record TellsBest (airport : Airport) (state : State) (line : List ℕ) (block : Block) : Type 0 where
+  pub all_told : map (λ turn. turn.told) (turns_of airport state line block) ≡ told_in block
+  pub best : All (λ turn. IsBestTold turn.sought turn.told) (turns_of airport state line block)

@@ -1,22 +1,21 @@
 -- Which refusal is a command due, of several the first?
-use Rattle.std.specs.Prelude.{ℕ, Bool, true, false, not, ◌&&◌, nat_le, if◌then◌else◌, List, [], ◌∷◌, Option, Some, None, is_some, is_none, slice_get, option_map, option_and_then}
-use Rattle.std.specs.Option.{option_map_or}
+use Rattle.std.specs.Prelude.{ℕ, Bool, true, false, not, ◌&&◌, nat_le, if◌then◌else◌, List, [], ◌∷◌, Option, Some, None, is_some, is_none, option_map, option_and_then}
 use Rattle.std.specs.List.{list_any}
 use Rattle.taxi_base.specs.declared.rows.Kind.{Kind}
-use Rattle.taxi_base.specs.declared.rows.Kind.TheVariants.{Runway, Stand}
 use Rattle.taxi_base.specs.declared.answers.Request.{Request}
 use Rattle.taxi_base.specs.declared.answers.Request.TheVariants as request
 use Rattle.taxi_base.specs.declared.answers.Flight.{Flight}
 use Rattle.taxi_base.specs.declared.answers.Refusal.{Refusal}
 use Rattle.taxi_base.specs.declared.answers.Refusal.TheVariants as refusal
-use Rattle.taxi_base.specs.Airport.{Airport, node_named, class_named, segment_named}
+use Rattle.taxi_base.specs.Airport.{Airport, node_named, class_named, segment_named, is_runway, is_stand, is_node_of}
 use Rattle.taxi_base.specs.Walks.{begin_of, end_of}
 use Rattle.taxi_base.specs.State.{State, flight_named, party_named, party_hold, holder_count, has_holder}
 use Rattle.taxi_base.specs.Faults.{route_fault, hold_fault}
-use Rattle.taxi_text.specs.declared.command.FiledStep.{FiledStep}
+use Rattle.taxi_text.specs.declared.command.Filed.{Filed}
+use Rattle.taxi_text.specs.declared.command.Shut.{Shut}
 use Rattle.taxi_text.specs.declared.command.Command.{Command}
 use Rattle.taxi_text.specs.declared.command.Command.TheVariants as command
-use Rattle.certificate.specs.Asked.{filed_steps, party_of, nodes_named}
+use Rattle.certificate.specs.Asked.{route_filed, party_of, nodes_named}
 
 -- a refusal where a test holds
 abbrev pub refused_if : Bool → Refusal → Option Refusal
@@ -39,19 +38,6 @@ is_at_work name state = is_some (party_named name state.parties)
 -- how many holders there may be
 abbrev pub most_holders : ℕ
 most_holders = 4096
-
-abbrev pub is_runway : Kind → Bool
-is_runway Runway = true
-is_runway _ = false
-
-abbrev pub is_stand : Kind → Bool
-is_stand Stand = true
-is_stand _ = false
-
--- whether a name is that of a node of a kind
-abbrev pub is_node_of : (Kind → Bool) → Airport → List ℕ → Bool
-is_node_of is_kind airport name =
-    option_map_or (λ node. option_map_or (λ row. is_kind row.kind) (slice_get airport.nodes node.0) false) (node_named airport name) false
 
 abbrev pub is_filed : Request → Bool
 is_filed request.Filed = true
@@ -91,8 +77,8 @@ abbrev pub unknown_segment : Airport → List ℕ → Option Refusal
 unknown_segment airport segment = refused_if (is_none (segment_named airport segment)) refusal.UnknownSegment
 
 -- a step of a route given by hand names no segment, or an arc that its segment lacks
-abbrev pub unknown_arc : Airport → ℕ → List FiledStep → Option Refusal
-unknown_arc airport start filed = refused_if (is_none (filed_steps airport start filed)) refusal.UnknownSegment
+abbrev pub unknown_arc : Airport → Filed → Option Refusal
+unknown_arc airport filed = refused_if (is_none (route_filed airport filed)) refusal.UnknownSegment
 
 abbrev pub not_in_force : State → List ℕ → Option Refusal
 not_in_force state name = refused_if (not (is_in_force name state)) refusal.NotInForce
@@ -124,29 +110,27 @@ abbrev pub full : State → Option Refusal
 full state = refused_if (nat_le most_holders (holder_count state)) refusal.Full
 
 -- a step of a route given by hand fails
-abbrev pub step_fails : Airport → State → List ℕ → ℕ → List FiledStep → Option Refusal
-step_fails airport state class start filed =
-    option_and_then
-    (λ class. option_and_then (λ steps. option_map (λ fault. refusal.Step fault) (route_fault airport class state steps)) (filed_steps airport start filed))
-    (class_named airport class)
+abbrev pub step_fails : Airport → State → Filed → Option Refusal
+step_fails airport state filed =
+    option_and_then (λ class. option_and_then (λ steps. option_map (λ fault. refusal.Step fault) (route_fault airport class state steps)) (route_filed airport filed))
+    (class_named airport filed.class)
 
 -- the work party may not shut its segment
-abbrev pub hold_fails : Airport → State → List ℕ → List ℕ → ℕ → ℕ → Option Refusal
-hold_fails airport state name segment from until =
-    option_and_then (λ s. option_map (λ fault. refusal.Step fault) (hold_fault airport state (party_hold (party_of name s from until)))) (segment_named airport segment)
+abbrev pub hold_fails : Airport → State → Shut → Option Refusal
+hold_fails airport state shut =
+    option_and_then (λ segment. option_map (λ fault. refusal.Step fault) (hold_fault airport state (party_hold (party_of shut segment)))) (segment_named airport shut.segment)
 
 -- ---- the table: what each command is tried for
 
 abbrev pub first_refusal : Airport → State → Command → Option Refusal
-first_refusal airport state (command.File flight class start steps) =
-    first_of (in_force state flight ∷ unknown_class airport class ∷ unknown_arc airport start steps ∷ full state
-    ∷ step_fails airport state class start steps ∷ [])
-first_refusal airport state (command.Arrival flight class from to time hold) =
-    first_of (in_force state flight ∷ unknown_class airport class ∷ unknown_node airport from ∷ unknown_node airport to
-    ∷ no_runway airport from ∷ no_stand airport to ∷ full state ∷ [])
-first_refusal airport state (command.Departure flight class from to time queue) =
-    first_of (in_force state flight ∷ unknown_class airport class ∷ unknown_node airport from ∷ unknown_node airport to
-    ∷ no_stand airport from ∷ no_runway airport to ∷ full state ∷ [])
+first_refusal airport state (command.File filed) =
+    first_of (in_force state filed.flight ∷ unknown_class airport filed.class ∷ unknown_arc airport filed ∷ full state ∷ step_fails airport state filed ∷ [])
+first_refusal airport state (command.Arrival asked) =
+    first_of (in_force state asked.flight ∷ unknown_class airport asked.class ∷ unknown_node airport asked.from ∷ unknown_node airport asked.to
+    ∷ no_runway airport asked.from ∷ no_stand airport asked.to ∷ full state ∷ [])
+first_refusal airport state (command.Departure asked) =
+    first_of (in_force state asked.flight ∷ unknown_class airport asked.class ∷ unknown_node airport asked.from ∷ unknown_node airport asked.to
+    ∷ no_stand airport asked.from ∷ no_runway airport asked.to ∷ full state ∷ [])
 first_refusal airport state (command.Cancel flight) = first_of (not_in_force state flight ∷ [])
 first_refusal airport state (command.Reroute flight time) =
     first_of (not_in_force state flight ∷ of_flight state flight not_routed ∷ of_flight state flight (already_done time)
@@ -157,12 +141,12 @@ first_refusal airport state (command.Divert flight time node) =
 first_refusal airport state (command.Windows segment) = first_of (unknown_segment airport segment ∷ [])
 first_refusal airport state (command.Occupancy segment) = first_of (unknown_segment airport segment ∷ [])
 first_refusal airport state command.Timetable = None
-first_refusal airport state (command.Work name segment from until) =
-    first_of (in_force state name ∷ unknown_segment airport segment ∷ full state ∷ hold_fails airport state name segment from until ∷ [])
+first_refusal airport state (command.Work shut) =
+    first_of (in_force state shut.name ∷ unknown_segment airport shut.segment ∷ full state ∷ hold_fails airport state shut ∷ [])
 first_refusal airport state (command.WorkDone name) = first_of (not_at_work state name ∷ [])
-first_refusal airport state (command.ArrivalAny flight class from time hold stands) =
-    first_of (in_force state flight ∷ unknown_class airport class ∷ unknown_node airport from ∷ unknown_node_of airport stands
-    ∷ no_runway airport from ∷ not_all is_stand airport stands ∷ full state ∷ [])
-first_refusal airport state (command.DepartureAny flight class from time queue nodes) =
-    first_of (in_force state flight ∷ unknown_class airport class ∷ unknown_node airport from ∷ unknown_node_of airport nodes
-    ∷ no_stand airport from ∷ not_all is_runway airport nodes ∷ full state ∷ [])
+first_refusal airport state (command.ArrivalAny asked) =
+    first_of (in_force state asked.flight ∷ unknown_class airport asked.class ∷ unknown_node airport asked.from ∷ unknown_node_of airport asked.nodes
+    ∷ no_runway airport asked.from ∷ not_all is_stand airport asked.nodes ∷ full state ∷ [])
+first_refusal airport state (command.DepartureAny asked) =
+    first_of (in_force state asked.flight ∷ unknown_class airport asked.class ∷ unknown_node airport asked.from ∷ unknown_node_of airport asked.nodes
+    ∷ no_stand airport asked.from ∷ not_all is_runway airport asked.nodes ∷ full state ∷ [])

@@ -1,5 +1,5 @@
 -- What does a command seek: which walks of which flight, under which conditions, and by what search?
-use Rattle.std.specs.Prelude.{ℕ, ◌+◌, ◌-◌, max, Bool, true, false, List, [], ◌∷◌, map, unwrap_or, Option, Some, None, option_map, option_and_then, MatchOption}
+use Rattle.std.specs.Prelude.{ℕ, ◌+◌, ◌-◌, ◌<◌, max, Bool, true, false, List, [], ◌∷◌, map, unwrap_or, Option, Some, None, option_map, option_and_then, MatchOption}
 use Rattle.std.specs.Option.{option_map_or}
 use Rattle.taxi_base.specs.declared.numbers.Class.{Class}
 use Rattle.taxi_base.specs.declared.numbers.Node.{Node}
@@ -8,7 +8,7 @@ use Rattle.taxi_base.specs.declared.answers.Request.{Request}
 use Rattle.taxi_base.specs.declared.answers.Request.TheVariants as request
 use Rattle.taxi_base.specs.declared.answers.Flight.{Flight}
 use Rattle.taxi_base.specs.Airport.{Airport, Layout, layout_of, head, class_named, node_named}
-use Rattle.taxi_base.specs.Walks.{Conditions, Meets}
+use Rattle.taxi_base.specs.Walks.{Conditions, Meets, begin_of}
 use Rattle.taxi_base.specs.State.{State, flight_named, with_flight, with_route, step_begun, conditions_of, IsFrozenWalk}
 use Rattle.taxi_base.specs.Faults.{conditions_in}
 use Rattle.taxi_base.specs.Choices.{OneOf}
@@ -26,17 +26,19 @@ pub record UnderWay : Type 0 where
   pub steps : List Step
   pub time : ℕ
 
--- What a command seeks: a walk of the flight of a name that meets a request, with the node that is meant, or the same request for
--- one of other nodes. The flight may be in force. There may be none, or there must be one. With the walk's steps this is the state
--- afterwards.
+-- What a search seeks: a walk of the flight of a name that meets a request, with the node that is meant, or the same request for
+-- one of other nodes. The flight may be in force. A departure may have to begin after a second, its floor; no command of today asks
+-- for that. There may be none, or there must be one. The state afterwards is told for the walk's steps, and for no walk.
 pub record Sought : Type 0 where
   pub name : List ℕ
   pub conditions : Conditions
   pub request : Request
   pub others : List Node
   pub under_way : Option UnderWay
+  pub floor : Option ℕ
   pub may_be_none : Bool
   pub with_steps : List Step → State
+  pub with_none : State
 
 -- for a new flight, among all holders
 abbrev pub sought_new : Airport → State → List ℕ → Class → Request → Sought
@@ -46,8 +48,10 @@ sought_new airport state name class request = record {
   request = request;
   others = [];
   under_way = None;
+  floor = None;
   may_be_none = true;
   with_steps = λ steps. with_flight (routed_flight name class request steps) state;
+  with_none = state;
 }
 
 -- for a flight in force from a time on, among the others
@@ -58,8 +62,10 @@ sought_again airport state name time may_be_none flight request = record {
   request = request;
   others = [];
   under_way = Some (record { steps = flight.steps; time = time });
+  floor = None;
   may_be_none = may_be_none;
   with_steps = λ steps. with_route flight request steps state;
+  with_none = state;
 }
 
 -- where the class and the nodes are known
@@ -81,8 +87,10 @@ sought_any airport state name class choice node others = record {
   request = request_for choice node;
   others = others;
   under_way = None;
+  floor = None;
   may_be_none = true;
   with_steps = λ steps. with_flight (routed_flight name class (request_for choice (unwrap_or (node_reached (layout_of airport) steps) node)) steps) state;
+  with_none = state;
 }
 
 abbrev pub sought_choice : Airport → State → List ℕ → Class → Choice → List Node → Option Sought
@@ -96,15 +104,15 @@ sought_to_one airport state name class asked =
 -- What a command seeks; none for the commands that seek no walk. A reroute keeps the request, and the old steps are such a
 -- walk. A divert changes its target.
 abbrev pub sought_of : Airport → State → Command → Option Sought
-sought_of airport state (command.Arrival flight class from to time hold) = sought_by_class airport state flight class (arrival_named airport from to time hold)
-sought_of airport state (command.Departure flight class from to time queue) = sought_by_class airport state flight class (departure_named airport from to time queue)
+sought_of airport state (command.Arrival asked) = sought_by_class airport state asked.flight asked.class (arrival_named airport asked)
+sought_of airport state (command.Departure asked) = sought_by_class airport state asked.flight asked.class (departure_named airport asked)
 sought_of airport state (command.Reroute name time) =
     option_map (λ flight. sought_again airport state name time false flight flight.request) (flight_named name state.flights)
 sought_of airport state (command.Divert name time node) =
     option_and_then (λ flight. option_map (λ target. sought_again airport state name time true flight (retargeted flight.request target)) (node_named airport node))
     (flight_named name state.flights)
-sought_of airport state (command.ArrivalAny flight class from time hold stands) = sought_to_one airport state flight class (arrival_any_named airport from stands time hold)
-sought_of airport state (command.DepartureAny flight class from time queue nodes) = sought_to_one airport state flight class (departure_any_named airport from nodes time queue)
+sought_of airport state (command.ArrivalAny asked) = sought_to_one airport state asked.flight asked.class (arrival_any_named airport asked)
+sought_of airport state (command.DepartureAny asked) = sought_to_one airport state asked.flight asked.class (departure_any_named airport asked)
 sought_of airport state _ = None
 
 abbrev pub sought_by : Airport → State → List ℕ → Option Sought
@@ -122,8 +130,15 @@ IsWalkOnFor c (request.Departure from to asked queue) way steps = IsFrozenWalk c
 abbrev pub MeetsOneOf : Conditions → Request → List Node → List Step → Type 0
 MeetsOneOf c request others steps = OneOf (λ asked. Meets c asked steps) (request ∷ map (retargeted request) others)
 
+-- a walk that does what is asked, whenever it begins
+abbrev pub DoesAsAsked : Conditions → Request → List Node → Option UnderWay → List Step → Type 0
+DoesAsAsked c request others way steps = MatchOption way (MeetsOneOf c request others steps) (λ w. IsWalkOnFor c request w steps)
+
+-- and one that begins after the floor, where there is one
 abbrev pub IsWalkFor : Sought → List Step → Type 0
-IsWalkFor s steps = MatchOption s.under_way (MeetsOneOf s.conditions s.request s.others steps) (λ way. IsWalkOnFor s.conditions s.request way steps)
+IsWalkFor s steps =
+    MatchOption s.floor (DoesAsAsked s.conditions s.request s.others s.under_way steps)
+    (λ floor. DoesAsAsked s.conditions s.request s.others s.under_way steps × (floor < begin_of steps))
 
 -- ---- the search for them
 

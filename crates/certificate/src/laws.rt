@@ -1,13 +1,18 @@
 //! What replies promise, as laws that are proved of their definition. The functions do nothing: their clauses are the laws.
-ghost use Rattle.std.specs.Prelude.{◌≡◌, ℕ, List, None};
+ghost use Rattle.std.specs.Prelude.{◌≡◌, ℕ, List, Some, None};
+ghost use Rattle.taxi_base.specs.declared.rows.LabelRow.{LabelRow};
+ghost use Rattle.taxi_base.specs.declared.rows.Step.{Step};
 ghost use Rattle.taxi_base.specs.Airport.{Airport, IsWellFormed};
+ghost use Rattle.taxi_base.specs.Again.{IsBestFor};
 ghost use Rattle.taxi_base.specs.State.{State, IsSound};
 ghost use Rattle.taxi_text.specs.declared.command.Command.{Command};
 ghost use Rattle.certificate.specs.declared.block.Block.{Block};
+ghost use Rattle.certificate.specs.declared.block.Block.TheVariants.{Route, NoRoute};
 ghost use Rattle.certificate.specs.Asked.{IsInGrammar};
 ghost use Rattle.certificate.specs.Refusals.{first_refusal};
-ghost use Rattle.certificate.specs.CarriedOut.{IsCarriedOut};
+ghost use Rattle.certificate.specs.CarriedOut.{second_of, IsCarriedOut};
 ghost use Rattle.certificate.specs.Replies.{IsDue, IsReply, DoesAsItSays, IsAnswered};
+ghost use Rattle.certificate.specs.Sought.{Sought, sought_by, IsWalkFor};
 ghost use Rattle.certificate.specs.Passes.{IsPassed, TellsBest};
 
 /// Where the state is sound, each reply answers its line as is promised, and leaves it sound. So does each command that is
@@ -28,9 +33,11 @@ pub fn replies_pass()
     ensures { (airport : Airport) (state : State) (line : List ℕ) (block : Block) (after : State) → IsWellFormed airport → IsSound airport state → IsReply airport state line block after → IsPassed airport state line block after }
 {}
 
-/// Where the state is sound, a route that passes is the best of the walks that are sought, a block that passes and tells of no
-/// route is right, and the state stays sound.
+/// Where the state is sound, what a block that passes tells of searches is so: a route is the best of the walks that are sought, and
+/// where no route is told no walk is. A route, and that there is none, answer what the line seeks. The state stays sound.
 pub fn what_passes_is_best()
     ensures best { (airport : Airport) (state : State) (line : List ℕ) (block : Block) (after : State) → IsWellFormed airport → IsSound airport state → IsPassed airport state line block after → TellsBest airport state line block }
+    ensures route { (airport : Airport) (state : State) (line name : List ℕ) (second : ℕ) (steps : List Step) (labels : List LabelRow) (after : State) → IsWellFormed airport → IsSound airport state → IsPassed airport state line (Route name second steps labels) after → (s : Sought) × (sought_by airport state line ≡ Some s) × IsBestFor s.request (IsWalkFor s) steps × (second_of s.request steps ≡ second) }
+    ensures no_route { (airport : Airport) (state : State) (line : List ℕ) (labels : List LabelRow) (after : State) → IsWellFormed airport → IsSound airport state → IsPassed airport state line (NoRoute labels) after → (s : Sought) × (sought_by airport state line ≡ Some s) × ((steps : List Step) → IsWalkFor s steps → ⊥) }
     ensures sound { (airport : Airport) (state : State) (line : List ℕ) (block : Block) (after : State) → IsWellFormed airport → IsSound airport state → IsPassed airport state line block after → IsSound airport after }
 {}

@@ -16,7 +16,7 @@ pub use block::Block;
 pub use laws::{
     due_replies_are_one, replies_keep_flights_sound, replies_pass, what_passes_is_best,
 };
-pub use named::{has_no_runway, has_no_stand, is_no_runway, is_no_stand, nodes_named};
+pub use named::{has_no_runway, has_no_stand, nodes_named};
 pub use print::{print_block, print_route};
 pub use rule::Rule;
 pub use short::print_short;

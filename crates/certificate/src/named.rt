@@ -1,12 +1,12 @@
 //! The nodes that the words of a choice name.
 ghost use Rattle.std.specs.Prelude.{◌≡◌, not, IfOk};
 ghost use Rattle.std.specs.List.{list_any};
+ghost use Rattle.taxi_base.specs.Airport.{is_runway, is_stand, is_node_of};
 ghost use Rattle.certificate.specs.Asked.{nodes_named};
-ghost use Rattle.certificate.specs.Refusals.{is_node_of, is_runway, is_stand};
 
 use airport_file::Airport;
 use std::alloc::Global;
-use taxi_base::{Kind, List, Memory, Name, Node};
+use taxi_base::{List, Memory, Name, Node};
 
 /// The nodes of some names, in their order; none where a name is no node's.
 pub fn nodes_named(
@@ -26,36 +26,16 @@ pub fn nodes_named(
     Ok(Some(nodes))
 }
 
-/// Whether a name is not that of a stand.
-pub fn is_no_stand(airport: &Airport, name: &Name) -> bool
-    ensures { result ≡ not (is_node_of is_stand airport.now name.now) }
-{
-    match airport.node_named(name) {
-        Some(node) => !matches!(airport.kind(node), Kind::Stand),
-        None => true,
-    }
-}
-
-/// Whether a name is not that of a runway node.
-pub fn is_no_runway(airport: &Airport, name: &Name) -> bool
-    ensures { result ≡ not (is_node_of is_runway airport.now name.now) }
-{
-    match airport.node_named(name) {
-        Some(node) => !matches!(airport.kind(node), Kind::Runway),
-        None => true,
-    }
-}
-
 /// Whether one of some names is not that of a stand.
 pub fn has_no_stand(airport: &Airport, names: &[Name]) -> bool
     ensures { result ≡ list_any (λ name. not (is_node_of is_stand airport.now name)) names.now }
 {
-    names.iter().any(|name| is_no_stand(airport, name))
+    names.iter().any(|name| !airport.has_stand(name))
 }
 
 /// Whether one of some names is not that of a runway node.
 pub fn has_no_runway(airport: &Airport, names: &[Name]) -> bool
     ensures { result ≡ list_any (λ name. not (is_node_of is_runway airport.now name)) names.now }
 {
-    names.iter().any(|name| is_no_runway(airport, name))
+    names.iter().any(|name| !airport.has_runway(name))
 }

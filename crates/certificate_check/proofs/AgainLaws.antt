@@ -1,25 +1,19 @@
 -- Flights that are routed anew among the others.
-use Rattle.std.proofs.Common.{◌≡◌, ◌∙◌, ℕ, ◌≤◌, List, [], ◌∷◌, Option, Some, None, inl, inr, is_some, IsTrue, IsFalse, refl, sym, ap, subst, arith}
-use Rattle.std.specs.Prelude.{Result, Ok, Err, IfOk, IfSome, IsSome, All, bytes_eq}
+use Rattle.std.proofs.Common.{◌≡◌, ◌∙◌, ℕ, ◌≤◌, Bool, true, false, List, [], ◌∷◌, Option, Some, None, inl, inr, is_some, IsTrue, IsFalse, refl, sym, ap, subst, arith}
+use Rattle.std.specs.Prelude.{Result, Ok, Err, is_err, IfSome, IsSome, All, bytes_eq}
 use Rattle.std.specs.Cmp.Lexicographic.{bytes_decides}
-use Rattle.std.proofs.lemmas.Bool.{cases_Bool, cond_both, true≢false}
-use Rattle.taxi_base.specs.declared.collections.Memory.{Memory}
+use Rattle.std.proofs.lemmas.Bool.{cases_Bool, cond_both, or_parts, true≢false}
 use Rattle.taxi_base.specs.declared.rows.Step.{Step as Leg}
-use Rattle.taxi_base.specs.declared.rows.LabelRow.{LabelRow}
 use Rattle.taxi_base.specs.declared.answers.Flight.{Flight}
 use Rattle.taxi_base.specs.declared.answers.Request.{Request}
 use Rattle.taxi_base.specs.Airport.{Airport, IsWellFormed, layout_of, arc_exists}
 use Rattle.taxi_base.specs.Walks.{Conditions, conditions_among, Meets}
-use Rattle.taxi_base.specs.State.{State, name_precedes, flight_named, party_named, flights_with, flights_without, flight_holds, without, with_route, holds_in, conditions_of, IsSound}
+use Rattle.taxi_base.specs.State.{State, name_precedes, flight_named, party_named, flights_with, flights_without, flight_holds, has_holder, with_flight, without, with_route, holds_in, conditions_of, IsSound}
 use Rattle.taxi_base.proofs.StateLaws.{IsSound-with_route}
 use Rattle.taxi_base.proofs.FlightNames.{find-named}
 use Rattle.taxi_base.proofs.NameLaws.{none_left}
 use Rattle.taxi_base.proofs.WalkLaws.{IsFeasibleWalk-steps}
-use Rattle.certificate.specs.declared.block.Block.{Block}
-use Rattle.certificate.specs.declared.block.Block.TheVariants.{Refused, Filed, Cancelled, Route, NoRoute, Windows, Occupancy, Timetable}
-use Rattle.certificate.specs.declared.rule.Rule.{Rule}
-use Rattle.certificate.specs.Sought.{Sought}
-use Rattle.certificate.specs.Passes.{IsFormOf, KeepsSought}
+use Rattle.certificate.specs.Sought.{Sought, sought_again}
 use Rattle.certificate.proofs.FlightLaws.{flight_named-there}
 use Rattle.certificate.proofs.FoundLaws.{step-enter}
 use Rattle.held_spans.specs.declared.spans.HeldSpans.{HeldSpans}
@@ -27,12 +21,8 @@ use Rattle.held_spans.specs.Spans.{AreSpansOf, holds_in_lists}
 use Rattle.due_refusals.proofs.HeldLaws.{same-conditions, more-with}
 use Rattle.checked_state.proofs.PlaceLaws.{if-some}
 use Rattle.check_rows.specs.Known.{HaveMore}
-use Rattle.check_walks.specs.Told.{IsFirstOf}
-use Rattle.certificate_check.specs.Again.{HasToldSteps}
-use Rattle.certificate_check.specs.Judged.{IsToldOf}
+use Rattle.check_walks.specs.Told.{Seeks}
 use Rattle.certificate_check.proofs.DeskLaws.{flight-walk, flight-arcs, flight-alone}
-use Rattle.certificate_check.proofs.JudgedLaws.{told-of}
-use Rattle.check_walks.proofs.StepLaws.{ok-weaker}
 
 -- the steps of a flight in force are entered early
 pub flight-early : (airport : Airport) (state : State) → IsWellFormed airport → (sound : IsSound airport state) (name : List ℕ) (flight : Flight) → flight_named name state.flights ≡ Some flight
@@ -45,47 +35,39 @@ flight-early airport state well sound name flight found k d low =
 pub one-flight : (name : List ℕ) (flights : List Flight) (f g : Flight) → flight_named name flights ≡ Some f → flight_named name flights ≡ Some g → f ≡ g
 one-flight name flights f g a b = cc (sym a ∙ b)
 
--- the rule that is found among the others' spans
-pub lifted-first : (airport : Airport) (state : State) (name : List ℕ) (f : Flight) → flight_named name state.flights ≡ Some f → (spans : HeldSpans) → AreSpansOf (holds_in airport (without name state)) spans
-    → (steps : List Leg) → steps ≡ f.steps → (time : ℕ) (request : Request) (block : Block) {E : Type 0} (r : Result (Option Rule) E)
-    → IfOk r (λ broken. (s : Sought) → s.conditions ≡ conditions_among airport f.class (holds_in_lists spans) → s.request ≡ request → s.others ≡ [] → s.under_way ≡ Some (record { steps = steps; time = time }) → IsFirstOf (λ rule. KeepsSought rule s block) broken)
-    → IfOk r (λ broken. (g : Flight) → flight_named name state.flights ≡ Some g → (s : Sought) → s.conditions ≡ conditions_of airport state g → s.request ≡ request → s.others ≡ [] → s.under_way ≡ Some (record { steps = g.steps; time = time }) → IsFirstOf (λ rule. KeepsSought rule s block) broken)
-lifted-first airport state name f found spans has steps are time request block r told = ok-weaker r _ _ (λ broken told g there s conditions asked alone way. by broken told g there s conditions asked alone way) told where
-  by : (broken : Option Rule)
-      → ((s : Sought) → s.conditions ≡ conditions_among airport f.class (holds_in_lists spans) → s.request ≡ request → s.others ≡ [] → s.under_way ≡ Some (record { steps = steps; time = time }) → IsFirstOf (λ rule. KeepsSought rule s block) broken)
-      → (g : Flight) → flight_named name state.flights ≡ Some g → (s : Sought) → s.conditions ≡ conditions_of airport state g → s.request ≡ request → s.others ≡ [] → s.under_way ≡ Some (record { steps = g.steps; time = time })
-      → IsFirstOf (λ rule. KeepsSought rule s block) broken
-  by broken told g there s conditions asked alone way =
-      let is : g ≡ f = one-flight name state.flights g f there found in
-      let named : f.name ≡ name = find-named name state.flights f found in
-      let those : conditions_of airport state g ≡ conditions_among airport f.class (holds_in_lists spans) =
-      ap (conditions_of airport state) is ∙ ap (λ n. conditions_among airport f.class (holds_in airport (without n state))) named ∙ sym (same-conditions airport f.class spans (holds_in airport (without name state)) has) in
-      let same_steps : g.steps ≡ steps = ap (λ (h : Flight). h.steps) is ∙ sym are in
-      told s (conditions ∙ those) asked alone (way ∙ (λ i. Some (record { steps = same_steps i; time = time })))
+-- what is sought of the flight among the others is sought so among their spans
+pub among-spans : (airport : Airport) (state : State) (name : List ℕ) (f : Flight) → flight_named name state.flights ≡ Some f → (spans : HeldSpans) → AreSpansOf (holds_in airport (without name state)) spans
+    → (steps : List Leg) → steps ≡ f.steps → (time : ℕ) (request : Request) (g : Flight) → flight_named name state.flights ≡ Some g
+    → (s : Sought) → Seeks (conditions_of airport state g) request [] (Some (record { steps = g.steps; time = time })) s
+    → Seeks (conditions_among airport f.class (holds_in_lists spans)) request [] (Some (record { steps = steps; time = time })) s
+among-spans airport state name f found spans has steps are time request g there s seeks =
+    let is : g ≡ f = one-flight name state.flights g f there found in
+    let named : f.name ≡ name = find-named name state.flights f found in
+    let those : conditions_of airport state g ≡ conditions_among airport f.class (holds_in_lists spans) =
+    ap (conditions_of airport state) is ∙ ap (λ n. conditions_among airport f.class (holds_in airport (without n state))) named
+    ∙ sym (same-conditions airport f.class spans (holds_in airport (without name state)) has) in
+    let same_steps : g.steps ≡ steps = ap (λ (h : Flight). h.steps) is ∙ sym are in
+    record {
+      conditions = seeks.conditions ∙ those;
+      asked = seeks.asked;
+      nodes = seeks.nodes;
+      under_way = seeks.under_way ∙ (λ i. Some (record { steps = same_steps i; time = time }));
+      no_floor = seeks.no_floor;
+    }
 
--- what did not pass is told, and the state stays
-pub told-unpassed : (s : Sought) (block : Block) (state : State) (r : Result (Option Rule) Memory) → IsFormOf s block → (r ≡ Ok None → ⊥) → IfOk r (λ broken. IsFirstOf (λ rule. KeepsSought rule s block) broken) → IsToldOf s block state r state
-told-unpassed s block state (Ok None) form other first = absurd (other refl)
-told-unpassed s block state (Ok (Some rule)) form other first = (told-of s block form (Some rule) first, refl)
-told-unpassed s block state (Err memory) form other first = refl
+-- what is sought again is sought so
+pub again-seeks : (airport : Airport) (state : State) (name : List ℕ) (time : ℕ) (may_be_none : Bool) (flight : Flight) (request : Request)
+    → Seeks (conditions_of airport state flight) request [] (Some (record { steps = flight.steps; time = time })) (sought_again airport state name time may_be_none flight request)
+again-seeks airport state name time may_be_none flight request = record { conditions = refl; asked = refl; nodes = refl; under_way = refl; no_floor = refl }
 
--- ---- the steps that are told
+-- an answer that is an error, and one that is none
+pub never-ok : {E : Type 0} (r : Result Unit E) → is_err r ≡ true → (done : Unit) → r ≡ Ok done → ⊥
+never-ok (Ok x) err done is = cc err
+never-ok (Err x) err done is = cc is
 
-pub told-there : (block : Block) (o : Option (List Leg)) (steps : List Leg) → HasToldSteps block o → o ≡ Some steps
-    → (name : List ℕ) × (second : ℕ) × (labels : List LabelRow) × (block ≡ Route name second steps labels)
-told-there (Route name second steps labels) o others has is = (name, second, labels, (λ i. Route name second (same (sym has ∙ is) i) labels)) where
-  same : {xs ys : List Leg} → Some xs ≡ Some ys → xs ≡ ys
-  same e = cc
-told-there (NoRoute labels) o others has is = absurd (cc (sym has ∙ is))
-told-there (Refused why) o others has is = absurd (cc (sym has ∙ is))
-told-there (Filed name start end) o others has is = absurd (cc (sym has ∙ is))
-told-there (Cancelled name) o others has is = absurd (cc (sym has ∙ is))
-told-there (Windows segment windows) o others has is = absurd (cc (sym has ∙ is))
-told-there (Occupancy segment rows) o others has is = absurd (cc (sym has ∙ is))
-told-there (Timetable rows) o others has is = absurd (cc (sym has ∙ is))
-
-pub none-there : (block : Block) (o : Option (List Leg)) → HasToldSteps block o → o ≡ None → (name : List ℕ) (second : ℕ) (steps : List Leg) (labels : List LabelRow) → block ≡ Route name second steps labels → ⊥
-none-there block o has none name second steps labels is = cc (sym (subst (λ b. HasToldSteps b o) is has) ∙ none)
+pub ok-there : {E : Type 0} (r : Result Unit E) → is_err r ≡ false → r ≡ Ok tt
+ok-there (Ok x) err = refl
+ok-there (Err x) err = absurd (cc err)
 
 -- ---- the flight that is routed anew
 
@@ -99,6 +81,10 @@ named-with x [] none = rw ((bytes_decides x.name x.name).1 refl) refl
 named-with x (y ∷ ys) none =
     cond_both (name_precedes x.name y.name) (x ∷ y ∷ ys) (y ∷ flights_with x ys) (λ l. flight_named x.name l ≡ Some x) (λ _. rw ((bytes_decides x.name x.name).1 refl) refl)
     (λ _. elim (cases_Bool (bytes_eq y.name x.name)) [ inl here ↦ absurd (true≢false (rw here at none)) | inr other ↦ rw other (named-with x ys (rw other at none)) ])
+
+-- a flight that goes in is found by its name then
+pub with-there : (state : State) (flight : Flight) → has_holder flight.name state ≡ false → flight_named flight.name (with_flight flight state).flights ≡ Some flight
+with-there state flight absent = named-with flight state.flights (or_parts (is_some (party_named flight.name state.parties)) (is_some (flight_named flight.name state.flights)) absent).1
 
 module _ (airport : Airport) (state : State) (sound : IsSound airport state) (name : List ℕ) where
   pub force-arcs : IfSome (flight_named name state.flights) (λ flight. All (λ step. IsTrue (arc_exists (layout_of airport) step.arc)) flight.steps)

@@ -1,6 +1,6 @@
 -- What the parts of a checker say of the flights in force.
 use Rattle.std.proofs.Common.{◌≡◌, ◌↔◌, ◌∙◌, ℕ, ◌<◌, Bool, true, false, ◌&&◌, eqb, List, length, Option, Some, None, IsTrue, IsFalse, refl, sym, ap, subst}
-use Rattle.std.specs.Prelude.{Ok, All, bytes_eq}
+use Rattle.std.specs.Prelude.{All, bytes_eq}
 use Rattle.std.specs.Cmp.Lexicographic.{bytes_decides}
 use Rattle.std.specs.Bool.{Decides}
 use Rattle.std.proofs.lemmas.Bool.{lt-ltb, false≢true, both_ways, and_parts, and_from, eqb-true, eq-eqb}
@@ -22,7 +22,7 @@ use Rattle.certificate.specs.declared.block.Block.TheVariants.{Windows}
 use Rattle.certificate.specs.CarriedOut.{windows_among}
 use Rattle.certificate.proofs.FlightLaws.{find-there, flight_named-there, flight_named-name}
 use Rattle.certificate.proofs.WindowsTold.{windows_among-are}
-use Rattle.certificate_check.specs.Judged.{broken_unless, IsAfterFor, IsJudged}
+use Rattle.certificate_check.specs.Judged.{passed_if, IsAfterFor, IsJudged}
 use Rattle.certificate_check.proofs.JudgedLaws.{done-judged, undone-judged}
 
 module _ (airport : Airport) (state : State) (sound : IsSound airport state) (name : List ℕ) (flight : Flight) (found : flight_named name state.flights ≡ Some flight) where
@@ -55,7 +55,7 @@ windows-known airport state segment windows on are =
     here t = rw (lt-ltb segment.0 (length airport.segments) on) refl
 
 pub windows-judged : (airport : Airport) (state : State) (name : List ℕ) (segment : Segment) (block : Block) (windows : List Span) → segment_named airport name ≡ Some segment
-    → windows ≡ windows_among airport state segment → (kept : Bool) → IsTrue kept ↔ (block ≡ Windows segment windows) → IsJudged airport (command.Windows name) block state (Ok (broken_unless kept)) state
+    → windows ≡ windows_among airport state segment → (kept : Bool) → IsTrue kept ↔ (block ≡ Windows segment windows) → IsJudged airport (command.Windows name) block state (passed_if kept) state
 windows-judged airport state name segment block windows known are true same =
     let is : block ≡ Windows segment (windows_among airport state segment) = same.0 refl ∙ (λ i. Windows segment (are i)) in
     done-judged airport state (command.Windows name) block (rw known refl) refl state (record { segment = segment; known = known; reply = (is, refl) })

@@ -1,18 +1,17 @@
 -- A route that is given by hand and not refused: its flight can be put in force, and how the block that answers it is judged.
-use Rattle.std.proofs.Common.{◌≡◌, ◌∙◌, ℕ, ◌<◌, Bool, true, false, ◌||◌, is_some, List, length, Some, None, IsTrue, refl, sym, ap, subst}
+use Rattle.std.proofs.Common.{◌≡◌, ◌∙◌, ℕ, ◌<◌, List, length, IsTrue, refl, sym, ap, subst}
 use Rattle.std.specs.Prelude.{Ok, All, MatchOption}
 use Rattle.taxi_base.specs.declared.answers.Flight.{Flight}
 use Rattle.taxi_base.specs.Airport.{Airport, layout_of, arc_exists}
 use Rattle.taxi_base.specs.Walks.{IsFeasibleWalk, Meets, begin_of, end_of}
-use Rattle.taxi_base.specs.State.{State, flight_named, party_named, with_flight, IsSound}
+use Rattle.taxi_base.specs.State.{State, with_flight}
 use Rattle.taxi_base.specs.Faults.{conditions_in}
 use Rattle.taxi_base.proofs.FaultLaws.{route_fault-None}
-use Rattle.taxi_base.proofs.StateLaws.{IsSound-with_flight}
-use Rattle.taxi_text.specs.declared.command.FiledStep.{FiledStep}
+use Rattle.taxi_text.specs.declared.command.Filed.{Filed}
 use Rattle.taxi_text.specs.declared.command.Command.TheVariants as command
 use Rattle.taxi_text.specs.Commands.{is_step_count}
 use Rattle.certificate.specs.declared.block.Block.{Block}
-use Rattle.certificate.specs.declared.block.Block.TheVariants.{Filed}
+use Rattle.certificate.specs.declared.block.Block.TheVariants as told
 use Rattle.certificate.specs.CarriedOut.{filed_flight, IsFiled}
 use Rattle.certificate.specs.Replies.{refused, IsDueTo}
 use Rattle.certificate.proofs.FiledLaws.{filed_steps-arcs, filed_steps-joined}
@@ -21,44 +20,30 @@ use Rattle.certificate.specs.CarriedOut.{IsOf}
 use Rattle.due_refusals.specs.Filing.{IsAccepted}
 use Rattle.due_refusals.proofs.FiledLaws.{few-made}
 use Rattle.certificate_check.specs.Judged.{IsAfterFor, IsJudged}
-use Rattle.certificate_check.proofs.AgainLaws.{named-with}
 use Rattle.certificate_check.proofs.JudgedLaws.{done-judged}
 
-module _ (airport : Airport) (state : State) (name class : List ℕ) (start : ℕ) (filed : List FiledStep) (count : IsTrue (is_step_count (length filed)))
-    (flight : Flight) (accepted : IsAccepted airport state name class start filed flight) where
+module _ (airport : Airport) (state : State) (filed : Filed) (count : IsTrue (is_step_count (length filed.steps))) (flight : Flight) (accepted : IsAccepted airport state filed flight) where
   pub accepted-some : 0 < length flight.steps
-  accepted-some = (few-made airport start filed flight.steps accepted.steps_known count).0
+  accepted-some = (few-made airport filed.start filed.steps flight.steps accepted.steps_known count).0
 
   pub accepted-arcs : All (λ step. IsTrue (arc_exists (layout_of airport) step.arc)) flight.steps
-  accepted-arcs = filed_steps-arcs airport start filed flight.steps accepted.steps_known
+  accepted-arcs = filed_steps-arcs airport filed.start filed.steps flight.steps accepted.steps_known
 
   accepted-walk : IsFeasibleWalk (conditions_in airport flight.class state) flight.steps
   accepted-walk =
-      (route_fault-None airport flight.class state flight.steps accepted-some accepted-arcs (filed_steps-joined airport start filed flight.steps accepted.steps_known)).0
-      (none-fails airport state class start filed flight.class flight.steps accepted.class_known accepted.steps_known (file-does_not_fail airport state name class start filed accepted.unrefused))
+      (route_fault-None airport flight.class state flight.steps accepted-some accepted-arcs (filed_steps-joined airport filed.start filed.steps flight.steps accepted.steps_known)).0
+      (none-fails airport state filed flight.class flight.steps accepted.class_known accepted.steps_known (file-does_not_fail airport state filed accepted.unrefused))
 
-  room : HasRoom state flight.name
-  room = subst (HasRoom state) (sym accepted.same_name) (file-has_room airport state name class start filed accepted.unrefused)
+  pub accepted-room : HasRoom state flight.name
+  accepted-room = subst (HasRoom state) (sym accepted.same_name) (file-has_room airport state filed accepted.unrefused)
 
-  pub accepted-sound : IsSound airport state → IsSound airport (with_flight flight state)
-  accepted-sound sound =
-      IsSound-with_flight airport flight state sound room.room room.absent
-      (subst (λ r. Meets (conditions_in airport flight.class state) r flight.steps) (sym accepted.by_hand) accepted-walk)
+  pub accepted-meets : Meets (conditions_in airport flight.class state) flight.request flight.steps
+  accepted-meets = subst (λ r. Meets (conditions_in airport flight.class state) r flight.steps) (sym accepted.by_hand) accepted-walk
 
-  -- it is found by its name then
-  pub accepted-there : flight_named name (with_flight flight state).flights ≡ Some flight
-  accepted-there =
-      subst (λ n. flight_named n (with_flight flight state).flights ≡ Some flight) accepted.same_name
-      (named-with flight state.flights (or_right_none (is_some (party_named flight.name state.parties)) (is_some (flight_named flight.name state.flights)) room.absent))
-    where
-      or_right_none : (a b : Bool) → (a || b) ≡ false → b ≡ false
-      or_right_none false b none = none
-      or_right_none true b none = absurd (cc none)
-
-  flight-is : flight ≡ filed_flight name flight.class flight.steps
+  flight-is : flight ≡ filed_flight filed.flight flight.class flight.steps
   flight-is = λ i. record { name = accepted.same_name i; class = flight.class; request = accepted.by_hand i; steps = flight.steps }
 
-  done : (block : Block) (after : State) → block ≡ Filed name (begin_of flight.steps) (end_of flight.steps) → after ≡ with_flight flight state → IsFiled airport state name class start filed block after
+  done : (block : Block) (after : State) → block ≡ told.Filed filed.flight (begin_of flight.steps) (end_of flight.steps) → after ≡ with_flight flight state → IsFiled airport state filed block after
   done block after is left = record {
     class = flight.class;
     steps = flight.steps;
@@ -68,12 +53,12 @@ module _ (airport : Airport) (state : State) (name class : List ℕ) (start : �
   }
 
   -- a block that tells it keeps every rule
-  pub accepted-judged : (block : Block) (after : State) → block ≡ Filed flight.name (begin_of flight.steps) (end_of flight.steps) → after ≡ with_flight flight state
-      → IsJudged airport (command.File name class start filed) block state (Ok None) after
-  accepted-judged block after told left =
-      let is = told ∙ ap (λ (n : List ℕ). Filed n (begin_of flight.steps) (end_of flight.steps)) accepted.same_name in
-      let due : IsDueTo airport state (command.File name class start filed) (Filed name (begin_of flight.steps) (end_of flight.steps)) after =
-      subst (λ o. MatchOption o (IsFiled airport state name class start filed (Filed name (begin_of flight.steps) (end_of flight.steps)) after) (λ why. IsOf (refused state why) (Filed name (begin_of flight.steps) (end_of flight.steps)) after))
-      (sym accepted.unrefused) (done _ after refl left) in
-      done-judged airport state (command.File name class start filed) block accepted.unrefused refl after (done block after is left)
-      (subst (λ b. IsAfterFor airport state (command.File name class start filed) b after) (sym is) due)
+  pub accepted-judged : (block : Block) (after : State) → block ≡ told.Filed flight.name (begin_of flight.steps) (end_of flight.steps) → after ≡ with_flight flight state
+      → IsJudged airport (command.File filed) block state (Ok tt) after
+  accepted-judged block after tells left =
+      let answer : Block = told.Filed filed.flight (begin_of flight.steps) (end_of flight.steps) in
+      let is : block ≡ answer = tells ∙ ap (λ (n : List ℕ). told.Filed n (begin_of flight.steps) (end_of flight.steps)) accepted.same_name in
+      let due : IsDueTo airport state (command.File filed) answer after =
+      subst (λ o. MatchOption o (IsFiled airport state filed answer after) (λ why. IsOf (refused state why) answer after)) (sym accepted.unrefused) (done answer after refl left) in
+      done-judged airport state (command.File filed) block accepted.unrefused refl after (done block after is left)
+      (subst (λ b. IsAfterFor airport state (command.File filed) b after) (sym is) due)

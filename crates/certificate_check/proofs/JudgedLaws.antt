@@ -1,7 +1,8 @@
 -- How a block is judged as the answer to a command, from what was found out about it.
-use Rattle.std.proofs.Common.{◌≡◌, Option, Some, None, refl, sym, subst, arith}
-use Rattle.std.specs.Prelude.{Result, Ok, Err, MatchOption, ⊤}
-use Rattle.taxi_base.specs.declared.collections.Memory.{Memory}
+use Rattle.std.proofs.Common.{◌≡◌, ◌∙◌, ℕ, Bool, true, false, true≢false, List, [], ◌∷◌, Option, Some, None, inl, refl, sym, subst, arith}
+use Rattle.std.specs.Prelude.{All, Result, Ok, Err, bytes_eq}
+use Rattle.std.specs.Cmp.Lexicographic.{bytes_decides}
+use Rattle.std.proofs.lemmas.List.Elements.{All-cons, All-nil}
 use Rattle.taxi_base.specs.declared.answers.Refusal.{Refusal}
 use Rattle.taxi_base.specs.Airport.{Airport}
 use Rattle.taxi_base.specs.State.{State}
@@ -13,42 +14,95 @@ use Rattle.certificate.specs.declared.rule.Rule.TheVariants as rule
 use Rattle.certificate.specs.Refusals.{first_refusal}
 use Rattle.certificate.specs.CarriedOut.{IsCarriedOut}
 use Rattle.certificate.specs.Sought.{Sought, sought_of}
-use Rattle.certificate.specs.Passes.{IsFormOf, KeepsSought}
-use Rattle.check_walks.specs.Told.{IsFirstOf}
-use Rattle.certificate_check.specs.Judged.{KeepsTold, IsAfterTold, IsToldOf, KeepsFor, IsAfterFor, IsJudged}
+use Rattle.certificate.specs.Turns.{Turn, after_told}
+use Rattle.certificate.specs.Passes.{IsFormOf, KeepsSought, KeepsTurn, IsFirstOf, BreaksFirst}
+use Rattle.transcripts.specs.declared.refused.CheckRefused.{CheckRefused}
+use Rattle.transcripts.specs.declared.refused.CheckRefused.TheVariants.{Wrong, Memory}
+use Rattle.certificate_check.specs.Judged.{passed_if, answer_of, IsAnsweredBy, KeepsTold, IsToldOf, IsDueForm, turns_for, KeepsFor, BreaksFor, IsAfterFor, IsJudged}
 
 -- the first rule is broken
 pub reply-first : (IsKept : Rule → Type 0) → (IsKept rule.Reply → ⊥) → IsFirstOf IsKept (Some rule.Reply)
 reply-first IsKept broken = (broken, λ other low. absurd (omega (arith, low)))
 
+-- ---- what is answered
+
+pub form-ok : (kept : Bool) (done : Unit) → passed_if kept ≡ Ok done → kept ≡ true
+form-ok true done e = refl
+form-ok false done e = absurd (cc e)
+
+pub form-err : (kept : Bool) (why : CheckRefused) → passed_if kept ≡ Err why → (kept ≡ false) × (why ≡ Wrong rule.Reply)
+form-err true why e = absurd (cc e)
+form-err false why e = (refl, cc (sym e))
+
+-- the same where names are compared
+pub name-ok : (kept : Bool) (a b : List ℕ) → kept ≡ bytes_eq a b → (done : Unit) → passed_if kept ≡ Ok done → a ≡ b
+name-ok kept a b is done e = (bytes_decides a b).0 (sym is ∙ form-ok kept done e)
+
+pub name-err : (kept : Bool) (a b : List ℕ) → kept ≡ bytes_eq a b → (why : CheckRefused) → passed_if kept ≡ Err why → (a ≡ b → ⊥) × (why ≡ Wrong rule.Reply)
+name-err kept a b is why e =
+    let fails = form-err kept why e in
+    ((λ same. true≢false (sym ((bytes_decides a b).1 same) ∙ sym is ∙ fails.0)), fails.1)
+
+-- no rule is broken
+pub answer-ok : (broken : Option Rule) (done : Unit) → answer_of broken ≡ Ok done → broken ≡ None
+answer-ok None done e = refl
+answer-ok (Some rule) done e = absurd (cc e)
+
+-- what is answered to the first rule that is broken
+pub answered-by : (IsKept : Rule → Type 0) (broken : Option Rule) (r : Result Unit CheckRefused) → answer_of broken ≡ r → IsFirstOf IsKept broken → IsAnsweredBy IsKept r
+answered-by IsKept broken r is first = subst (IsAnsweredBy IsKept) is (own broken first) where
+  own : (broken : Option Rule) → IsFirstOf IsKept broken → IsAnsweredBy IsKept (answer_of broken)
+  own None first = first
+  own (Some broken) first = first
+
 -- ---- what is told of a search
 
--- the rules after the first decide
-pub told-of : (s : Sought) (block : Block) → IsFormOf s block → (broken : Option Rule) → IsFirstOf (λ r. KeepsSought r s block) broken → IsFirstOf (KeepsTold s block) broken
-told-of s block form None all = λ r. kept r where
-  kept : (r : Rule) → KeepsTold s block r
-  kept rule.Reply = form
-  kept rule.Walk = all rule.Walk
-  kept rule.Rows = all rule.Rows
-  kept rule.Start = all rule.Start
-  kept rule.Step = all rule.Step
-  kept rule.Target = all rule.Target
-told-of s block form (Some broken) first = (other broken first.0, λ r low. kept r (first.1 r low)) where
-  other : (r : Rule) → (KeepsSought r s block → ⊥) → KeepsTold s block r → ⊥
-  other rule.Reply fails = absurd (fails tt)
-  other rule.Walk fails = fails
-  other rule.Rows fails = fails
-  other rule.Start fails = fails
-  other rule.Step fails = fails
-  other rule.Target fails = fails
+module _ (s : Sought) (block : Block) where
+  told-kept : IsFormOf s block → (r : Rule) → KeepsSought r s block → KeepsTold s block r
+  told-kept form rule.Reply h = form
+  told-kept form rule.Walk h = h
+  told-kept form rule.Rows h = h
+  told-kept form rule.Start h = h
+  told-kept form rule.Step h = h
+  told-kept form rule.Target h = h
 
-  kept : (r : Rule) → KeepsSought r s block → KeepsTold s block r
-  kept rule.Reply h = form
-  kept rule.Walk h = h
-  kept rule.Rows h = h
-  kept rule.Start h = h
-  kept rule.Step h = h
-  kept rule.Target h = h
+  told-broken : (r : Rule) → (KeepsSought r s block → ⊥) → KeepsTold s block r → ⊥
+  told-broken rule.Reply fails = absurd (fails tt)
+  told-broken rule.Walk fails = fails
+  told-broken rule.Rows fails = fails
+  told-broken rule.Start fails = fails
+  told-broken rule.Step fails = fails
+  told-broken rule.Target fails = fails
+
+  kept-told : (r : Rule) → KeepsTold s block r → KeepsSought r s block
+  kept-told rule.Reply h = tt
+  kept-told rule.Walk h = h
+  kept-told rule.Rows h = h
+  kept-told rule.Start h = h
+  kept-told rule.Step h = h
+  kept-told rule.Target h = h
+
+  -- the rules after the first decide
+  pub told-of : IsFormOf s block → (broken : Option Rule) → IsFirstOf (λ r. KeepsSought r s block) broken → IsFirstOf (KeepsTold s block) broken
+  told-of form None all = λ r. told-kept form r (all r)
+  told-of form (Some broken) first = (told-broken broken first.0, λ r low. told-kept form r (first.1 r low))
+
+  pub not-told : (state : State) → (IsFormOf s block → ⊥) → IsToldOf s block state (Err (Wrong rule.Reply)) state
+  not-told state other = (reply-first (KeepsTold s block) other, refl)
+
+  -- what is found after the form is told, where the state stays, and is the one that is told
+  pub told-found : IsFormOf s block → (old new : State) (r : Result Unit CheckRefused) → IsAnsweredBy (λ r. KeepsSought r s block) r → new ≡ old → ((done : Unit) → r ≡ Ok done → old ≡ after_told s block) → IsToldOf s block old r new
+  told-found form old new (Ok done) found same left = (told-of form None found, same ∙ left done refl)
+  told-found form old new (Err (Wrong broken)) found same left = (told-of form (Some broken) found, same)
+  told-found form old new (Err Memory) found same left = same
+
+  -- a rule that is broken is told, and the state stays
+  pub told-err : IsFormOf s block → (state : State) (broken : Option Rule) (why : CheckRefused) → answer_of broken ≡ Err why → IsFirstOf (λ r. KeepsSought r s block) broken → IsToldOf s block state (Err why) state
+  told-err form state broken why is first = told-found form state state (Err why) (answered-by (λ r. KeepsSought r s block) broken (Err why) is first) refl (λ done e. absurd (cc e))
+
+  -- a route that breaks no rule is in force
+  pub told-passed : IsFormOf s block → IsFirstOf (λ r. KeepsSought r s block) None → (old new : State) → new ≡ after_told s block → IsToldOf s block old (Ok tt) new
+  told-passed form all old new is = (told-of form None all, is)
 
 module _ (airport : Airport) (state : State) (command : Command) (block : Block) where
   -- ---- a refusal is due
@@ -56,63 +110,107 @@ module _ (airport : Airport) (state : State) (command : Command) (block : Block)
   module _ (why : Refusal) (due : first_refusal airport state command ≡ Some why) where
     refused-keeps : block ≡ Refused why → (r : Rule) → KeepsFor airport state command block r
     refused-keeps is r = subst (λ b. KeepsFor airport state command b r) (sym is) (kept r) where
-      any : {P : Sought → Type 0} (o : Option Sought) → ((s : Sought) → P s) → MatchOption o ⊤ P
-      any None each = tt
-      any (Some s) each = each s
-
       kept : (r : Rule) → KeepsFor airport state command (Refused why) r
       kept rule.Reply = rw due refl
-      kept rule.Walk = any (sought_of airport state command) (λ s. tt)
-      kept rule.Rows = any (sought_of airport state command) (λ s. tt)
-      kept rule.Start = any (sought_of airport state command) (λ s. tt)
-      kept rule.Step = any (sought_of airport state command) (λ s. tt)
-      kept rule.Target = any (sought_of airport state command) (λ s. tt)
+      kept rule.Walk = All-nil _
+      kept rule.Rows = All-nil _
+      kept rule.Start = All-nil _
+      kept rule.Step = All-nil _
+      kept rule.Target = All-nil _
 
-    pub refused-judged : block ≡ Refused why → IsJudged airport command block state (Ok None) state
+    pub refused-judged : block ≡ Refused why → IsJudged airport command block state (Ok tt) state
     refused-judged is = (refused-keeps is, subst (λ b. IsAfterFor airport state command b state) (sym is) refl)
 
-    pub other-judged : (block ≡ Refused why → ⊥) → IsJudged airport command block state (Ok (Some rule.Reply)) state
-    other-judged other = (reply-first (KeepsFor airport state command block) (λ kept. other (rw due at kept)), refl)
+    pub other-judged : (block ≡ Refused why → ⊥) → IsJudged airport command block state (Err (Wrong rule.Reply)) state
+    other-judged other = ((λ form. other (rw due at form)), refl)
 
   module _ (none : first_refusal airport state command ≡ None) where
     -- ---- a command that seeks no walk
 
     module _ (plain : sought_of airport state command ≡ None) where
-      pub done-judged : (after : State) → IsCarriedOut airport state command block after → IsAfterFor airport state command block after → IsJudged airport command block state (Ok None) after
+      no-turns : (b : Block) → turns_for airport state command b ≡ []
+      no-turns (Route name second steps labels) = rw plain refl
+      no-turns (NoRoute labels) = rw plain refl
+      no-turns (Refused why) = refl
+      no-turns (Filed name start end) = refl
+      no-turns (Cancelled name) = refl
+      no-turns (Windows segment windows) = refl
+      no-turns (Occupancy segment rows) = refl
+      no-turns (Timetable rows) = refl
+
+      in-none : (r : Rule) → All (λ turn. KeepsTurn turn r) (turns_for airport state command block)
+      in-none r = subst (All (λ turn. KeepsTurn turn r)) (sym (no-turns block)) (All-nil _)
+
+      pub done-judged : (after : State) → IsCarriedOut airport state command block after → IsAfterFor airport state command block after → IsJudged airport command block state (Ok tt) after
       done-judged after done left = (λ r. kept r, left) where
         kept : (r : Rule) → KeepsFor airport state command block r
         kept rule.Reply = rw (none, plain) (after, done)
-        kept rule.Walk = rw plain tt
-        kept rule.Rows = rw plain tt
-        kept rule.Start = rw plain tt
-        kept rule.Step = rw plain tt
-        kept rule.Target = rw plain tt
+        kept rule.Walk = in-none rule.Walk
+        kept rule.Rows = in-none rule.Rows
+        kept rule.Start = in-none rule.Start
+        kept rule.Step = in-none rule.Step
+        kept rule.Target = in-none rule.Target
 
-      pub undone-judged : ((after : State) → IsCarriedOut airport state command block after → ⊥) → IsJudged airport command block state (Ok (Some rule.Reply)) state
-      undone-judged never = (reply-first (KeepsFor airport state command block) (λ kept. let done = rw (none, plain) at kept in never done.0 done.1), refl)
+      pub undone-judged : ((after : State) → IsCarriedOut airport state command block after → ⊥) → IsJudged airport command block state (Err (Wrong rule.Reply)) state
+      undone-judged never = ((λ kept. let done = rw (none, plain) at kept in never done.0 done.1), refl)
 
     -- ---- a command that seeks a walk
 
     module _ (s : Sought) (sought : sought_of airport state command ≡ Some s) where
-      told-for : (r : Rule) → KeepsTold s block r → KeepsFor airport state command block r
-      told-for rule.Reply h = rw (none, sought) h
-      told-for rule.Walk h = rw sought h
-      told-for rule.Rows h = rw sought h
-      told-for rule.Start h = rw sought h
-      told-for rule.Step h = rw sought h
-      told-for rule.Target h = rw sought h
+      abbrev turn : Turn
+      turn = record { sought = s; told = block }
 
-      for-told : (r : Rule) → KeepsFor airport state command block r → KeepsTold s block r
-      for-told rule.Reply h = rw (none, sought) at h
-      for-told rule.Walk h = rw sought at h
-      for-told rule.Rows h = rw sought at h
-      for-told rule.Start h = rw sought at h
-      for-told rule.Step h = rw sought at h
-      for-told rule.Target h = rw sought at h
+      -- what is of the form tells of one search
+      one-turn : IsFormOf s block → turns_for airport state command block ≡ turn ∷ []
+      one-turn form = go block form where
+        go : (b : Block) → IsFormOf s b → turns_for airport state command b ≡ record { sought = s; told = b } ∷ []
+        go (Route name second steps labels) form = rw sought refl
+        go (NoRoute labels) form = rw sought refl
+        go (Refused why) form = absurd form
+        go (Filed name start end) form = absurd form
+        go (Cancelled name) form = absurd form
+        go (Windows segment windows) form = absurd form
+        go (Occupancy segment rows) form = absurd form
+        go (Timetable rows) form = absurd form
 
-      after-for : (b : Block) (after : State) → KeepsTold s b rule.Reply → IsAfterTold state s b after → IsAfterFor airport state command b after
+      in-one : IsFormOf s block → (r : Rule) → KeepsTurn turn r → All (λ t. KeepsTurn t r) (turns_for airport state command block)
+      in-one form r h = subst (All (λ t. KeepsTurn t r)) (sym (one-turn form)) (All-cons (λ t. KeepsTurn t r) turn [] h (All-nil _))
+
+      due : IsFormOf s block → IsDueForm airport state command block
+      due form = rw (none, sought) form
+
+      kept-for : ((r : Rule) → KeepsTold s block r) → (r : Rule) → KeepsFor airport state command block r
+      kept-for all rule.Reply = due (all rule.Reply)
+      kept-for all rule.Walk = in-one (all rule.Reply) rule.Walk (all rule.Walk)
+      kept-for all rule.Rows = in-one (all rule.Reply) rule.Rows (all rule.Rows)
+      kept-for all rule.Start = in-one (all rule.Reply) rule.Start (all rule.Start)
+      kept-for all rule.Step = in-one (all rule.Reply) rule.Step (all rule.Step)
+      kept-for all rule.Target = in-one (all rule.Reply) rule.Target (all rule.Target)
+
+      breaks : IsFormOf s block → (r : Rule) → IsFirstOf (KeepsTurn turn) (Some r) → BreaksFirst (turns_for airport state command block) r
+      breaks form r first = subst (λ turns. BreaksFirst turns r) (sym (one-turn form)) (inl first)
+
+      broken-for : (r : Rule) → IsFirstOf (KeepsTold s block) (Some r) → BreaksFor airport state command block r
+      broken-for rule.Reply first = λ form. first.0 (rw (none, sought) at form)
+      broken-for rule.Walk first =
+          let form = first.1 rule.Reply (omega arith) in
+          (due form, breaks form rule.Walk (first.0, λ other low. kept-told s block other (first.1 other low)))
+      broken-for rule.Rows first =
+          let form = first.1 rule.Reply (omega arith) in
+          (due form, breaks form rule.Rows (first.0, λ other low. kept-told s block other (first.1 other low)))
+      broken-for rule.Start first =
+          let form = first.1 rule.Reply (omega arith) in
+          (due form, breaks form rule.Start (first.0, λ other low. kept-told s block other (first.1 other low)))
+      broken-for rule.Step first =
+          let form = first.1 rule.Reply (omega arith) in
+          (due form, breaks form rule.Step (first.0, λ other low. kept-told s block other (first.1 other low)))
+      broken-for rule.Target first =
+          let form = first.1 rule.Reply (omega arith) in
+          (due form, breaks form rule.Target (first.0, λ other low. kept-told s block other (first.1 other low)))
+
+      after-for : (b : Block) (after : State) → IsFormOf s b → after ≡ after_told s b → IsAfterFor airport state command b after
       after-for (Route name second steps labels) after form left = rw sought left
-      after-for (NoRoute labels) after form left = left
+      after-for (NoRoute labels) after form left = rw sought left
       after-for (Refused why) after form left = absurd form
       after-for (Filed name start end) after form left = absurd form
       after-for (Cancelled name) after form left = absurd form
@@ -120,8 +218,7 @@ module _ (airport : Airport) (state : State) (command : Command) (block : Block)
       after-for (Occupancy segment rows) after form left = absurd form
       after-for (Timetable rows) after form left = absurd form
 
-      pub told-judged : (r : Result (Option Rule) Memory) (after : State) → IsToldOf s block state r after → IsJudged airport command block state r after
-      told-judged (Ok None) after told = (λ r. told-for r (told.0 r), after-for block after (told.0 rule.Reply) told.1)
-      told-judged (Ok (Some broken)) after told =
-          ((λ h. told.0.0 (for-told broken h), λ r low. told-for r (told.0.1 r low)), told.1)
-      told-judged (Err memory) after told = told
+      pub told-judged : (r : Result Unit CheckRefused) (after : State) → IsToldOf s block state r after → IsJudged airport command block state r after
+      told-judged (Ok done) after told = (kept-for told.0, after-for block after (told.0 rule.Reply) told.1)
+      told-judged (Err (Wrong broken)) after told = (broken-for broken told.0, told.1)
+      told-judged (Err Memory) after told = told

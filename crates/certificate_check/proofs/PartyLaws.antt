@@ -9,6 +9,7 @@ use Rattle.taxi_base.specs.Airport.{Airport}
 use Rattle.taxi_base.specs.State.{State, party_named, parties_without, with_party, without, party_hold, IsFeasibleHold, IsSound}
 use Rattle.taxi_base.proofs.FaultLaws.{hold_fault-None}
 use Rattle.taxi_base.proofs.StateLaws.{IsSound-with_party, IsSound-without}
+use Rattle.taxi_text.specs.declared.command.Shut.{Shut}
 use Rattle.taxi_text.specs.declared.command.Command.TheVariants as command
 use Rattle.certificate.specs.declared.block.Block.{Block}
 use Rattle.certificate.specs.declared.block.Block.TheVariants.{Filed, Cancelled}
@@ -24,23 +25,23 @@ use Rattle.certificate_check.proofs.JudgedLaws.{done-judged}
 
 -- ---- a party that is put in force
 
-module _ (airport : Airport) (state : State) (name segment_name : List ℕ) (from until : ℕ) (segment : Segment) (may : MayShut airport state name segment_name from until segment) where
+module _ (airport : Airport) (state : State) (asked : Shut) (segment : Segment) (may : MayShut airport state asked segment) where
   abbrev party : Party
-  party = party_of name segment from until
+  party = party_of asked segment
 
   pub may-on : segment.0 < length airport.segments
-  may-on = segment_named-exists airport segment_name segment may.segment_known
+  may-on = segment_named-exists airport asked.segment segment may.segment_known
 
   hold : IsFeasibleHold airport state (party_hold party)
   hold =
       (hold_fault-None airport state (party_hold party) may-on).0
-      (none-holds airport state name segment_name from until segment may.segment_known (work-does_not_fail airport state name segment_name from until may.unrefused))
+      (none-holds airport state asked segment may.segment_known (work-does_not_fail airport state asked may.unrefused))
 
-  room : HasRoom state name
-  room = work-has_room airport state name segment_name from until may.unrefused
+  room : HasRoom state asked.name
+  room = work-has_room airport state asked may.unrefused
 
-  pub may-absent : party_named name state.parties ≡ None
-  may-absent = go (party_named name state.parties) (or_parts _ _ room.absent).0 where
+  pub may-absent : party_named asked.name state.parties ≡ None
+  may-absent = go (party_named asked.name state.parties) (or_parts _ _ room.absent).0 where
     go : (o : Option Party) → IsFalse (is_some o) → o ≡ None
     go None none = refl
     go (Some p) none = absurd (cc none)
@@ -48,18 +49,18 @@ module _ (airport : Airport) (state : State) (name segment_name : List ℕ) (fro
   pub may-sound : IsSound airport state → IsSound airport (with_party party state)
   may-sound sound = IsSound-with_party airport party state sound room.room room.absent hold
 
-  done : (block : Block) (after : State) → block ≡ Filed name from until → after ≡ with_party party state → IsShut airport state name segment_name from until block after
+  done : (block : Block) (after : State) → block ≡ Filed asked.name asked.from asked.until → after ≡ with_party party state → IsShut airport state asked block after
   done block after is left = record { segment = segment; segment_known = may.segment_known; reply = (is, left) }
 
   -- a block that tells it keeps every rule
-  pub may-judged : (block : Block) (after : State) → block ≡ Filed name from until → after ≡ with_party party state
-      → IsJudged airport (command.Work name segment_name from until) block state (Ok None) after
+  pub may-judged : (block : Block) (after : State) → block ≡ Filed asked.name asked.from asked.until → after ≡ with_party party state
+      → IsJudged airport (command.Work asked) block state (Ok tt) after
   may-judged block after is left =
-      let due : IsDueTo airport state (command.Work name segment_name from until) (Filed name from until) after =
-      subst (λ o. MatchOption o (IsShut airport state name segment_name from until (Filed name from until) after) (λ why. IsOf (refused state why) (Filed name from until) after))
-      (sym may.unrefused) (done (Filed name from until) after refl left) in
-      done-judged airport state (command.Work name segment_name from until) block may.unrefused refl after (done block after is left)
-      (subst (λ b. IsAfterFor airport state (command.Work name segment_name from until) b after) (sym is) due)
+      let due : IsDueTo airport state (command.Work asked) (Filed asked.name asked.from asked.until) after =
+      subst (λ o. MatchOption o (IsShut airport state asked (Filed asked.name asked.from asked.until) after) (λ why. IsOf (refused state why) (Filed asked.name asked.from asked.until) after))
+      (sym may.unrefused) (done (Filed asked.name asked.from asked.until) after refl left) in
+      done-judged airport state (command.Work asked) block may.unrefused refl after (done block after is left)
+      (subst (λ b. IsAfterFor airport state (command.Work asked) b after) (sym is) due)
 
 module _ (airport : Airport) (state : State) (sound : IsSound airport state) (name : List ℕ) (party : Party) (found : party_named name state.parties ≡ Some party) where
   abbrev pub opened : State
@@ -73,7 +74,7 @@ module _ (airport : Airport) (state : State) (sound : IsSound airport state) (na
   pub opened-sound : IsSound airport opened
   opened-sound = subst (IsSound airport) (sym (without-party airport name state sound.feasible (rw found refl))) (IsSound-without airport name state sound)
 
-  pub opened-judged : (block : Block) (after : State) → block ≡ Cancelled name → after ≡ opened → IsJudged airport (command.WorkDone name) block state (Ok None) after
+  pub opened-judged : (block : Block) (after : State) → block ≡ Cancelled name → after ≡ opened → IsJudged airport (command.WorkDone name) block state (Ok tt) after
   opened-judged block after is left =
       done-judged airport state (command.WorkDone name) block (rw found refl) refl after (is, left)
       (subst (λ b. IsAfterFor airport state (command.WorkDone name) b after) (sym is) (rw found (refl, left)))

@@ -1,7 +1,6 @@
 -- What a line is answered, from how the block is judged as the answer to its command.
-use Rattle.std.proofs.Common.{◌≡◌, ℕ, List, Option, Some, None, inl, inr, refl, sym, subst, arith}
+use Rattle.std.proofs.Common.{◌≡◌, ℕ, List, Some, None, inl, inr, refl, sym, subst}
 use Rattle.std.specs.Prelude.{Result, Ok, Err}
-use Rattle.taxi_base.specs.declared.collections.Memory.{Memory}
 use Rattle.taxi_base.specs.declared.answers.Refusal.TheVariants as refusal
 use Rattle.taxi_base.specs.Airport.{Airport, IsWellFormed}
 use Rattle.taxi_base.specs.State.{State, IsSound}
@@ -18,9 +17,8 @@ use Rattle.certificate.proofs.BestLaws.{passed-best, passed-sound}
 use Rattle.transcripts.specs.declared.refused.CheckRefused.{CheckRefused}
 use Rattle.transcripts.specs.declared.refused.CheckRefused.TheVariants as check
 use Rattle.transcripts.specs.Turns.{ChecksIn}
-use Rattle.check_walks.specs.Told.{IsFirstOf}
-use Rattle.certificate_check.specs.Judged.{KeepsFor, IsAfterFor, IsJudged}
-use Rattle.certificate_check.specs.Checker.{IsBadLineChecked, answer_of}
+use Rattle.certificate_check.specs.Judged.{KeepsFor, BreaksFor, IsAfterFor, IsJudged}
+use Rattle.certificate_check.specs.Checker.{IsBadLineChecked}
 
 module _ (airport : Airport) (state : State) (line : List ℕ) (block : Block) (command : Command) (read : command_of line ≡ Some command) where
   kept : (r : Rule) → KeepsFor airport state command block r → Keeps airport state line block r
@@ -35,31 +33,30 @@ module _ (airport : Airport) (state : State) (line : List ℕ) (block : Block) (
   abbrev IsNoMemory : Type 0
   IsNoMemory = (NeedsNoMemory (Some command) → ⊥) × (block ≡ Refused refusal.Memory) → ⊥
 
-  broken : IsNoMemory → (r : Rule) → (KeepsFor airport state command block r → ⊥) → Keeps airport state line block r → ⊥
-  broken memory rule.Reply fails (inl stands) = memory ((λ h. stands.0 (rw read h)), stands.1)
-  broken memory rule.Reply fails (inr form) = fails (rw read at form)
-  broken memory rule.Walk fails h = fails (rw read at h)
-  broken memory rule.Rows fails h = fails (rw read at h)
-  broken memory rule.Start fails h = fails (rw read at h)
-  broken memory rule.Step fails h = fails (rw read at h)
-  broken memory rule.Target fails h = fails (rw read at h)
+  pub first-broken : IsNoMemory → (r : Rule) → BreaksFor airport state command block r → IsFirstBroken airport state line block r
+  first-broken memory rule.Reply fails = go where
+    go : KeepsReply airport state line block → ⊥
+    go (inl stands) = memory ((λ h. stands.0 (rw read h)), stands.1)
+    go (inr form) = fails (rw read at form)
+  first-broken memory rule.Walk breaks = (inr (rw read breaks.0), rw read breaks.1)
+  first-broken memory rule.Rows breaks = (inr (rw read breaks.0), rw read breaks.1)
+  first-broken memory rule.Start breaks = (inr (rw read breaks.0), rw read breaks.1)
+  first-broken memory rule.Step breaks = (inr (rw read breaks.0), rw read breaks.1)
+  first-broken memory rule.Target breaks = (inr (rw read breaks.0), rw read breaks.1)
 
   left : (after : State) (b : Block) → IsAfterFor airport state command b after → IsAfter airport state line b after
   unfolding IsDue
   left after (Route name second steps labels) is = rw read is
+  left after (NoRoute labels) is = rw read is
   left after (Filed name start end) is = rw read is
   left after (Cancelled name) is = rw read is
-  left after (NoRoute labels) is = is
   left after (Refused why) is = is
   left after (Windows segment windows) is = is
   left after (Occupancy segment rows) is = is
   left after (Timetable rows) is = is
 
-  pub passed : IsFirstOf (KeepsFor airport state command block) None → (after : State) → IsAfterFor airport state command block after → IsPassed airport state line block after
+  pub passed : ((r : Rule) → KeepsFor airport state command block r) → (after : State) → IsAfterFor airport state command block after → IsPassed airport state line block after
   passed all after is = record { keeps = λ r. kept r (all r); after_it = left after block is }
-
-  pub first-broken : IsNoMemory → (r : Rule) → IsFirstOf (KeepsFor airport state command block) (Some r) → IsFirstBroken airport state line block r
-  first-broken memory r first = record { broken = broken memory r first.0; before = λ other low. kept other (first.1 other low) }
 
 -- ---- what passes
 
@@ -79,26 +76,20 @@ module _ (airport : Airport) (state : State) (well : IsWellFormed airport) (soun
       passes state (reply-passes airport state line block state well sound (as_due block state (rw none (is, refl))))
 
   pub bad-broken : command_of line ≡ None → (block ≡ Refused refusal.BadLine → ⊥) → (block ≡ Refused refusal.Memory → ⊥) → ChecksIn airport line block state (Err (check.Wrong rule.Reply)) state
-  bad-broken none bad memory = (record { broken = go; before = λ other low. absurd (omega (arith, low)) }, refl) where
+  bad-broken none bad memory = (go, refl) where
     go : KeepsReply airport state line block → ⊥
     go (inl stands) = memory stands.1
     go (inr form) = bad (rw none at form)
-
-  -- a block that is judged
-  module _ (command : Command) (read : command_of line ≡ Some command) (memory : (NeedsNoMemory (Some command) → ⊥) × (block ≡ Refused refusal.Memory) → ⊥) where
-    pub judged-passes : (after : State) → IsJudged airport command block state (Ok None) after → ChecksIn airport line block state (Ok tt) after
-    judged-passes after judged = passes after (passed airport state line block command read judged.0 after judged.1)
-
-    pub judged-broken : (r : Rule) (after : State) → IsJudged airport command block state (Ok (Some r)) after → ChecksIn airport line block state (Err (check.Wrong r)) after
-    judged-broken r after judged = (first-broken airport state line block command read memory r judged.0, judged.1)
-
-    pub judged-checks : (r : Result (Option Rule) Memory) (after : State) → IsJudged airport command block state r after → ChecksIn airport line block state (answer_of r) after
-    judged-checks (Ok None) after judged = judged-passes after judged
-    judged-checks (Ok (Some rule)) after judged = judged-broken rule after judged
-    judged-checks (Err memory) after judged = judged
 
   pub bad-checks : command_of line ≡ None → (r : Result Unit CheckRefused) → IsBadLineChecked block r → ChecksIn airport line block state r state
   bad-checks none (Ok done) (inl bad) = bad-passes none bad
   bad-checks none (Ok done) (inr memory) = memory-passes (λ h. rw none at h) memory
   bad-checks none (Err (check.Wrong r)) checked = subst (λ r. ChecksIn airport line block state (Err (check.Wrong r)) state) (sym checked.0) (bad-broken none checked.1 checked.2)
   bad-checks none (Err check.Memory) checked = absurd checked
+
+  -- a block that is judged
+  module _ (command : Command) (read : command_of line ≡ Some command) (memory : (NeedsNoMemory (Some command) → ⊥) × (block ≡ Refused refusal.Memory) → ⊥) where
+    pub judged-checks : (r : Result Unit CheckRefused) (after : State) → IsJudged airport command block state r after → ChecksIn airport line block state r after
+    judged-checks (Ok done) after judged = passes after (passed airport state line block command read judged.0 after judged.1)
+    judged-checks (Err (check.Wrong broken)) after judged = (first-broken airport state line block command read memory broken judged.0, judged.1)
+    judged-checks (Err check.Memory) after judged = judged

@@ -1,26 +1,29 @@
 -- Routes that are told, and the state with them.
-use Rattle.std.proofs.Common.{◌≡◌, ℕ, ◌⊎◌, inl, inr, true, false, List, Option, Some, None, is_some, IsTrue, refl, sym, subst}
+use Rattle.std.proofs.Common.{◌≡◌, ℕ, ◌⊎◌, inl, inr, List, [], None, IsTrue, refl, sym, subst}
 use Rattle.std.specs.Prelude.{Result, Ok, Err, OnOk, OnErr, All}
+use Rattle.taxi_base.specs.declared.numbers.Class.{Class}
+use Rattle.taxi_base.specs.declared.numbers.Node.{Node}
 use Rattle.taxi_base.specs.declared.rows.Step.{Step as Leg}
 use Rattle.taxi_base.specs.declared.rows.LabelRow.{LabelRow}
+use Rattle.taxi_base.specs.declared.answers.Request.{Request}
 use Rattle.taxi_base.specs.Airport.{Airport, layout_of, arc_exists}
-use Rattle.taxi_base.specs.Walks.{Conditions, IsFeasibleWalk}
-use Rattle.taxi_base.specs.State.{State, IsSound}
+use Rattle.taxi_base.specs.Walks.{Conditions, conditions_among, IsFeasibleWalk}
+use Rattle.taxi_base.specs.State.{State, holds_in, IsSound}
 use Rattle.taxi_base.proofs.WalkLaws.{IsFeasibleWalk-steps}
-use Rattle.certificate.specs.declared.block.Block.{Block}
-use Rattle.certificate.specs.declared.block.Block.TheVariants.{Refused, Filed, Cancelled, Route, NoRoute, Windows, Occupancy, Timetable}
-use Rattle.certificate.specs.declared.rule.Rule.{Rule}
+use Rattle.certificate.specs.declared.block.Block.TheVariants.{Route}
 use Rattle.certificate.specs.declared.rule.Rule.TheVariants as rule
-use Rattle.certificate.specs.Sought.{Sought, IsWalkFor}
-use Rattle.certificate.specs.Passes.{IsFormOf}
+use Rattle.certificate.specs.Asked.{Choice, request_for}
+use Rattle.certificate.specs.Sought.{Sought, sought_new, sought_any, IsWalkFor}
+use Rattle.certificate.specs.Passes.{KeepsSought, IsFirstOf}
+use Rattle.held_spans.specs.declared.spans.HeldSpans.{HeldSpans}
+use Rattle.held_spans.specs.Spans.{AreSpansOf, holds_in_lists}
 use Rattle.check_rows.specs.declared.known.KnownWindows.{KnownWindows}
 use Rattle.checked_state.specs.declared.flights.HeldFlights.{HeldFlights}
 use Rattle.checked_state.specs.Flights.{state_of, HasSpansOf}
-use Rattle.check_walks.specs.Told.{IsFirstOf}
+use Rattle.check_walks.specs.Told.{Seeks}
 use Rattle.due_refusals.specs.KnownIn.{AreKnownIn}
+use Rattle.due_refusals.proofs.HeldLaws.{same-conditions}
 use Rattle.certificate_check.specs.Desk.{CanGoOn, IsReady}
-use Rattle.certificate_check.specs.Judged.{KeepsTold, IsAfterTold, IsToldOf}
-use Rattle.certificate_check.proofs.JudgedLaws.{reply-first}
 
 pub walk-arcs : (c : Conditions) (steps : List Leg) → IsFeasibleWalk c steps → All (λ step. IsTrue (arc_exists (layout_of c.airport) step.arc)) steps
 walk-arcs c steps walk k d low = (IsFeasibleWalk-steps c steps walk k d low).on_arc
@@ -40,37 +43,18 @@ ready-by airport held known state is sound go_on are_known spans = record {
   are_known = subst (λ (s : State). AreKnownIn airport s known) (sym is) are_known;
 }
 
+-- ---- what is sought
+
+module _ (airport : Airport) (state : State) (name : List ℕ) (class : Class) (spans : HeldSpans) (has : AreSpansOf (holds_in airport state) spans) where
+  -- what is sought of a new flight among the holders is sought so among their spans
+  pub new-seeks : (request : Request) → Seeks (conditions_among airport class (holds_in_lists spans)) request [] None (sought_new airport state name class request)
+  new-seeks request = record { conditions = sym (same-conditions airport class spans (holds_in airport state) has); asked = refl; nodes = refl; under_way = refl; no_floor = refl }
+
+  pub any-seeks : (choice : Choice) (node : Node) (others : List Node) → Seeks (conditions_among airport class (holds_in_lists spans)) (request_for choice node) others None (sought_any airport state name class choice node others)
+  any-seeks choice node others = record { conditions = sym (same-conditions airport class spans (holds_in airport state) has); asked = refl; nodes = refl; under_way = refl; no_floor = refl }
+
 -- ---- what is told
 
-pub not-told : (s : Sought) (block : Block) (state : State) → (IsFormOf s block → ⊥) → IsToldOf s block state (Ok (Some rule.Reply)) state
-not-told s block state other = (reply-first (KeepsTold s block) other, refl)
-
-pub told-broken : (s : Sought) (block : Block) (state : State) (broken : Option Rule) → is_some broken ≡ true → IsFirstOf (KeepsTold s block) broken → IsToldOf s block state (Ok broken) state
-told-broken s block state None some first = absurd (cc some)
-told-broken s block state (Some r) some first = (first, refl)
-
-pub none-broken : (s : Sought) (block : Block) (broken : Option Rule) → is_some broken ≡ false → IsFirstOf (KeepsTold s block) broken → IsFirstOf (KeepsTold s block) None
-none-broken s block None none first = first
-none-broken s block (Some r) none first = absurd (cc none)
-
--- the walk of a route that breaks no rule
-pub told-walk : (s : Sought) (block : Block) (name : List ℕ) (second : ℕ) (steps : List Leg) (labels : List LabelRow) → block ≡ Route name second steps labels → IsFirstOf (KeepsTold s block) None → IsWalkFor s steps
-told-walk s block name second steps labels is all = (subst (λ b. KeepsTold s b rule.Walk) is (all rule.Walk)).0
-
-pub told-route : (s : Sought) (block : Block) (name : List ℕ) (second : ℕ) (steps : List Leg) (labels : List LabelRow) → block ≡ Route name second steps labels → IsFirstOf (KeepsTold s block) None
-    → (old new : State) → new ≡ s.with_steps steps → IsToldOf s block old (Ok None) new
-told-route s block name second steps labels is all old new after = (all, subst (λ b. IsAfterTold old s b new) (sym is) after)
-
--- a block that tells no route leaves the state
-pub told-other : (s : Sought) (block : Block) (state : State) → ((name : List ℕ) (second : ℕ) (steps : List Leg) (labels : List LabelRow) → block ≡ Route name second steps labels → ⊥) → IsFirstOf (KeepsTold s block) None
-    → IsToldOf s block state (Ok None) state
-told-other s block state other all = (all, go block other) where
-  go : (b : Block) → ((name : List ℕ) (second : ℕ) (steps : List Leg) (labels : List LabelRow) → b ≡ Route name second steps labels → ⊥) → IsAfterTold state s b state
-  go (Route name second steps labels) other = absurd (other name second steps labels refl)
-  go (NoRoute labels) other = refl
-  go (Refused why) other = refl
-  go (Filed name start end) other = refl
-  go (Cancelled name) other = refl
-  go (Windows segment windows) other = refl
-  go (Occupancy segment rows) other = refl
-  go (Timetable rows) other = refl
+-- the walk of a route that breaks no rule after the form
+pub told-walk : (s : Sought) (name : List ℕ) (second : ℕ) (steps : List Leg) (labels : List LabelRow) → IsFirstOf (λ r. KeepsSought r s (Route name second steps labels)) None → IsWalkFor s steps
+told-walk s name second steps labels all = (all rule.Walk).0

@@ -1,10 +1,19 @@
--- Which steps does a block tell?
-use Rattle.std.specs.Prelude.{◌≡◌, List, Option, Some, None}
-use Rattle.taxi_base.specs.declared.rows.Step.{Step}
+-- What is found of a block that tells of a flight in force?
+use Rattle.std.specs.Prelude.{ℕ, ◌≡◌, List, [], Some, Result}
+use Rattle.taxi_base.specs.declared.answers.Flight.{Flight}
+use Rattle.taxi_base.specs.declared.answers.Request.{Request}
+use Rattle.taxi_base.specs.Airport.{Airport}
+use Rattle.taxi_base.specs.State.{State, flight_named, conditions_of}
 use Rattle.certificate.specs.declared.block.Block.{Block}
-use Rattle.certificate.specs.declared.block.Block.TheVariants.{Route}
+use Rattle.certificate.specs.Sought.{Sought}
+use Rattle.certificate.specs.Passes.{KeepsSought}
+use Rattle.transcripts.specs.declared.refused.CheckRefused.{CheckRefused}
+use Rattle.check_walks.specs.Told.{Seeks}
+use Rattle.certificate_check.specs.Judged.{IsAnsweredBy}
 
--- those of its route, if it tells one
-abbrev pub HasToldSteps : Block → Option (List Step) → Type 0
-HasToldSteps (Route name second steps labels) told = told ≡ Some steps
-HasToldSteps _ told = told ≡ None
+-- the first rule after the form that the block breaks is answered: the flight is sought among the others, from a time on and with a
+-- request that has perhaps another node to reach
+abbrev pub IsFoundAmong : Airport → State → List ℕ → ℕ → Request → Block → Result Unit CheckRefused → Type 0
+IsFoundAmong airport state name time request block result =
+    (flight : Flight) → flight_named name state.flights ≡ Some flight
+    → (s : Sought) → Seeks (conditions_of airport state flight) request [] (Some (record { steps = flight.steps; time = time })) s → IsAnsweredBy (λ rule. KeepsSought rule s block) result

@@ -1,12 +1,10 @@
 -- What is a block answered when it is checked, and what is the state then?
-use Rattle.std.specs.Prelude.{ℕ, ◌≡◌, ◌⊎◌, List, Option, Some, None, Result, Ok, Err}
-use Rattle.taxi_base.specs.declared.collections.Memory.{Memory as NoMemory}
+use Rattle.std.specs.Prelude.{ℕ, ◌≡◌, ◌⊎◌, List, Result, Ok, Err}
 use Rattle.taxi_base.specs.Airport.{Airport}
 use Rattle.taxi_base.specs.State.{State}
 use Rattle.taxi_base.specs.declared.answers.Refusal.TheVariants as refusal
 use Rattle.certificate.specs.declared.block.Block.{Block}
 use Rattle.certificate.specs.declared.block.Block.TheVariants.{Refused}
-use Rattle.certificate.specs.declared.rule.Rule.{Rule}
 use Rattle.certificate.specs.declared.rule.Rule.TheVariants.{Reply}
 use Rattle.transcripts.specs.declared.refused.CheckRefused.{CheckRefused}
 use Rattle.transcripts.specs.declared.refused.CheckRefused.TheVariants.{Wrong, Memory}
@@ -26,9 +24,3 @@ abbrev pub IsBadLineChecked : Block → Result Unit CheckRefused → Type 0
 IsBadLineChecked block (Ok done) = (block ≡ Refused refusal.BadLine) ⊎ (block ≡ Refused refusal.Memory)
 IsBadLineChecked block (Err (Wrong rule)) = (rule ≡ Reply) × (block ≡ Refused refusal.BadLine → ⊥) × (block ≡ Refused refusal.Memory → ⊥)
 IsBadLineChecked block (Err Memory) = ⊥
-
--- what the first rule that is broken is answered
-abbrev pub answer_of : Result (Option Rule) NoMemory → Result Unit CheckRefused
-answer_of (Ok None) = Ok tt
-answer_of (Ok (Some rule)) = Err (Wrong rule)
-answer_of (Err memory) = Err Memory

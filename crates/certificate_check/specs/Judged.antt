@@ -1,23 +1,34 @@
--- Which rule does a block break first, as the answer to a command, and what is the state then? Beside `refused memory`.
-use Rattle.std.specs.Prelude.{◌≡◌, Bool, true, false, if◌then◌else◌, Option, Some, None, Result, Ok, Err, MatchOption, ⊤}
+-- Does a block pass as the answer to a command, by which rule does it fail first, and what is the state then? Beside `refused memory`.
+use Rattle.std.specs.Prelude.{◌≡◌, Bool, if◌then◌else◌, List, Option, Some, None, All, Result, Ok, Err, MatchOption, ⊤}
 use Rattle.taxi_base.specs.Airport.{Airport}
 use Rattle.taxi_base.specs.State.{State}
-use Rattle.taxi_base.specs.declared.collections.Memory.{Memory}
 use Rattle.taxi_text.specs.declared.command.Command.{Command}
-use Rattle.taxi_text.specs.declared.command.Command.TheVariants.{File, Arrival, Departure, ArrivalAny, DepartureAny}
 use Rattle.certificate.specs.declared.block.Block.{Block}
-use Rattle.certificate.specs.declared.block.Block.TheVariants.{Refused, Filed, Cancelled, Route}
+use Rattle.certificate.specs.declared.block.Block.TheVariants.{Refused, Filed, Cancelled}
 use Rattle.certificate.specs.declared.rule.Rule.{Rule}
 use Rattle.certificate.specs.declared.rule.Rule.TheVariants as rule
 use Rattle.certificate.specs.Refusals.{first_refusal}
 use Rattle.certificate.specs.Replies.{IsDueTo}
 use Rattle.certificate.specs.Sought.{Sought, sought_of}
-use Rattle.certificate.specs.Passes.{IsFormOf, IsAsAsked, KeepsSought}
-use Rattle.check_walks.specs.Told.{IsFirstOf}
+use Rattle.certificate.specs.Turns.{Turn, told_in, after_told, in_turns, after_turns}
+use Rattle.certificate.specs.Passes.{IsFormOf, IsAsAsked, KeepsSought, KeepsTurn, IsFirstOf, BreaksFirst}
+use Rattle.transcripts.specs.declared.refused.CheckRefused.{CheckRefused}
+use Rattle.transcripts.specs.declared.refused.CheckRefused.TheVariants.{Wrong, Memory}
 
--- the rule that is broken where a block is not of the form that is due
-abbrev pub broken_unless : Bool → Option Rule
-broken_unless kept = if kept then None else Some rule.Reply
+-- a block passes where it is of the form that is due
+abbrev pub passed_if : Bool → Result Unit CheckRefused
+passed_if kept = if kept then Ok tt else Err (Wrong rule.Reply)
+
+-- and where it breaks no rule
+abbrev pub answer_of : Option Rule → Result Unit CheckRefused
+answer_of None = Ok tt
+answer_of (Some rule) = Err (Wrong rule)
+
+-- the first of some rules that is not kept is answered, or that all are, or that memory ran out
+abbrev pub IsAnsweredBy : (Rule → Type 0) → Result Unit CheckRefused → Type 0
+IsAnsweredBy IsKept (Ok done) = IsFirstOf IsKept None
+IsAnsweredBy IsKept (Err (Wrong rule)) = IsFirstOf IsKept (Some rule)
+IsAnsweredBy IsKept (Err Memory) = ⊤
 
 -- ---- what is told of a search
 
@@ -29,60 +40,48 @@ KeepsTold s block rule.Start = KeepsSought rule.Start s block
 KeepsTold s block rule.Step = KeepsSought rule.Step s block
 KeepsTold s block rule.Target = KeepsSought rule.Target s block
 
--- a route is in force afterwards
-abbrev pub IsAfterTold : State → Sought → Block → State → Type 0
-IsAfterTold state s (Route name second steps labels) after = after ≡ s.with_steps steps
-IsAfterTold state s _ after = after ≡ state
-
 -- none of the rules is broken, or one is, and only where none is the state changes
-abbrev pub IsToldOf : Sought → Block → State → Result (Option Rule) Memory → State → Type 0
-IsToldOf s block old (Ok None) new = IsFirstOf (KeepsTold s block) None × IsAfterTold old s block new
-IsToldOf s block old (Ok (Some broken)) new = IsFirstOf (KeepsTold s block) (Some broken) × (new ≡ old)
-IsToldOf s block old (Err memory) new = new ≡ old
+abbrev pub IsToldOf : Sought → Block → State → Result Unit CheckRefused → State → Type 0
+IsToldOf s block old (Ok done) new = IsFirstOf (KeepsTold s block) None × (new ≡ after_told s block)
+IsToldOf s block old (Err (Wrong broken)) new = IsFirstOf (KeepsTold s block) (Some broken) × (new ≡ old)
+IsToldOf s block old (Err Memory) new = new ≡ old
 
 -- ---- a command
-
--- whether a command brings a new flight
-abbrev pub brings_flight : Command → Bool
-brings_flight (File flight class start steps) = true
-brings_flight (Arrival flight class from to time hold) = true
-brings_flight (Departure flight class from to time queue) = true
-brings_flight (ArrivalAny flight class from time hold stands) = true
-brings_flight (DepartureAny flight class from time queue nodes) = true
-brings_flight _ = false
-
--- whether it seeks a walk to one node for it
-abbrev pub is_search : Command → Bool
-is_search (Arrival flight class from to time hold) = true
-is_search (Departure flight class from to time queue) = true
-is_search _ = false
-
--- whether it seeks a walk to the best of several
-abbrev pub is_choice : Command → Bool
-is_choice (ArrivalAny flight class from time hold stands) = true
-is_choice (DepartureAny flight class from time queue nodes) = true
-is_choice _ = false
 
 -- where a refusal is due, the block is that refusal
 abbrev pub IsDueForm : Airport → State → Command → Block → Type 0
 IsDueForm airport state command block =
     MatchOption (first_refusal airport state command) (IsAsAsked airport state command block) (λ why. block ≡ Refused why)
 
+-- the searches of a block that answers a command
+abbrev pub turns_for : Airport → State → Command → Block → List Turn
+turns_for airport state command block = in_turns (λ now told. sought_of airport now command) state (told_in block)
+
+-- a rule is kept: the first one as a whole, and the others in each search
 abbrev pub KeepsFor : Airport → State → Command → Block → Rule → Type 0
 KeepsFor airport state command block rule.Reply = IsDueForm airport state command block
-KeepsFor airport state command block rule.Walk = MatchOption (sought_of airport state command) ⊤ (λ s. KeepsSought rule.Walk s block)
-KeepsFor airport state command block rule.Rows = MatchOption (sought_of airport state command) ⊤ (λ s. KeepsSought rule.Rows s block)
-KeepsFor airport state command block rule.Start = MatchOption (sought_of airport state command) ⊤ (λ s. KeepsSought rule.Start s block)
-KeepsFor airport state command block rule.Step = MatchOption (sought_of airport state command) ⊤ (λ s. KeepsSought rule.Step s block)
-KeepsFor airport state command block rule.Target = MatchOption (sought_of airport state command) ⊤ (λ s. KeepsSought rule.Target s block)
+KeepsFor airport state command block rule.Walk = All (λ turn. KeepsTurn turn rule.Walk) (turns_for airport state command block)
+KeepsFor airport state command block rule.Rows = All (λ turn. KeepsTurn turn rule.Rows) (turns_for airport state command block)
+KeepsFor airport state command block rule.Start = All (λ turn. KeepsTurn turn rule.Start) (turns_for airport state command block)
+KeepsFor airport state command block rule.Step = All (λ turn. KeepsTurn turn rule.Step) (turns_for airport state command block)
+KeepsFor airport state command block rule.Target = All (λ turn. KeepsTurn turn rule.Target) (turns_for airport state command block)
+
+-- the first rule that is broken: reply, or where that is kept, the first that the searches break
+abbrev pub BreaksFor : Airport → State → Command → Block → Rule → Type 0
+BreaksFor airport state command block rule.Reply = IsDueForm airport state command block → ⊥
+BreaksFor airport state command block rule.Walk = IsDueForm airport state command block × BreaksFirst (turns_for airport state command block) rule.Walk
+BreaksFor airport state command block rule.Rows = IsDueForm airport state command block × BreaksFirst (turns_for airport state command block) rule.Rows
+BreaksFor airport state command block rule.Start = IsDueForm airport state command block × BreaksFirst (turns_for airport state command block) rule.Start
+BreaksFor airport state command block rule.Step = IsDueForm airport state command block × BreaksFirst (turns_for airport state command block) rule.Step
+BreaksFor airport state command block rule.Target = IsDueForm airport state command block × BreaksFirst (turns_for airport state command block) rule.Target
 
 abbrev pub IsAfterFor : Airport → State → Command → Block → State → Type 0
-IsAfterFor airport state command (Route name second steps labels) after = MatchOption (sought_of airport state command) ⊥ (λ s. after ≡ s.with_steps steps)
 IsAfterFor airport state command (Filed name start end) after = IsDueTo airport state command (Filed name start end) after
 IsAfterFor airport state command (Cancelled name) after = IsDueTo airport state command (Cancelled name) after
-IsAfterFor airport state command _ after = after ≡ state
+IsAfterFor airport state command block after = after ≡ after_turns state (turns_for airport state command block)
 
-abbrev pub IsJudged : Airport → Command → Block → State → Result (Option Rule) Memory → State → Type 0
-IsJudged airport command block old (Ok None) new = IsFirstOf (KeepsFor airport old command block) None × IsAfterFor airport old command block new
-IsJudged airport command block old (Ok (Some broken)) new = IsFirstOf (KeepsFor airport old command block) (Some broken) × (new ≡ old)
-IsJudged airport command block old (Err memory) new = new ≡ old
+-- a block passes that keeps every rule, and only then the state changes
+abbrev pub IsJudged : Airport → Command → Block → State → Result Unit CheckRefused → State → Type 0
+IsJudged airport command block old (Ok done) new = ((rule : Rule) → KeepsFor airport old command block rule) × IsAfterFor airport old command block new
+IsJudged airport command block old (Err (Wrong broken)) new = BreaksFor airport old command block broken × (new ≡ old)
+IsJudged airport command block old (Err Memory) new = new ≡ old

@@ -1,80 +1,119 @@
 //! Routes that are told of flights in force, which are routed anew among the others.
-ghost use Rattle.std.specs.Prelude.{◌≡◌, ◌↔◌, [], List as Items, Some, None, Ok, IsSome, IfOk, OnOk, OnErr, IsTrue, length};
+ghost use Rattle.std.specs.Prelude.{◌≡◌, List as Items, Some, IsSome, OnOk, OnErr, length};
 ghost use Rattle.taxi_base.specs.declared.answers.Flight.{Flight};
 ghost use Rattle.taxi_base.specs.declared.rows.Step.{Step as StepRow};
 ghost use Rattle.taxi_base.specs.Windows.{Hold};
 ghost use Rattle.taxi_base.specs.Walks.{Meets, free_among};
 ghost use Rattle.taxi_base.specs.State.{flight_named, flight_holds, without, with_route, conditions_of, IsSound};
-ghost use Rattle.certificate.specs.Sought.{Sought, sought_again, IsWalkOnFor};
-ghost use Rattle.certificate.specs.Passes.{KeepsSought};
+ghost use Rattle.certificate.specs.declared.block.Block.TheVariants.{Route, NoRoute};
+ghost use Rattle.certificate.specs.Sought.{sought_again, IsWalkOnFor};
 ghost use Rattle.check_rows.specs.Known.{AreKnown, HaveMore};
 ghost use Rattle.checked_state.specs.Flights.{state_of, HasSpansOf, HasRoomAgain};
-ghost use Rattle.check_walks.specs.Told.{CanBeSought, IsFirstOf};
+ghost use Rattle.check_walks.specs.Told.{CanBeSought};
 ghost use Rattle.due_refusals.specs.KnownIn.{AreKnownIn};
 ghost use Rattle.certificate_check.specs.Desk.{IsReady};
 ghost use Rattle.certificate_check.specs.Judged.{IsToldOf};
-ghost use Rattle.certificate_check.specs.Again.{HasToldSteps};
+ghost use Rattle.certificate_check.specs.Again.{IsFoundAmong};
 
-use crate::reply::is_told;
-use crate::routed::copied;
+use crate::CheckRefused;
+use crate::reply::{pass_if, pass_unless};
 use airport_file::Airport;
-use certificate::{Block, Rule};
+use certificate::Block;
 use check_rows::KnownWindows;
-use check_walks::{Asked, OnTheWay, check_told};
+use check_walks::{OnTheWay, SoughtWalk, ToldRoute, check_no_route, check_route};
 use checked_state::HeldFlights;
-use std::alloc::Global;
-use taxi_base::{List, Memory, Name, Request, Step, Time};
+use taxi_base::{LabelRow, List, Memory, Name, Request, Step, Time};
 
-/// The first rule that what is told of a flight in force breaks, from a time on and with a request that has perhaps another
-/// node to reach. Where none is broken, and a route is told, the flight has it afterwards.
+/// A flight in force that is routed anew: from which time on, with what request, and whether there may be no route.
+#[derive(Clone, Copy)]
+pub struct Anew<'a> {
+    pub name: &'a Name,
+    pub time: Time,
+    pub request: Request,
+    pub may_be_none: bool,
+}
+
+/// Checks what is told of a flight in force that is routed anew. Where a route passes, the flight has it afterwards.
 pub fn check_again(
-    alloc: Global,
     airport: &Airport,
     held: &mut HeldFlights,
     known: &mut KnownWindows,
-    name: &Name,
-    time: Time,
-    may_be_none: bool,
-    request: Request,
-    block: &Block,
-) -> Result<Option<Rule>, Memory>
+    anew: &Anew<'_>,
+    block: Block,
+) -> Result<(), CheckRefused>
     requires ready { IsReady airport.now held.old known.old }
-    requires in_force { IsSome (flight_named name.now (state_of held.old).flights) }
-    requires sought { CanBeSought airport.now request }
-    requires meant { (flight : Flight) → flight_named name.now (state_of held.old).flights ≡ Some flight → (steps : List StepRow) → IsWalkOnFor (conditions_of airport.now (state_of held.old) flight) request (record { steps = flight.steps; time = time }) steps → Meets (conditions_of airport.now (state_of held.old) flight) request steps }
-    ensures told { (flight : Flight) → flight_named name.now (state_of held.old).flights ≡ Some flight → IsToldOf (sought_again airport.now (state_of held.old) name.now time may_be_none flight request) block.now (state_of held.old) result (state_of held.new) }
+    requires in_force { IsSome (flight_named anew.now.name.now (state_of held.old).flights) }
+    requires sought { CanBeSought airport.now anew.now.request }
+    requires meant { (flight : Flight) → flight_named anew.now.name.now (state_of held.old).flights ≡ Some flight → (steps : Items StepRow) → IsWalkOnFor (conditions_of airport.now (state_of held.old) flight) anew.now.request (record { steps = flight.steps; time = anew.now.time }) steps → Meets (conditions_of airport.now (state_of held.old) flight) anew.now.request steps }
+    ensures told { (flight : Flight) → flight_named anew.now.name.now (state_of held.old).flights ≡ Some flight → IsToldOf (sought_again airport.now (state_of held.old) anew.now.name.now anew.now.time anew.now.may_be_none flight anew.now.request) block (state_of held.old) result (state_of held.new) }
     ensures ready { IsReady airport.now held.new known.new }
 {
-    if !is_told(block, name, may_be_none) {
-        return Ok(Some(Rule::Reply));
+    match block {
+        Block::Route {
+            flight,
+            second,
+            steps,
+            labels,
+        } => {
+            pass_if(flight == *anew.name)?;
+            check_other_route(airport, held, known, anew, second, steps, labels.as_slice())
+        }
+        Block::NoRoute { labels } => {
+            pass_if(anew.may_be_none)?;
+            lift(airport, held, known, anew.name);
+            let told = no_route_among(airport, held, known, anew, labels.as_slice());
+            lower(airport, held, known, anew.name);
+            told
+        }
+        _ => pass_if(false),
     }
-    let steps = told_steps(alloc, block)?;
-    let told = check_lifted(airport, held, known, name, time, request, block);
-    if !is_passed(&told) {
-        lower(airport, held, known, name);
+}
+
+// Checks the route that is told of a flight in force. Where it passes, the flight has it afterwards.
+fn check_other_route(
+    airport: &Airport,
+    held: &mut HeldFlights,
+    known: &mut KnownWindows,
+    anew: &Anew<'_>,
+    second: Time,
+    steps: List<Step>,
+    labels: &[LabelRow],
+) -> Result<(), CheckRefused>
+    requires ready { IsReady airport.now held.old known.old }
+    requires in_force { IsSome (flight_named anew.now.name.now (state_of held.old).flights) }
+    requires sought { CanBeSought airport.now anew.now.request }
+    requires meant { (flight : Flight) → flight_named anew.now.name.now (state_of held.old).flights ≡ Some flight → (steps : Items StepRow) → IsWalkOnFor (conditions_of airport.now (state_of held.old) flight) anew.now.request (record { steps = flight.steps; time = anew.now.time }) steps → Meets (conditions_of airport.now (state_of held.old) flight) anew.now.request steps }
+    ensures told { (flight : Flight) → flight_named anew.now.name.now (state_of held.old).flights ≡ Some flight → IsToldOf (sought_again airport.now (state_of held.old) anew.now.name.now anew.now.time anew.now.may_be_none flight anew.now.request) (Route anew.now.name.now second steps labels.now) (state_of held.old) result (state_of held.new) }
+    ensures ready { IsReady airport.now held.new known.new }
+{
+    lift(airport, held, known, anew.name);
+    let route = ToldRoute {
+        second,
+        steps: steps.as_slice(),
+        labels,
+    };
+    let told = route_among(airport, held, known, anew, &route);
+    if told.is_err() {
+        lower(airport, held, known, anew.name);
         return told;
     }
-    match steps {
-        Some(steps) => put_on(airport, held, known, name, request, steps)?,
-        None => lower(airport, held, known, name),
-    }
-    Ok(None)
+    put_on(airport, held, known, anew.name, anew.request, steps)?;
+    Ok(())
 }
 
-fn is_passed(told: &Result<Option<Rule>, Memory>) -> bool
-    ensures { IsTrue result ↔ (told.now ≡ Ok None) }
+// Takes the spans of a flight in force out, and forgets the windows beside them: those that are known are the windows without
+// the flight.
+fn lift(airport: &Airport, held: &mut HeldFlights, known: &mut KnownWindows, name: &Name)
+    requires ready { IsReady airport.now held.old known.old }
+    requires in_force { IsSome (flight_named name.now (state_of held.old).flights) }
+    ensures state { state_of held.new ≡ state_of held.old }
+    ensures spans { HasSpansOf airport.now (without name.now (state_of held.old)) held.new }
+    ensures room { HasRoomAgain name.now held.new }
+    ensures known { AreKnownIn airport.now (without name.now (state_of held.old)) known.new }
 {
-    matches!(told, Ok(None))
-}
-
-// The steps of a route that is told, if one is.
-fn told_steps(alloc: Global, block: &Block) -> Result<Option<List<Step>>, Memory>
-    ensures { IfOk result (HasToldSteps block.now) }
-{
-    match block {
-        Block::Route { steps, .. } => Ok(Some(copied(alloc, steps.as_slice())?)),
-        _ => Ok(None),
-    }
+    held.lift(airport, name);
+    let flight = held.flight(name).unwrap();
+    known.forget(airport, flight.steps.as_slice());
 }
 
 // Puts the spans of a flight in force back, and cuts them out of the windows that are known without them.
@@ -130,33 +169,62 @@ pub(crate) fn cut_out(airport: &Airport, held: &HeldFlights, known: &mut KnownWi
     known.cut(airport, clearance, flight.steps.as_slice());
 }
 
-// The first rule after the form that what is told of a flight in force breaks. Its spans are taken out for it, and stay out;
-// the windows that are known are those without them.
-fn check_lifted(
+// Checks the rules after the form of a route that is told of a flight in force, whose spans are taken out.
+fn route_among(
     airport: &Airport,
-    held: &mut HeldFlights,
+    held: &HeldFlights,
     known: &mut KnownWindows,
-    name: &Name,
-    time: Time,
-    request: Request,
-    block: &Block,
-) -> Result<Option<Rule>, Memory>
-    requires ready { IsReady airport.now held.old known.old }
-    requires in_force { IsSome (flight_named name.now (state_of held.old).flights) }
-    requires sought { CanBeSought airport.now request }
-    ensures state { state_of held.new ≡ state_of held.old }
-    ensures spans { HasSpansOf airport.now (without name.now (state_of held.old)) held.new }
-    ensures room { HasRoomAgain name.now held.new }
-    ensures known { AreKnownIn airport.now (without name.now (state_of held.old)) known.new }
-    ensures first { IfOk result (λ broken. (flight : Flight) → flight_named name.now (state_of held.old).flights ≡ Some flight → (s : Sought) → s.conditions ≡ conditions_of airport.now (state_of held.old) flight → s.request ≡ request → s.others ≡ [] → s.under_way ≡ Some (record { steps = flight.steps; time = time }) → IsFirstOf (λ rule. KeepsSought rule s block.now) broken) }
+    anew: &Anew<'_>,
+    route: &ToldRoute<'_>,
+) -> Result<(), CheckRefused>
+    requires sound { IsSound airport.now (state_of held.now) }
+    requires in_force { IsSome (flight_named anew.now.name.now (state_of held.now).flights) }
+    requires spans { HasSpansOf airport.now (without anew.now.name.now (state_of held.now)) held.now }
+    requires known { AreKnownIn airport.now (without anew.now.name.now (state_of held.now)) known.old }
+    requires sought { CanBeSought airport.now anew.now.request }
+    ensures known { AreKnownIn airport.now (without anew.now.name.now (state_of held.now)) known.new }
+    ensures found { IsFoundAmong airport.now (state_of held.now) anew.now.name.now anew.now.time anew.now.request (Route anew.now.name.now route.now.second route.now.steps.now route.now.labels.now) result }
 {
     // The airport keeps its rules, so steps are entered early enough.
     let _ = airport.horizon();
-    held.lift(airport, name);
-    let flight = held.flight(name).unwrap();
-    let steps = flight.steps.as_slice();
-    known.forget(airport, steps);
-    let way = Some(OnTheWay { steps, time });
-    let asked = Asked { request, way };
-    check_told(airport, flight.class, held.spans(), known, &asked, block)
+    let flight = held.flight(anew.name).unwrap();
+    let sought = SoughtWalk {
+        request: anew.request,
+        way: Some(OnTheWay {
+            steps: flight.steps.as_slice(),
+            time: anew.time,
+        }),
+    };
+    let broken = check_route(airport, flight.class, held.spans(), known, &sought, route)?;
+    pass_unless(broken)
+}
+
+// The same where it is told that there is no route.
+fn no_route_among(
+    airport: &Airport,
+    held: &HeldFlights,
+    known: &mut KnownWindows,
+    anew: &Anew<'_>,
+    labels: &[LabelRow],
+) -> Result<(), CheckRefused>
+    requires sound { IsSound airport.now (state_of held.now) }
+    requires in_force { IsSome (flight_named anew.now.name.now (state_of held.now).flights) }
+    requires spans { HasSpansOf airport.now (without anew.now.name.now (state_of held.now)) held.now }
+    requires known { AreKnownIn airport.now (without anew.now.name.now (state_of held.now)) known.old }
+    requires sought { CanBeSought airport.now anew.now.request }
+    ensures known { AreKnownIn airport.now (without anew.now.name.now (state_of held.now)) known.new }
+    ensures found { IsFoundAmong airport.now (state_of held.now) anew.now.name.now anew.now.time anew.now.request (NoRoute labels.now) result }
+{
+    // The airport keeps its rules, so steps are entered early enough.
+    let _ = airport.horizon();
+    let flight = held.flight(anew.name).unwrap();
+    let sought = SoughtWalk {
+        request: anew.request,
+        way: Some(OnTheWay {
+            steps: flight.steps.as_slice(),
+            time: anew.time,
+        }),
+    };
+    let broken = check_no_route(airport, flight.class, held.spans(), known, &sought, labels)?;
+    pass_unless(broken)
 }

@@ -8,7 +8,7 @@ impl<'a> BlockChecker for Checker<'a> {
 
     ghost state = { λ c. c.state };
 
-    fn check_next(&mut self, line: &[u8], block: &Block) -> Result<(), CheckRefused> {
+    fn check_next(&mut self, line: &[u8], block: Block) -> Result<(), CheckRefused> {
         Checker::check_next(self, line, block)
     }
 }

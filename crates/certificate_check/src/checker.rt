@@ -51,8 +51,8 @@ impl<'a> Checker<'a> {
     }
 
     /// Checks the block that answers a line. Where it passes the state is that afterwards; else it stays as it was.
-    pub fn check_next(&mut self, line: &[u8], block: &Block) -> Result<(), CheckRefused>
-        ensures { Checks line.now block.now self.old result self.new }
+    pub fn check_next(&mut self, line: &[u8], block: Block) -> Result<(), CheckRefused>
+        ensures { Checks line.now block self.old result self.new }
     {
         let (held, known) = (&mut self.held, &mut self.known);
         check_line(self.alloc, self.airport, held, known, line, block)

@@ -12,137 +12,141 @@ ghost use Rattle.check_walks.specs.Choice.{CanBeSoughtAny};
 ghost use Rattle.certificate_check.specs.Desk.{IsReady};
 ghost use Rattle.certificate_check.specs.Judged.{IsJudged, IsToldOf};
 
-use crate::plain::broken_unless;
-use crate::reply::{is_refusal, is_told};
-use crate::routed::take_route;
+use crate::CheckRefused;
+use crate::reply::{is_refusal, pass_if, pass_unless};
+use crate::routed::put_in_force;
 use airport_file::Airport;
-use certificate::{Block, Rule};
+use certificate::Block;
 use check_rows::KnownWindows;
-use check_walks::{AskedAny, check_told_any, retargeted};
+use check_walks::{SoughtWalkToAny, ToldRoute, check_no_route_to_any, check_route_to_any};
 use checked_state::HeldFlights;
 use due_refusals::{NamedAny, named_arrival_any, named_departure_any};
 use std::alloc::Global;
-use taxi_base::{Class, Memory, Name, Node, Request, Step, Time};
+use taxi_base::{Class, Flight, Name, Node, Request, Step};
+use taxi_text::AskedAny;
 
-/// What the words of a choice say. `slack` is the hold or the queue.
-#[derive(Clone, Copy)]
-pub struct NewChoice<'a> {
-    pub name: &'a Name,
-    pub class: &'a Name,
-    pub from: &'a Name,
-    pub nodes: &'a [Name],
-    pub time: Time,
-    pub slack: Time,
-}
-
-/// The first rule that the block of an arrival to one of some stands breaks.
+/// Checks the block of an arrival to one of some stands.
 pub fn check_arrival_any(
     alloc: Global,
     airport: &Airport,
     held: &mut HeldFlights,
     known: &mut KnownWindows,
-    new: &NewChoice<'_>,
-    block: &Block,
-) -> Result<Option<Rule>, Memory>
+    asked: &AskedAny,
+    block: Block,
+) -> Result<(), CheckRefused>
     requires ready { IsReady airport.now held.old known.old }
-    requires time { IsShort new.now.time }
-    requires hold { IsShort new.now.slack }
-    requires some { 0 < length new.now.nodes.now }
-    ensures judged { IsJudged airport.now (command.ArrivalAny new.now.name.now new.now.class.now new.now.from.now new.now.time new.now.slack new.now.nodes.now) block.now (state_of held.old) result (state_of held.new) }
+    requires time { IsShort asked.now.time }
+    requires hold { IsShort asked.now.slack }
+    requires some { 0 < length asked.now.nodes }
+    ensures judged { IsJudged airport.now (command.ArrivalAny asked.now) block (state_of held.old) result (state_of held.new) }
     ensures ready { IsReady airport.now held.new known.new }
 {
-    let named = named_arrival_any(
-        alloc, airport, held, new.name, new.class, new.from, new.nodes,
-    )?;
-    match named {
+    match named_arrival_any(alloc, airport, held, asked)? {
         NamedAny::Named { class, from, nodes } => {
             let nodes = nodes.as_slice();
             let request = Request::Arrival {
                 from,
                 to: nodes[0],
-                time: new.time,
-                hold: new.slack,
+                time: asked.time,
+                hold: asked.slack,
             };
-            check_new_any(
-                alloc, airport, held, known, new.name, class, request, nodes, block,
-            )
+            let sought = SoughtWalkToAny { request, nodes };
+            check_new_to_any(airport, held, known, &asked.flight, class, &sought, block)
         }
-        NamedAny::Refused { why } => Ok(broken_unless(is_refusal(block, &why))),
+        NamedAny::Refused { why } => pass_if(is_refusal(&block, &why)),
     }
 }
 
-/// The first rule that the block of a departure to one of some runway nodes breaks.
+/// Checks the block of a departure to one of some runway nodes.
 pub fn check_departure_any(
     alloc: Global,
     airport: &Airport,
     held: &mut HeldFlights,
     known: &mut KnownWindows,
-    new: &NewChoice<'_>,
-    block: &Block,
-) -> Result<Option<Rule>, Memory>
+    asked: &AskedAny,
+    block: Block,
+) -> Result<(), CheckRefused>
     requires ready { IsReady airport.now held.old known.old }
-    requires time { IsShort new.now.time }
-    requires queue { IsShort new.now.slack }
-    requires some { 0 < length new.now.nodes.now }
-    ensures judged { IsJudged airport.now (command.DepartureAny new.now.name.now new.now.class.now new.now.from.now new.now.time new.now.slack new.now.nodes.now) block.now (state_of held.old) result (state_of held.new) }
+    requires time { IsShort asked.now.time }
+    requires queue { IsShort asked.now.slack }
+    requires some { 0 < length asked.now.nodes }
+    ensures judged { IsJudged airport.now (command.DepartureAny asked.now) block (state_of held.old) result (state_of held.new) }
     ensures ready { IsReady airport.now held.new known.new }
 {
-    let named = named_departure_any(
-        alloc, airport, held, new.name, new.class, new.from, new.nodes,
-    )?;
-    match named {
+    match named_departure_any(alloc, airport, held, asked)? {
         NamedAny::Named { class, from, nodes } => {
             let nodes = nodes.as_slice();
             let request = Request::Departure {
                 from,
                 to: nodes[0],
-                time: new.time,
-                queue: new.slack,
+                time: asked.time,
+                queue: asked.slack,
             };
-            check_new_any(
-                alloc, airport, held, known, new.name, class, request, nodes, block,
-            )
+            let sought = SoughtWalkToAny { request, nodes };
+            check_new_to_any(airport, held, known, &asked.flight, class, &sought, block)
         }
-        NamedAny::Refused { why } => Ok(broken_unless(is_refusal(block, &why))),
+        NamedAny::Refused { why } => pass_if(is_refusal(&block, &why)),
     }
 }
 
-// The first rule that what is told of a new flight to one of some nodes breaks. Where none is broken, and a route is told, the
-// flight is in force afterwards, with the node that its route reaches as the one that it asked for.
-fn check_new_any(
-    alloc: Global,
+// Checks what is told of a new flight to one of some nodes. Where a route passes, the flight is in force on it afterwards, with
+// the node that its route reaches as the one that it asked for.
+fn check_new_to_any(
     airport: &Airport,
     held: &mut HeldFlights,
     known: &mut KnownWindows,
     name: &Name,
     class: Class,
-    request: Request,
-    nodes: &[Node],
-    block: &Block,
-) -> Result<Option<Rule>, Memory>
+    sought: &SoughtWalkToAny<'_>,
+    block: Block,
+) -> Result<(), CheckRefused>
     requires ready { IsReady airport.now held.old known.old }
     requires absent { has_holder name.now (state_of held.old) ≡ false }
     requires few { holder_count (state_of held.old) < 4096 }
-    requires sought { CanBeSoughtAny airport.now request nodes.now }
-    requires choice { (choice : Choice) × (node : NodeNumber) × (others : Items NodeNumber) × (request ≡ request_for choice node) × (nodes.now ≡ node ∷ others) }
-    ensures told { (choice : Choice) (node : NodeNumber) (others : Items NodeNumber) → request ≡ request_for choice node → nodes.now ≡ node ∷ others → IsToldOf (sought_any airport.now (state_of held.old) name.now class choice node others) block.now (state_of held.old) result (state_of held.new) }
+    requires sought { CanBeSoughtAny airport.now sought.now.request sought.now.nodes.now }
+    requires choice { (choice : Choice) × (node : NodeNumber) × (others : Items NodeNumber) × (sought.now.request ≡ request_for choice node) × (sought.now.nodes.now ≡ node ∷ others) }
+    ensures told { (choice : Choice) (node : NodeNumber) (others : Items NodeNumber) → sought.now.request ≡ request_for choice node → sought.now.nodes.now ≡ node ∷ others → IsToldOf (sought_any airport.now (state_of held.old) name.now class choice node others) block (state_of held.old) result (state_of held.new) }
     ensures ready { IsReady airport.now held.new known.new }
 {
-    if !is_told(block, name, true) {
-        return Ok(Some(Rule::Reply));
+    match block {
+        Block::Route {
+            flight,
+            second,
+            steps,
+            labels,
+        } => {
+            pass_if(flight == *name)?;
+            let told = ToldRoute {
+                second,
+                steps: steps.as_slice(),
+                labels: labels.as_slice(),
+            };
+            let broken = check_route_to_any(airport, class, held.spans(), known, sought, &told)?;
+            pass_unless(broken)?;
+            let to = node_at_end(airport, steps.as_slice());
+            let flight = Flight {
+                name: *name,
+                class,
+                request: sought.request.retargeted(to),
+                steps,
+            };
+            put_in_force(airport, held, known, flight)?;
+            Ok(())
+        }
+        Block::NoRoute { labels } => {
+            let labels = labels.as_slice();
+            let broken = check_no_route_to_any(
+                airport,
+                class,
+                held.spans(),
+                known,
+                sought,
+                labels,
+            )?;
+            pass_unless(broken)
+        }
+        _ => pass_if(false),
     }
-    let asked = AskedAny { request, nodes };
-    let broken = check_told_any(airport, class, held.spans(), known, &asked, block)?;
-    if broken.is_some() {
-        return Ok(broken);
-    }
-    if let Block::Route { steps, .. } = block {
-        let steps = steps.as_slice();
-        let to = node_at_end(airport, steps);
-        let request = retargeted(request, to);
-        take_route(alloc, airport, held, known, name, class, request, steps)?;
-    }
-    Ok(None)
 }
 
 // The node that the last of some steps reaches.

@@ -8,12 +8,12 @@ mod checker;
 mod choice;
 mod filing;
 mod line;
-mod lines;
 mod parties;
 mod plain;
 mod reply;
 mod reports;
 mod routed;
+mod searches;
 
 pub use checker::Checker;
 pub use transcripts::CheckRefused;

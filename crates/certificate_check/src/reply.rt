@@ -1,11 +1,32 @@
 //! Rule `reply`: whether a block is of the form that is due.
-ghost use Rattle.std.specs.Prelude.{◌≡◌, ◌↔◌, Bool, IsTrue};
+ghost use Rattle.std.specs.Prelude.{◌≡◌, ◌↔◌, IsTrue};
 ghost use Rattle.certificate.specs.declared.block.Block.TheVariants.{Refused, Cancelled};
-ghost use Rattle.certificate.specs.Sought.{Sought};
-ghost use Rattle.certificate.specs.Passes.{IsFormOf};
+ghost use Rattle.certificate_check.specs.Judged.{passed_if, answer_of};
 
-use certificate::Block;
+use crate::CheckRefused;
+use certificate::{Block, Rule};
 use taxi_base::{Name, Refusal};
+
+/// Passes where a block is of the form that is due.
+pub fn pass_if(kept: bool) -> Result<(), CheckRefused>
+    ensures { result ≡ passed_if kept }
+{
+    if kept {
+        Ok(())
+    } else {
+        Err(CheckRefused::Wrong { rule: Rule::Reply })
+    }
+}
+
+/// Passes where no rule is broken.
+pub fn pass_unless(broken: Option<Rule>) -> Result<(), CheckRefused>
+    ensures { result ≡ answer_of broken }
+{
+    match broken {
+        None => Ok(()),
+        Some(rule) => Err(CheckRefused::Wrong { rule }),
+    }
+}
 
 /// Whether a block is a refusal.
 pub fn is_refusal(block: &Block, why: &Refusal) -> bool
@@ -23,17 +44,6 @@ pub fn is_cancelled(block: &Block, name: &Name) -> bool
 {
     match block {
         Block::Cancelled { flight } => flight == name,
-        _ => false,
-    }
-}
-
-/// Whether a block tells a route of a flight, or that there is none where that may be told.
-pub fn is_told(block: &Block, name: &Name, may_be_none: bool) -> bool
-    ensures { (s : Sought) → s.name ≡ name.now → s.may_be_none ≡ may_be_none → IsTrue result ↔ IsFormOf s block.now }
-{
-    match block {
-        Block::Route { flight, .. } => flight == name,
-        Block::NoRoute { .. } => may_be_none,
         _ => false,
     }
 }

@@ -1,5 +1,5 @@
 //! Commands that ask for a report: what is held of a segment, and the flights in force.
-ghost use Rattle.std.specs.Prelude.{◌≡◌, ◌↔◌, ◌<◌, IsTrue, Ok, length};
+ghost use Rattle.std.specs.Prelude.{◌≡◌, ◌↔◌, ◌<◌, IsTrue, length};
 ghost use Rattle.taxi_base.specs.Airport.{Airport};
 ghost use Rattle.taxi_base.specs.State.{IsSound};
 ghost use Rattle.taxi_text.specs.declared.command.Command.TheVariants as command;
@@ -7,38 +7,35 @@ ghost use Rattle.checked_state.specs.Flights.{flights_of, state_of};
 ghost use Rattle.certificate_check.specs.Judged.{IsJudged};
 ghost use Rattle.certificate_check.specs.Reports.{IsOccupancyOf, IsTimetableOf};
 
-use crate::plain::broken_unless;
-use crate::reply::is_refusal;
+use crate::CheckRefused;
+use crate::reply::{is_refusal, pass_if};
 use airport_file::Airport;
-use certificate::{Block, Rule};
+use certificate::Block;
 use check_reports::{are_flight_rows, are_held_rows};
 use checked_state::{FlightList, HeldFlights};
 use taxi_base::{Name, Refusal, Segment};
 
-/// The first rule that the block of what is held of a segment breaks.
+/// Checks the block of what is held of a segment.
 pub fn check_occupancy(
     airport: &Airport,
     held: &HeldFlights,
     name: &Name,
     block: &Block,
-) -> Option<Rule>
+) -> Result<(), CheckRefused>
     requires { IsSound airport.now (state_of held.now) }
-    ensures { IsJudged airport.now (command.Occupancy name.now) block.now (state_of held.now) (Ok result) (state_of held.now) }
+    ensures { IsJudged airport.now (command.Occupancy name.now) block.now (state_of held.now) result (state_of held.now) }
 {
     let Some(segment) = airport.segment_named(name) else {
-        let kept = is_refusal(block, &Refusal::UnknownSegment);
-        return broken_unless(kept);
+        return pass_if(is_refusal(block, &Refusal::UnknownSegment));
     };
-    let kept = is_occupancy(airport, held, segment, block);
-    broken_unless(kept)
+    pass_if(is_occupancy(airport, held, segment, block))
 }
 
-/// The first rule that the block of the flights in force breaks.
-pub fn check_timetable(held: &HeldFlights, block: &Block) -> Option<Rule>
-    ensures { (airport : Airport) → IsJudged airport command.Timetable block.now (state_of held.now) (Ok result) (state_of held.now) }
+/// Checks the block of the flights in force.
+pub fn check_timetable(held: &HeldFlights, block: &Block) -> Result<(), CheckRefused>
+    ensures { (airport : Airport) → IsJudged airport command.Timetable block.now (state_of held.now) result (state_of held.now) }
 {
-    let kept = is_timetable(held.flights(), block);
-    broken_unless(kept)
+    pass_if(is_timetable(held.flights(), block))
 }
 
 // Whether a block tells all that is held of a segment and of those in conflict with it.

@@ -1,96 +1,94 @@
-//! Routes that are told, of new flights and of flights that are under way.
-ghost use Rattle.std.specs.Prelude.{◌≡◌, ◌<◌, false, IfOk, OnOk, OnErr};
+//! Routes of new flights that are told.
+ghost use Rattle.std.specs.Prelude.{◌≡◌, ◌<◌, false, OnOk, OnErr};
 ghost use Rattle.taxi_base.specs.Walks.{Meets};
 ghost use Rattle.taxi_base.specs.State.{has_holder, holder_count, with_flight};
 ghost use Rattle.taxi_base.specs.Faults.{conditions_in};
-ghost use Rattle.certificate.specs.CarriedOut.{routed_flight};
 ghost use Rattle.certificate.specs.Sought.{sought_new};
 ghost use Rattle.checked_state.specs.Flights.{state_of};
 ghost use Rattle.check_walks.specs.Told.{CanBeSought};
-ghost use Rattle.certificate_check.specs.Desk.{IsReady};
+ghost use Rattle.certificate_check.specs.Desk.{CanGoOn, IsReady};
 ghost use Rattle.certificate_check.specs.Judged.{IsToldOf};
 
-use crate::reply::is_told;
+use crate::CheckRefused;
+use crate::again::cut_out;
+use crate::reply::{pass_if, pass_unless};
 use airport_file::Airport;
-use certificate::{Block, Rule};
+use certificate::Block;
 use check_rows::KnownWindows;
-use check_walks::{Asked, check_told};
+use check_walks::{SoughtWalk, ToldRoute, check_no_route, check_route};
 use checked_state::HeldFlights;
-use std::alloc::Global;
-use taxi_base::{Class, Flight, List, Memory, Name, Request, Step};
+use taxi_base::{Class, Flight, Memory, Name, Request};
 
-/// The first rule that what is told of a new flight breaks. Where none is broken, and a route is told, the flight is in force
-/// afterwards.
+/// Checks what is told of a new flight. Where a route passes, the flight is in force on it afterwards.
 pub fn check_new(
-    alloc: Global,
     airport: &Airport,
     held: &mut HeldFlights,
     known: &mut KnownWindows,
     name: &Name,
     class: Class,
     request: Request,
-    block: &Block,
-) -> Result<Option<Rule>, Memory>
+    block: Block,
+) -> Result<(), CheckRefused>
     requires ready { IsReady airport.now held.old known.old }
     requires absent { has_holder name.now (state_of held.old) ≡ false }
     requires few { holder_count (state_of held.old) < 4096 }
     requires sought { CanBeSought airport.now request }
-    ensures told { IsToldOf (sought_new airport.now (state_of held.old) name.now class request) block.now (state_of held.old) result (state_of held.new) }
+    ensures told { IsToldOf (sought_new airport.now (state_of held.old) name.now class request) block (state_of held.old) result (state_of held.new) }
     ensures ready { IsReady airport.now held.new known.new }
 {
-    if !is_told(block, name, true) {
-        return Ok(Some(Rule::Reply));
+    let sought = SoughtWalk { request, way: None };
+    match block {
+        Block::Route {
+            flight,
+            second,
+            steps,
+            labels,
+        } => {
+            pass_if(flight == *name)?;
+            let told = ToldRoute {
+                second,
+                steps: steps.as_slice(),
+                labels: labels.as_slice(),
+            };
+            let broken = check_route(airport, class, held.spans(), known, &sought, &told)?;
+            pass_unless(broken)?;
+            let flight = Flight {
+                name: *name,
+                class,
+                request,
+                steps,
+            };
+            put_in_force(airport, held, known, flight)?;
+            Ok(())
+        }
+        Block::NoRoute { labels } => {
+            let labels = labels.as_slice();
+            let broken = check_no_route(airport, class, held.spans(), known, &sought, labels)?;
+            pass_unless(broken)
+        }
+        _ => pass_if(false),
     }
-    let asked = Asked { request, way: None };
-    let broken = check_told(airport, class, held.spans(), known, &asked, block)?;
-    if broken.is_some() {
-        return Ok(broken);
-    }
-    if let Block::Route { steps, .. } = block {
-        let steps = steps.as_slice();
-        take_route(alloc, airport, held, known, name, class, request, steps)?;
-    }
-    Ok(None)
 }
 
-// Puts a new flight in force on the steps of a route. Where memory runs out the flights stay as they are.
-pub(crate) fn take_route(
-    alloc: Global,
+/// Puts a new flight in force, and cuts what it holds out of the windows that are known. Where memory runs out the flights
+/// stay as they are.
+pub(crate) fn put_in_force(
     airport: &Airport,
     held: &mut HeldFlights,
     known: &mut KnownWindows,
-    name: &Name,
-    class: Class,
-    request: Request,
-    steps: &[Step],
+    flight: Flight,
 ) -> Result<(), Memory>
     requires ready { IsReady airport.now held.old known.old }
-    requires absent { has_holder name.now (state_of held.old) ≡ false }
+    requires absent { has_holder flight.name (state_of held.old) ≡ false }
     requires few { holder_count (state_of held.old) < 4096 }
-    requires sought { CanBeSought airport.now request }
-    requires met { Meets (conditions_in airport.now class (state_of held.old)) request steps.now }
-    ensures ok { OnOk result (state_of held.new ≡ with_flight (routed_flight name.now class request steps.now) (state_of held.old)) }
+    requires goes_on { CanGoOn airport.now flight.request }
+    requires met { Meets (conditions_in airport.now flight.class (state_of held.old)) flight.request flight.steps }
+    ensures ok { OnOk result (state_of held.new ≡ with_flight flight (state_of held.old)) }
     ensures err { OnErr result (state_of held.new ≡ state_of held.old) }
     ensures ready { IsReady airport.now held.new known.new }
 {
-    let flight = Flight {
-        name: *name,
-        class,
-        request,
-        steps: copied(alloc, steps)?,
-    };
+    let name = flight.name;
     held.put_in(airport, flight)?;
-    known.cut(airport, airport.clearance(class), steps);
+    cut_out(airport, held, known, &name);
     Ok(())
-}
-
-/// A copy of some steps.
-pub(crate) fn copied(alloc: Global, steps: &[Step]) -> Result<List<Step>, Memory>
-    ensures { IfOk result (λ copy. copy ≡ steps.now) }
-{
-    let mut copy = List::new(alloc);
-    for step in steps {
-        copy.push(*step)?;
-    }
-    Ok(copy)
 }

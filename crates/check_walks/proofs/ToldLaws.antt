@@ -10,14 +10,14 @@ use Rattle.certificate.specs.declared.block.Block.TheVariants.{Route, NoRoute}
 use Rattle.certificate.specs.declared.rule.Rule.{Rule}
 use Rattle.certificate.specs.declared.rule.Rule.TheVariants as rule
 use Rattle.certificate.specs.CarriedOut.{second_of}
-use Rattle.certificate.specs.Sought.{UnderWay, Sought, Search, search_of}
+use Rattle.certificate.specs.Sought.{UnderWay, Sought, Search, DoesAsAsked, search_of}
 use Rattle.certificate.specs.TableRules.{KeepsRows, KeepsStart, KeepsStep, KeepsTarget}
-use Rattle.certificate.specs.Passes.{KeepsSought, turn_of}
+use Rattle.certificate.specs.Passes.{KeepsSought, rank_of, IsFirstOf}
 use Rattle.check_rows.specs.declared.verdict.RowRule.{RowRule}
 use Rattle.check_rows.specs.declared.verdict.RowRule.TheVariants.{Rows, Start, Step, Target}
 use Rattle.check_rows.specs.Verdict.{IsVerdict}
-use Rattle.check_walks.specs.Course.{IsWalkIn, IsWalkAmong}
-use Rattle.check_walks.specs.Told.{IsFirstOf, IsVerdictOn, rule_of}
+use Rattle.check_walks.specs.Course.{IsWalkIn}
+use Rattle.check_walks.specs.Told.{Seeks, IsVerdictOn, rule_of}
 
 -- the rules for rows, where there is a search
 match-verdict : {X : Type 0} (o : Option X) (P Q R S : X → Type 0) (verdict : Option RowRule) → MatchOption o ⊥ (λ x. IsVerdict (P x) (Q x) (R x) (S x) verdict)
@@ -29,7 +29,7 @@ match-verdict (Some x) P Q R S verdict is = is
 module _ (IsKept : Rule → Type 0) (reply : IsKept rule.Reply) where
   pub walk-first : (IsKept rule.Walk → ⊥) → IsFirstOf IsKept (Some rule.Walk)
   walk-first broken = (broken, before) where
-    before : (other : Rule) → turn_of other < turn_of rule.Walk → IsKept other
+    before : (other : Rule) → rank_of other < rank_of rule.Walk → IsKept other
     before rule.Reply low = reply
     before rule.Walk low = absurd (omega (arith, low))
     before rule.Rows low = absurd (omega (arith, low))
@@ -48,7 +48,7 @@ module _ (IsKept : Rule → Type 0) (reply : IsKept rule.Reply) where
     each rule.Step = all.2
     each rule.Target = all.3
   rows-first walk (Some Rows) broken = (broken, before) where
-    before : (other : Rule) → turn_of other < 2 → IsKept other
+    before : (other : Rule) → rank_of other < 2 → IsKept other
     before rule.Reply low = reply
     before rule.Walk low = walk
     before rule.Rows low = absurd (omega (arith, low))
@@ -56,7 +56,7 @@ module _ (IsKept : Rule → Type 0) (reply : IsKept rule.Reply) where
     before rule.Step low = absurd (omega (arith, low))
     before rule.Target low = absurd (omega (arith, low))
   rows-first walk (Some Start) broken = (broken.1, before) where
-    before : (other : Rule) → turn_of other < 3 → IsKept other
+    before : (other : Rule) → rank_of other < 3 → IsKept other
     before rule.Reply low = reply
     before rule.Walk low = walk
     before rule.Rows low = broken.0
@@ -64,7 +64,7 @@ module _ (IsKept : Rule → Type 0) (reply : IsKept rule.Reply) where
     before rule.Step low = absurd (omega (arith, low))
     before rule.Target low = absurd (omega (arith, low))
   rows-first walk (Some Step) broken = (broken.2, before) where
-    before : (other : Rule) → turn_of other < 4 → IsKept other
+    before : (other : Rule) → rank_of other < 4 → IsKept other
     before rule.Reply low = reply
     before rule.Walk low = walk
     before rule.Rows low = broken.0
@@ -72,7 +72,7 @@ module _ (IsKept : Rule → Type 0) (reply : IsKept rule.Reply) where
     before rule.Step low = absurd (omega (arith, low))
     before rule.Target low = absurd (omega (arith, low))
   rows-first walk (Some Target) broken = (broken.3, before) where
-    before : (other : Rule) → turn_of other < 5 → IsKept other
+    before : (other : Rule) → rank_of other < 5 → IsKept other
     before rule.Reply low = reply
     before rule.Walk low = walk
     before rule.Rows low = broken.0
@@ -84,20 +84,20 @@ module _ (IsKept : Rule → Type 0) (reply : IsKept rule.Reply) where
 
 -- a walk that is sought where there are no other nodes
 pub among-alone : (c : Conditions) (request : Request) (way : Option UnderWay) (steps : List Leg) (second : ℕ) → IsWalkIn c request way steps × (second_of request steps ≡ second)
-    → IsWalkAmong c request [] way steps × (second_of request steps ≡ second)
+    → DoesAsAsked c request [] way steps × (second_of request steps ≡ second)
 among-alone c request None steps second is = is
 among-alone c request (Some way) steps second is = is
 
 -- the same walk with the conditions and the request that are known
-module _ (s : Sought) (c : Conditions) (request : Request) (others : List Node) (way : Option UnderWay) (same : s.conditions ≡ c) (asked : s.request ≡ request) (among : s.others ≡ others) (by_way : s.under_way ≡ way) where
+module _ (s : Sought) (c : Conditions) (request : Request) (others : List Node) (way : Option UnderWay) (seeks : Seeks c request others way s) where
   abbrev IsWalkOf : List Leg → ℕ → Type 0
-  IsWalkOf steps second = IsWalkAmong c request others way steps × (second_of request steps ≡ second)
+  IsWalkOf steps second = DoesAsAsked c request others way steps × (second_of request steps ≡ second)
 
   pub route-walk : (name : List ℕ) (second : ℕ) (steps : List Leg) (labels : List LabelRow) → IsWalkOf steps second → KeepsSought rule.Walk s (Route name second steps labels)
-  route-walk name second steps labels is = rw (same, asked, among, by_way) is
+  route-walk name second steps labels is = rw (seeks.conditions, seeks.asked, seeks.nodes, seeks.under_way, seeks.no_floor) is
 
   pub walk-route : (name : List ℕ) (second : ℕ) (steps : List Leg) (labels : List LabelRow) → KeepsSought rule.Walk s (Route name second steps labels) → IsWalkOf steps second
-  walk-route name second steps labels keeps = rw (same, asked, among, by_way) at keeps
+  walk-route name second steps labels keeps = rw (seeks.conditions, seeks.asked, seeks.nodes, seeks.under_way, seeks.no_floor) at keeps
 
   abbrev search : Option Search
   search = search_of request others way
@@ -106,7 +106,7 @@ module _ (s : Sought) (c : Conditions) (request : Request) (others : List Node) 
       → IsVerdict (MatchOption (search_of s.request s.others s.under_way) ⊥ (λ x. KeepsRows s.conditions labels)) (MatchOption (search_of s.request s.others s.under_way) ⊥ (λ x. KeepsStart s.conditions x bound labels))
       (MatchOption (search_of s.request s.others s.under_way) ⊥ (λ x. KeepsStep s.conditions x bound labels)) (MatchOption (search_of s.request s.others s.under_way) ⊥ (λ x. KeepsTarget s.conditions x bound labels)) verdict
   on-search bound labels verdict is =
-      rw (same, asked, among, by_way)
+      rw (seeks.conditions, seeks.asked, seeks.nodes, seeks.under_way)
       (match-verdict search (λ x. KeepsRows c labels) (λ x. KeepsStart c x bound labels) (λ x. KeepsStep c x bound labels) (λ x. KeepsTarget c x bound labels) verdict is)
 
   pub route-first : (name : List ℕ) (second : ℕ) (steps : List Leg) (labels : List LabelRow) (verdict : Option RowRule) → IsWalkOf steps second
@@ -115,7 +115,7 @@ module _ (s : Sought) (c : Conditions) (request : Request) (others : List Node) 
       rows-first (λ r. KeepsSought r s (Route name second steps labels)) tt (route-walk name second steps labels walk) verdict (on-search (Some second) labels verdict is)
 
   pub no_route-first : (labels : List LabelRow) (verdict : Option RowRule) → IsVerdictOn c request others way None labels verdict → IsFirstOf (λ r. KeepsSought r s (NoRoute labels)) (rule_of verdict)
-  no_route-first labels verdict is = rows-first (λ r. KeepsSought r s (NoRoute labels)) tt tt verdict (on-search None labels verdict is)
+  no_route-first labels verdict is = rows-first (λ r. KeepsSought r s (NoRoute labels)) tt tt verdict (rw seeks.no_floor (on-search None labels verdict is))
 
   pub route-broken : (name : List ℕ) (second : ℕ) (steps : List Leg) (labels : List LabelRow) → (IsWalkOf steps second → ⊥)
       → IsFirstOf (λ r. KeepsSought r s (Route name second steps labels)) (Some rule.Walk)

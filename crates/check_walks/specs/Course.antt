@@ -9,17 +9,13 @@ use Rattle.taxi_base.specs.Walks.{Conditions, AtFirst, AtLast, ReachesNode, Meet
 use Rattle.taxi_base.specs.State.{step_begun, steps_done}
 use Rattle.walk_labels.specs.Requests.{Beginning, BeginsBy}
 use Rattle.walk_labels.specs.Requests.Beginning.{at_node, resuming}
-use Rattle.certificate.specs.Sought.{UnderWay, MeetsOneOf, IsWalkOnFor}
+use Rattle.certificate.specs.Sought.{UnderWay, IsWalkOnFor}
 use Rattle.check_walks.specs.declared.course.OnTheWay.{OnTheWay}
 
 abbrev pub way_of : Option OnTheWay → Option UnderWay
 way_of way = option_map (λ w. record { steps = w.steps.now; time = w.time }) way
 
--- a walk that is sought under the conditions, for a new flight or for one that is under way, with other nodes that it may reach
-abbrev pub IsWalkAmong : Conditions → Request → List Node → Option UnderWay → List Step → Type 0
-IsWalkAmong c request others way steps = MatchOption way (MeetsOneOf c request others steps) (λ w. IsWalkOnFor c request w steps)
-
--- and with none
+-- a walk that does what is asked, for a new flight or for one that is under way, with no other node that it may reach
 abbrev pub IsWalkIn : Conditions → Request → Option UnderWay → List Step → Type 0
 IsWalkIn c request way steps = MatchOption way (Meets c request steps) (λ w. IsWalkOnFor c request w steps)
 

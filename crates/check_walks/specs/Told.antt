@@ -1,5 +1,5 @@
--- Which rule does a block break first, where it tells of a search?
-use Rattle.std.specs.Prelude.{ℕ, ◌<◌, List, length, Option, Some, None, MatchOption}
+-- What can be sought, and which rule does the table of a search break first?
+use Rattle.std.specs.Prelude.{ℕ, ◌≡◌, ◌<◌, List, length, Option, Some, None, MatchOption}
 use Rattle.taxi_base.specs.declared.numbers.Node.{Node}
 use Rattle.taxi_base.specs.declared.answers.Request.{Request}
 use Rattle.taxi_base.specs.declared.answers.Request.TheVariants as request
@@ -9,23 +9,25 @@ use Rattle.taxi_base.specs.Walks.{Conditions}
 use Rattle.certificate.specs.declared.rule.Rule.{Rule}
 use Rattle.certificate.specs.declared.rule.Rule.TheVariants as rule
 use Rattle.certificate.specs.Printable.{IsShort}
-use Rattle.certificate.specs.Sought.{UnderWay, search_of}
+use Rattle.certificate.specs.Sought.{UnderWay, Sought, search_of}
 use Rattle.certificate.specs.TableRules.{KeepsRows, KeepsStart, KeepsStep, KeepsTarget}
-use Rattle.certificate.specs.Passes.{turn_of}
 use Rattle.check_rows.specs.declared.verdict.RowRule.{RowRule}
 use Rattle.check_rows.specs.declared.verdict.RowRule.TheVariants.{Rows, Start, Step, Target}
 use Rattle.check_rows.specs.Verdict.{IsVerdict}
-
--- none of the rules is broken; or one is, and each before it is kept
-abbrev pub IsFirstOf : (Rule → Type 0) → Option Rule → Type 0
-IsFirstOf IsKept None = (rule : Rule) → IsKept rule
-IsFirstOf IsKept (Some rule) = (IsKept rule → ⊥) × ((other : Rule) → turn_of other < turn_of rule → IsKept other)
 
 -- what was asked for is a route to be found, between nodes of the airport, and its times have at most 7 digits
 abbrev pub CanBeSought : Airport → Request → Type 0
 CanBeSought airport request.Filed = ⊥
 CanBeSought airport (request.Arrival from to time hold) = (from.0 < length airport.nodes) × (IsShort time × IsShort hold)
 CanBeSought airport (request.Departure from to time queue) = (to.0 < length airport.nodes) × (IsShort time × IsShort queue)
+
+-- a search is for a walk under these conditions that does what is asked, with no floor
+pub record Seeks (c : Conditions) (request : Request) (others : List Node) (way : Option UnderWay) (s : Sought) : Type 0 where
+  pub conditions : s.conditions ≡ c
+  pub asked : s.request ≡ request
+  pub nodes : s.others ≡ others
+  pub under_way : s.under_way ≡ way
+  pub no_floor : s.floor ≡ None
 
 -- ---- the table of a search; no public clause cites these
 

@@ -19,9 +19,9 @@ pub struct OnTheWay<'a> {
     pub time: Time,
 }
 
-/// What is asked for, of a new flight or of one that is under way.
+/// The walk that is sought of a flight: what the flight asks for, and where it is if it is under way.
 #[derive(Clone, Copy)]
-pub struct Asked<'a> {
+pub struct SoughtWalk<'a> {
     pub request: Request,
     pub way: Option<OnTheWay<'a>>,
 }
@@ -34,13 +34,13 @@ pub struct Course<'a> {
 }
 
 /// What stays of an arrival, and how it begins: at its node, or by going on with the step that was begun.
-pub fn course_of<'a>(from: Node, time: Time, hold: Time, asked: &Asked<'a>) -> Course<'a>
+pub fn course_of<'a>(from: Node, time: Time, hold: Time, sought: &SoughtWalk<'a>) -> Course<'a>
     requires { time + hold < 2 ^ 32 }
-    ensures begin { beginning_of result.begin ≡ beginning_for from time hold (way_of asked.now.way) }
-    ensures done { result.done.now ≡ done_for (way_of asked.now.way) }
+    ensures begin { beginning_of result.begin ≡ beginning_for from time hold (way_of sought.now.way) }
+    ensures done { result.done.now ≡ done_for (way_of sought.now.way) }
 {
     let latest = time + hold;
-    let Some(way) = asked.way else {
+    let Some(way) = sought.way else {
         return from_node(from, time, latest);
     };
     let entered = entered_count(way.steps, way.time);

@@ -10,8 +10,8 @@ mod tables;
 mod told;
 mod walk;
 
-pub use choice::{AskedAny, check_told_any, retargeted};
-pub use course::{Asked, OnTheWay};
+pub use choice::{SoughtWalkToAny, check_no_route_to_any, check_route_to_any};
+pub use course::{OnTheWay, SoughtWalk};
 pub use feasible::is_feasible_walk;
 pub use laws::what_breaks_no_rule_is_best;
-pub use told::check_told;
+pub use told::{ToldRoute, check_no_route, check_route};

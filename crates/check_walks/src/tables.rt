@@ -6,7 +6,7 @@ ghost use Rattle.check_rows.specs.Known.{AreKnown};
 ghost use Rattle.check_walks.specs.Course.{way_of};
 ghost use Rattle.check_walks.specs.Told.{CanBeSought, IsVerdictOn, rule_of};
 
-use crate::course::{Asked, course_of};
+use crate::course::{SoughtWalk, course_of};
 use airport_file::Airport;
 use certificate::Rule;
 use check_rows::{End, KnownWindows, RowRule, check_arrival, check_departure};
@@ -19,17 +19,17 @@ pub fn check_table<H: HoldsOf>(
     class: Class,
     holds: &H,
     known: &mut KnownWindows,
-    asked: &Asked<'_>,
+    sought: &SoughtWalk<'_>,
     labels: &[LabelRow],
     bound: Option<Time>,
 ) -> Result<Option<RowRule>, Memory>
-    requires sought { CanBeSought airport.now asked.now.request }
-    requires early { ForSome (way_of asked.now.way) (λ way. All (λ step. step.enter ≤ 9999999) way.steps) }
+    requires sought { CanBeSought airport.now sought.now.request }
+    requires early { ForSome (way_of sought.now.way) (λ way. All (λ step. step.enter ≤ 9999999) way.steps) }
     requires known { AreKnown (length airport.now.segments) (free_among airport.now (H.held holds.now)) known.old }
     ensures known { AreKnown (length airport.now.segments) (free_among airport.now (H.held holds.now)) known.new }
-    ensures verdict { IfOk result (IsVerdictOn (conditions_among airport.now class (H.held holds.now)) asked.now.request [] (way_of asked.now.way) bound labels.now) }
+    ensures verdict { IfOk result (IsVerdictOn (conditions_among airport.now class (H.held holds.now)) sought.now.request [] (way_of sought.now.way) bound labels.now) }
 {
-    match asked.request {
+    match sought.request {
         Request::Filed => Ok(None),
         Request::Arrival {
             from,
@@ -37,7 +37,7 @@ pub fn check_table<H: HoldsOf>(
             time,
             hold,
         } => {
-            let begin = course_of(from, time, hold, asked).begin;
+            let begin = course_of(from, time, hold, sought).begin;
             check_arrival(airport, class, holds, known, begin, &[to], labels, bound)
         }
         Request::Departure {

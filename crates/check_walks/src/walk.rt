@@ -9,7 +9,7 @@ ghost use Rattle.check_walks.specs.Told.{CanBeSought};
 ghost use Rattle.check_walks.specs.Course.{way_of, IsWalkIn};
 ghost use Rattle.check_walks.specs.Steps.{GoesAsAsked, Departs};
 
-use crate::course::{Asked, course_of, goes_by, is_within};
+use crate::course::{SoughtWalk, course_of, goes_by, is_within};
 use crate::feasible::is_feasible_walk;
 use airport_file::Airport;
 use check_rows::KnownWindows;
@@ -22,33 +22,33 @@ pub fn keeps_walk<H: HoldsOf>(
     class: Class,
     holds: &H,
     known: &mut KnownWindows,
-    asked: &Asked<'_>,
+    sought: &SoughtWalk<'_>,
     steps: &[Step],
     second: Time,
 ) -> Result<bool, Memory>
-    requires sought { CanBeSought airport.now asked.now.request }
+    requires sought { CanBeSought airport.now sought.now.request }
     requires known { AreKnown (length airport.now.segments) (free_among airport.now (H.held holds.now)) known.old }
     ensures known { AreKnown (length airport.now.segments) (free_among airport.now (H.held holds.now)) known.new }
-    ensures walk { IfOk result (λ yes. IsTrue yes ↔ (IsWalkIn (conditions_among airport.now class (H.held holds.now)) asked.now.request (way_of asked.now.way) steps.now × (second_of asked.now.request steps.now ≡ second))) }
+    ensures walk { IfOk result (λ yes. IsTrue yes ↔ (IsWalkIn (conditions_among airport.now class (H.held holds.now)) sought.now.request (way_of sought.now.way) steps.now × (second_of sought.now.request steps.now ≡ second))) }
 {
     let walk = is_feasible_walk(airport, class, holds, known, steps)?;
     if !walk {
         return Ok(false);
     }
-    if !goes_as_asked(airport, asked, steps) {
+    if !goes_as_asked(airport, sought, steps) {
         return Ok(false);
     }
-    Ok(second_at(&asked.request, steps) == second)
+    Ok(second_at(&sought.request, steps) == second)
 }
 
 /// Whether a walk begins and ends as was asked.
-pub(crate) fn goes_as_asked(airport: &Airport, asked: &Asked<'_>, steps: &[Step]) -> bool
-    requires sought { CanBeSought airport.now asked.now.request }
+pub(crate) fn goes_as_asked(airport: &Airport, sought: &SoughtWalk<'_>, steps: &[Step]) -> bool
+    requires sought { CanBeSought airport.now sought.now.request }
     requires some { 0 < length steps.now }
     requires arcs { All (λ step. IsTrue (arc_exists (layout_of airport.now) step.arc)) steps.now }
-    ensures { IsTrue result ↔ GoesAsAsked (layout_of airport.now) asked.now.request (way_of asked.now.way) steps.now }
+    ensures { IsTrue result ↔ GoesAsAsked (layout_of airport.now) sought.now.request (way_of sought.now.way) steps.now }
 {
-    match asked.request {
+    match sought.request {
         Request::Filed => true,
         Request::Arrival {
             from,
@@ -56,7 +56,7 @@ pub(crate) fn goes_as_asked(airport: &Airport, asked: &Asked<'_>, steps: &[Step]
             time,
             hold,
         } => {
-            let course = course_of(from, time, hold, asked);
+            let course = course_of(from, time, hold, sought);
             goes_by(airport, &course, to, steps)
         }
         Request::Departure {

@@ -89,9 +89,9 @@ impl HeldFlights {
         let held = self
             .spans
             .hold(&flight.name, airport.horizon(), clearance, steps);
-        if held.is_err() {
+        if let Err(memory) = held {
             let _ = self.flights.remove(place);
-            return Err(Memory);
+            return Err(memory);
         }
         Ok(())
     }
@@ -171,9 +171,9 @@ impl HeldFlights {
         let flight = self.flights.at(place);
         let clearance = airport.clearance(flight.class);
         let held = self.spans.hold(&flight.name, airport.horizon(), clearance, steps.as_slice());
-        if held.is_err() {
+        if let Err(memory) = held {
             self.lower(airport, name);
-            return Err(Memory);
+            return Err(memory);
         }
         self.flights.set_route(place, request, steps);
         Ok(())

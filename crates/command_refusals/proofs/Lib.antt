@@ -1,3 +1,4 @@
 pub mod CallLaws
+pub mod ChoiceDue
 pub mod FiledDue
 pub mod WorkDue

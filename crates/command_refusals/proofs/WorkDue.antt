@@ -1,10 +1,11 @@
 -- When a work party is due to be accepted.
-use Rattle.std.proofs.Common.{◌≡◌, ◌<◌, List, ℕ, false, Some, None, refl}
+use Rattle.std.proofs.Common.{◌≡◌, ◌<◌, false, Some, None, refl}
 use Rattle.std.proofs.lemmas.Bool.{lt-leb}
 use Rattle.taxi_base.specs.declared.numbers.Segment.{Segment}
 use Rattle.taxi_base.specs.Airport.{Airport, segment_named}
 use Rattle.taxi_base.specs.State.{State, holder_count, has_holder, with_party}
 use Rattle.taxi_base.specs.Faults.{hold_fault}
+use Rattle.taxi_text.specs.declared.command.Shut.{Shut}
 use Rattle.taxi_text.specs.declared.command.Command.TheVariants as command
 use Rattle.certificate.specs.declared.block.Block.TheVariants.{Filed}
 use Rattle.certificate.specs.Refusals.{most_holders, first_refusal}
@@ -12,14 +13,14 @@ use Rattle.certificate.specs.Asked.{party_of}
 use Rattle.certificate.specs.Replies.{IsDueTo}
 
 module _ (airport : Airport) (state : State) where
-  pub work-due : (name segment_name : List ℕ) (from until : ℕ) (segment : Segment) → has_holder name state ≡ false → segment_named airport segment_name ≡ Some segment
-      → holder_count state < most_holders → hold_fault airport state (record { segment = segment; span = record { from = from; until = until } }) ≡ None
-      → IsDueTo airport state (command.Work name segment_name from until) (Filed name from until) (with_party (party_of name segment from until) state)
-  work-due name segment_name from until segment absent known room faultless =
+  pub work-due : (shut : Shut) (segment : Segment) → has_holder shut.name state ≡ false → segment_named airport shut.segment ≡ Some segment
+      → holder_count state < most_holders → hold_fault airport state (record { segment = segment; span = record { from = shut.from; until = shut.until } }) ≡ None
+      → IsDueTo airport state (command.Work shut) (Filed shut.name shut.from shut.until) (with_party (party_of shut segment) state)
+  work-due shut segment absent known room faultless =
       rw (absent, known, lt-leb most_holders (holder_count state) room, faultless) (record { segment = segment; segment_known = known; reply = (refl, refl) })
 
   -- once all is tried, nothing is refused
-  pub work-unrefused : (name segment_name : List ℕ) (from until : ℕ) (segment : Segment) → has_holder name state ≡ false → segment_named airport segment_name ≡ Some segment
-      → holder_count state < most_holders → hold_fault airport state (record { segment = segment; span = record { from = from; until = until } }) ≡ None
-      → first_refusal airport state (command.Work name segment_name from until) ≡ None
-  work-unrefused name segment_name from until segment absent known room faultless = rw (absent, known, lt-leb most_holders (holder_count state) room, faultless) refl
+  pub work-unrefused : (shut : Shut) (segment : Segment) → has_holder shut.name state ≡ false → segment_named airport shut.segment ≡ Some segment
+      → holder_count state < most_holders → hold_fault airport state (record { segment = segment; span = record { from = shut.from; until = shut.until } }) ≡ None
+      → first_refusal airport state (command.Work shut) ≡ None
+  work-unrefused shut segment absent known room faultless = rw (absent, known, lt-leb most_holders (holder_count state) room, faultless) refl

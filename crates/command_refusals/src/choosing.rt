@@ -6,21 +6,40 @@ ghost use Rattle.taxi_text.specs.declared.command.Command.TheVariants as command
 ghost use Rattle.certificate.specs.Refusals.{first_of, in_force, unknown_class, unknown_node, unknown_node_of, first_refusal};
 ghost use Rattle.commitments.specs.Book.{Fits};
 ghost use Rattle.command_refusals.specs.Accepted.{IsRefused};
-ghost use Rattle.command_refusals.specs.Named.{AreAnyNamed};
+ghost use Rattle.command_refusals.specs.Named.{IsTripOfAny};
 
+use crate::asking::Trip;
 use crate::holders::{is_full, is_held};
 use airport_file::Airport;
-use certificate::{has_no_runway, has_no_stand, is_no_runway, is_no_stand, nodes_named};
+use certificate::{has_no_runway, has_no_stand, nodes_named};
 use commitments::Ledger;
 use std::alloc::Global;
-use taxi_base::{Class, List, Memory, Name, Node, Refusal};
+use taxi_base::{Class, List, Node, Refusal, Time};
+use taxi_text::AskedAny;
 
-/// The class and the nodes that the words of a choice name.
+/// A way to any of some nodes that is asked for, in the airport's own terms.
 #[derive(Drop)]
-pub struct AskedAny {
+pub struct TripToAny {
     pub class: Class,
     pub from: Node,
     pub nodes: List<Node>,
+    pub time: Time,
+    pub slack: Time,
+}
+
+impl TripToAny {
+    /// The same way to one node.
+    pub fn to_one(&self, to: Node) -> Trip
+        ensures { result ≡ record { class = self.now.class; from = self.now.from; to = to; time = self.now.time; slack = self.now.slack } }
+    {
+        Trip {
+            class: self.class,
+            from: self.from,
+            to,
+            time: self.time,
+            slack: self.slack,
+        }
+    }
 }
 
 /// What an arrival asks for, or why it is refused: it goes from a runway to one of some stands.
@@ -28,27 +47,24 @@ pub fn asked_arrival_any(
     alloc: Global,
     airport: &Airport,
     ledger: &Ledger,
-    flight: &Name,
-    class: &Name,
-    from: &Name,
-    stands: &[Name],
-) -> Result<AskedAny, Refusal>
+    asked: &AskedAny,
+) -> Result<TripToAny, Refusal>
     requires { Fits airport.now ledger.now }
-    ensures named { IfOk result (AreAnyNamed airport.now class.now from.now stands.now) }
-    ensures ok { IfOk result (λ asked. first_refusal airport.now ledger.now.state (command.ArrivalAny flight.now class.now from.now 0 0 stands.now) ≡ None) }
-    ensures err { IfErr result (IsRefused airport.now ledger.now.state (command.ArrivalAny flight.now class.now from.now 0 0 stands.now)) }
+    ensures named { IfOk result (IsTripOfAny airport.now asked.now) }
+    ensures ok { IfOk result (λ trip. first_refusal airport.now ledger.now.state (command.ArrivalAny asked.now) ≡ None) }
+    ensures err { IfErr result (IsRefused airport.now ledger.now.state (command.ArrivalAny asked.now)) }
 {
-    let asked = find_asked_any(alloc, airport, ledger, flight, class, from, stands)?;
-    if is_no_runway(airport, from) {
+    let trip = find_trip_to_any(alloc, airport, ledger, asked)?;
+    if !airport.has_runway(&asked.from) {
         return Err(Refusal::WrongKind);
     }
-    if has_no_stand(airport, stands) {
+    if has_no_stand(airport, asked.nodes.as_slice()) {
         return Err(Refusal::WrongKind);
     }
     if is_full(airport, ledger) {
         return Err(Refusal::Full);
     }
-    Ok(asked)
+    Ok(trip)
 }
 
 /// The same of a departure, which goes from a stand to one of some runway nodes.
@@ -56,55 +72,54 @@ pub fn asked_departure_any(
     alloc: Global,
     airport: &Airport,
     ledger: &Ledger,
-    flight: &Name,
-    class: &Name,
-    from: &Name,
-    nodes: &[Name],
-) -> Result<AskedAny, Refusal>
+    asked: &AskedAny,
+) -> Result<TripToAny, Refusal>
     requires { Fits airport.now ledger.now }
-    ensures named { IfOk result (AreAnyNamed airport.now class.now from.now nodes.now) }
-    ensures ok { IfOk result (λ asked. first_refusal airport.now ledger.now.state (command.DepartureAny flight.now class.now from.now 0 0 nodes.now) ≡ None) }
-    ensures err { IfErr result (IsRefused airport.now ledger.now.state (command.DepartureAny flight.now class.now from.now 0 0 nodes.now)) }
+    ensures named { IfOk result (IsTripOfAny airport.now asked.now) }
+    ensures ok { IfOk result (λ trip. first_refusal airport.now ledger.now.state (command.DepartureAny asked.now) ≡ None) }
+    ensures err { IfErr result (IsRefused airport.now ledger.now.state (command.DepartureAny asked.now)) }
 {
-    let asked = find_asked_any(alloc, airport, ledger, flight, class, from, nodes)?;
-    if is_no_stand(airport, from) {
+    let trip = find_trip_to_any(alloc, airport, ledger, asked)?;
+    if !airport.has_stand(&asked.from) {
         return Err(Refusal::WrongKind);
     }
-    if has_no_runway(airport, nodes) {
+    if has_no_runway(airport, asked.nodes.as_slice()) {
         return Err(Refusal::WrongKind);
     }
     if is_full(airport, ledger) {
         return Err(Refusal::Full);
     }
-    Ok(asked)
+    Ok(trip)
 }
 
 // What the words name, where the flight's name is new.
-fn find_asked_any(
+fn find_trip_to_any(
     alloc: Global,
     airport: &Airport,
     ledger: &Ledger,
-    flight: &Name,
-    class: &Name,
-    from: &Name,
-    names: &[Name],
-) -> Result<AskedAny, Refusal>
-    ensures named { IfOk result (AreAnyNamed airport.now class.now from.now names.now) }
-    ensures new { IfOk result (λ asked. has_holder flight.now ledger.now.state ≡ false) }
-    ensures err { IfErr result (λ why. (why ≡ refusal.Memory) ⊎ (first_of (in_force ledger.now.state flight.now ∷ unknown_class airport.now class.now ∷ unknown_node airport.now from.now ∷ unknown_node_of airport.now names.now ∷ []) ≡ Some why)) }
+    asked: &AskedAny,
+) -> Result<TripToAny, Refusal>
+    ensures named { IfOk result (IsTripOfAny airport.now asked.now) }
+    ensures new { IfOk result (λ trip. has_holder asked.now.flight ledger.now.state ≡ false) }
+    ensures err { IfErr result (λ why. (why ≡ refusal.Memory) ⊎ (first_of (in_force ledger.now.state asked.now.flight ∷ unknown_class airport.now asked.now.class ∷ unknown_node airport.now asked.now.from ∷ unknown_node_of airport.now asked.now.nodes ∷ []) ≡ Some why)) }
 {
-    if is_held(ledger, flight) {
+    if is_held(ledger, &asked.flight) {
         return Err(Refusal::InForce);
     }
-    let Some(class) = airport.class_named(class) else {
+    let Some(class) = airport.class_named(&asked.class) else {
         return Err(Refusal::UnknownClass);
     };
-    let Some(from) = airport.node_named(from) else {
+    let Some(from) = airport.node_named(&asked.from) else {
         return Err(Refusal::UnknownNode);
     };
-    match nodes_named(alloc, airport, names) {
-        Ok(Some(nodes)) => Ok(AskedAny { class, from, nodes }),
-        Ok(None) => Err(Refusal::UnknownNode),
-        Err(Memory) => Err(Refusal::Memory),
-    }
+    let Some(nodes) = nodes_named(alloc, airport, asked.nodes.as_slice())? else {
+        return Err(Refusal::UnknownNode);
+    };
+    Ok(TripToAny {
+        class,
+        from,
+        nodes,
+        time: asked.time,
+        slack: asked.slack,
+    })
 }

@@ -7,7 +7,7 @@ mod filing;
 mod holders;
 mod shutting;
 
-pub use asking::{Asked, asked_arrival, asked_departure, is_stand};
-pub use choosing::{AskedAny, asked_arrival_any, asked_departure_any};
+pub use asking::{Trip, asked_arrival, asked_departure};
+pub use choosing::{TripToAny, asked_arrival_any, asked_departure_any};
 pub use filing::check_filed;
 pub use shutting::check_work;

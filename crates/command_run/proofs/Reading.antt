@@ -11,7 +11,7 @@ use Rattle.std.specs.Str.Lines.{strip_carriage_return}
 use Rattle.taxi_text.specs.Lines.{lines_of, commands_of, is_skipped}
 use Rattle.taxi_text.specs.FirstLines.{line_end, line_end_with, first_line_of, behind_line, behind_first_line, last_line_of, only_line}
 use Rattle.taxi_text.proofs.FirstPlace.{line_end-cons, line_end-append, lines-first, lines-last}
-use Rattle.command_run.specs.Ended.{ended_lines_of, commands_among, ended_commands_of, commands_within}
+use Rattle.command_run.specs.Ended.{ended_lines_of, unended_lines_of, commands_among, ended_commands_of, commands_within}
 
 -- how many lines end in a text
 abbrev feeds_in : List ℕ → ℕ
@@ -138,9 +138,9 @@ no_end kept none = go (line_end kept) none where
 pub none-ended : (kept : List ℕ) → first_line_of kept ≡ None → ended_lines_of kept ≡ []
 none-ended kept none = ap (λ (n : ℕ). take n (lines_of kept)) (no_feed kept (no_end kept none))
 
--- behind the first line, if one is kept, fewer bytes stand than one piece has
-abbrev pub IsShortAhead : List ℕ → Type 0
-IsShortAhead kept = (line : List ℕ) → first_line_of kept ≡ Some line → length (behind_first_line kept) < 4096
+-- behind the first line, if one is kept, fewer bytes stand than so many
+abbrev pub IsShortAhead : ℕ → List ℕ → Type 0
+IsShortAhead most kept = (line : List ℕ) → first_line_of kept ≡ Some line → length (behind_first_line kept) < most
 
 fewer-behind : (kept : List ℕ) → length (behind_first_line kept) ≤ length kept
 fewer-behind kept = go (line_end kept) where
@@ -154,16 +154,16 @@ fewer-kept kept line first =
     let parts = first-passed kept line first in
     let split = ap length parts.1 in let l = length-append parts.0 (behind_first_line kept) in let some = parts.3 in omega (arith, split, l, some)
 
-pub ahead-nothing : IsShortAhead []
-ahead-nothing line first = absurd (cc first)
+pub ahead-none : (most : ℕ) (kept : List ℕ) → first_line_of kept ≡ None → IsShortAhead most kept
+ahead-none most kept none = λ line first. absurd (cc (none, first))
 
-pub ahead-dropped : (kept line : List ℕ) → first_line_of kept ≡ Some line → IsShortAhead kept → IsShortAhead (behind_first_line kept)
-ahead-dropped kept line first short = λ next second. let a = short line first in let b = fewer-behind (behind_first_line kept) in omega (arith, a, b)
+pub ahead-dropped : (most : ℕ) (kept line : List ℕ) → first_line_of kept ≡ Some line → IsShortAhead most kept → IsShortAhead most (behind_first_line kept)
+ahead-dropped most kept line first short = λ next second. let a = short line first in let b = fewer-behind (behind_first_line kept) in omega (arith, a, b)
 
-pub ahead-fed : (kept piece : List ℕ) → first_line_of kept ≡ None → length piece ≤ 4096 → IsShortAhead (kept ++ piece)
-ahead-fed kept piece none few = λ line first. go (line_end (kept ++ piece)) refl line first where
+pub ahead-fed : (kept piece : List ℕ) → first_line_of kept ≡ None → IsShortAhead (length piece) (kept ++ piece)
+ahead-fed kept piece none = λ line first. go (line_end (kept ++ piece)) refl line first where
   go : (place : Option ℕ) → line_end (kept ++ piece) ≡ place → (line : List ℕ) → option_map (λ e. strip_carriage_return (take e (kept ++ piece))) place ≡ Some line
-      → length (behind_line (kept ++ piece) place) < 4096
+      → length (behind_line (kept ++ piece) place) < length piece
   go None found line first = absurd (cc first)
   go (Some end) found line first =
       let past = ends-behind kept piece end (no_end kept none) found in
@@ -241,3 +241,23 @@ ended-first bytes more =
       lines_of (parts.1 ++ more),
       ap lines_of text ∙ parts.4.lines (parts.1 ++ more) ∙ ap (λ (l : List (List ℕ)). l ++ lines_of (parts.1 ++ more)) (sym ended),
     )
+
+-- one line at most hasn't ended
+pub unended-one : (bytes : List ℕ) → length (unended_lines_of bytes) ≤ 1
+unended-one bytes =
+    let parts = all-passed (length bytes) bytes (omega arith) in
+    let feeds : feeds_in bytes ≡ length parts.2 =
+    ap feeds_in (sym parts.3) ∙ feeds-append parts.0 parts.1 ∙ ap (λ (n : ℕ). feeds_in parts.0 + n) (no_feed parts.1 (no_end parts.1 parts.5))
+    ∙ (let f = parts.4.feeds in omega (arith, f)) in
+    let lines : lines_of bytes ≡ parts.2 ++ only_line (last_line_of parts.1) = ap lines_of (sym parts.3) ∙ last-line parts.0 parts.1 parts.2 parts.4 parts.5 in
+    let left : unended_lines_of bytes ≡ only_line (last_line_of parts.1) =
+    ap (λ (n : ℕ). drop n (lines_of bytes)) feeds ∙ ap (λ (l : List (List ℕ)). drop (length parts.2) l) lines ∙ drop-append parts.2 (only_line (last_line_of parts.1)) in
+    rw left (few (last_line_of parts.1))
+  where
+    few : (line : Option (List ℕ)) → length (only_line line) ≤ 1
+    few None = omega arith
+    few (Some line) = omega arith
+
+    drop-append : (xs ys : List (List ℕ)) → drop (length xs) (xs ++ ys) ≡ ys
+    drop-append [] ys = refl
+    drop-append (x ∷ xs) ys = drop-append xs ys

@@ -1,6 +1,7 @@
 -- A run up to some byte of its file: what is taken, read, answered and written so far, and what comes of it.
-use Rattle.std.proofs.Common.{◌≡◌, ◌+◌, ◌-◌, ◌<◌, ◌≤◌, ◌++◌, ◌∷◌, ◌∙◌, [], ℕ, List, true, false, Option, Some, None, length, take, refl, sym, ap, subst, append_assoc, append-nil, arith}
-use Rattle.std.proofs.lemmas.List.{length-append, take_all}
+use Rattle.std.proofs.Common.{◌≡◌, inl, inr, ◌+◌, ◌-◌, ◌<◌, ◌≤◌, ◌++◌, ◌∷◌, ◌∙◌, [], ℕ, List, true, false, Option, Some, None, length, take, refl, sym, ap, subst, append_assoc, append-nil, arith}
+use Rattle.std.specs.List.{flat_map}
+use Rattle.std.proofs.lemmas.List.{length-append, take_all, map-append}
 use Rattle.std.proofs.Math.Seq.{take-append_seam}
 use Rattle.std.proofs.lemmas.Grind.{flat_map-append}
 use Rattle.std.proofs.KnownBytes.{prepend_known-nil}
@@ -10,8 +11,8 @@ use Rattle.taxi_base.specs.State.{State, no_holder}
 use Rattle.taxi_text.specs.Lines.{lines_of, commands_of, is_skipped}
 use Rattle.taxi_text.specs.FirstLines.{first_line_of, behind_first_line, last_line_of, only_line}
 use Rattle.taxi_io.specs.Files.{Gave, GaveByte, IsAtEndOnly}
-use Rattle.taxi_io.specs.Written.{Grew}
-use Rattle.taxi_io.proofs.Pieces.{grew-nothing, grew-more, gave-more}
+use Rattle.taxi_io.specs.Written.{Output, Grew, Handed, AreHandedInPart}
+use Rattle.taxi_io.proofs.Pieces.{grew-nothing, grew-more, gave-more, handed-on, handed-all, handed-part, handed-longer}
 use Rattle.certificate.specs.declared.block.Block.{Block}
 use Rattle.certificate.specs.Texts.{block_text}
 use Rattle.certificate.specs.Replies.{IsAnswered}
@@ -19,22 +20,23 @@ use Rattle.transcripts.specs.Runs.{IsRun, blocks_text}
 use Rattle.transcripts.proofs.CommandsIn.{commands_in-count, blocks_text-more}
 use Rattle.transcripts.proofs.RunLaws.{none-sound, in_turn-append, IsRun-sound, in_turn-length, run-over}
 use Rattle.command_run.specs.Ended.{commands_among, ended_commands_of, commands_within}
-use Rattle.command_run.specs.Answered.{Told, AreLeft, AreAnswered, IsBlockCut, IsWholeRun, IsHaltedRun, IsCutRun, IsPrompt}
-use Rattle.command_run.proofs.Reading.{IsPassed, IsShortAhead, nothing-passed, passed-more, first-passed, ahead-nothing, ahead-dropped, ahead-fed, among-append, within-goes_on, within-all, last-line, none-left}
+use Rattle.command_run.specs.Answered.{Told, Pieces, Outputs, AreLeft, texts_of, AreAnswered, IsBlockCut, IsWholeRun, IsHaltedRun, IsCutRun, last_piece, IsPrompt}
+use Rattle.command_run.proofs.Reading.{IsPassed, IsShortAhead, nothing-passed, passed-more, first-passed, ahead-none, ahead-dropped, ahead-fed, among-append, within-goes_on, within-all, last-line, none-left}
 
 -- ---- what is answered
 
-pub none-answered : (airport : Airport) (before after : State) (now : Option (List ℕ)) → after ≡ before → AreAnswered airport before [] (now, now) 0 after
-none-answered airport before after now same = record { blocks = []; run = same; grew = grew-nothing now; counted = refl }
+pub none-answered : (airport : Airport) (before after : State) (now : Output) → after ≡ before → AreAnswered airport before [] (now, now) 0 after
+none-answered airport before after now same = record { blocks = []; run = same; grew = grew-nothing now; handed = refl; counted = refl }
 
 -- some commands are answered, and then others
-pub answered-append : (airport : Airport) (before between after : State) (commands more : List (List ℕ)) (old now then : Option (List ℕ)) (count few : ℕ)
+pub answered-append : (airport : Airport) (before between after : State) (commands more : List (List ℕ)) (old now then : Output) (count few : ℕ)
     → AreAnswered airport before commands (old, now) count between → AreAnswered airport between more (now, then) few after
     → AreAnswered airport before (commands ++ more) (old, then) (count + few) after
 answered-append airport before between after commands more old now then count few one two = record {
   blocks = one.blocks ++ two.blocks;
   run = in_turn-append IsAnswered airport before between after commands more one.blocks two.blocks one.run two.run;
   grew = rw (flat_map-append (block_text airport) one.blocks two.blocks) (grew-more old now then _ _ one.grew two.grew);
+  handed = rw (map-append (block_text airport) one.blocks two.blocks) (handed-all old now then _ _ one.handed two.handed);
   counted = let a = one.counted in let b = two.counted in let l = length-append one.blocks two.blocks in omega (arith, a, b, l);
 }
 
@@ -45,42 +47,62 @@ pub among-holds : (line : List ℕ) → is_skipped line ≡ false → commands_a
 among-holds line holds = rw holds refl
 
 -- a line that holds no command
-pub skipped-answered : (airport : Airport) (before after : State) (line : List ℕ) (now : Option (List ℕ)) → is_skipped line ≡ true → after ≡ before
+pub skipped-answered : (airport : Airport) (before after : State) (line : List ℕ) (now : Output) → is_skipped line ≡ true → after ≡ before
     → AreAnswered airport before (commands_among (line ∷ [])) (now, now) 0 after
 skipped-answered airport before after line now skipped same =
     subst (λ (c : List (List ℕ)). AreAnswered airport before c (now, now) 0 after) (sym (among-skipped line skipped)) (none-answered airport before after now same)
 
 -- a line that holds one
-pub line-answered : (airport : Airport) (before after : State) (line : List ℕ) (block : Block) (now then : Option (List ℕ)) → is_skipped line ≡ false
-    → IsAnswered airport before line block after → Grew now then (block_text airport block) → AreAnswered airport before (commands_among (line ∷ [])) (now, then) 1 after
-line-answered airport before after line block now then holds answered grew =
+pub line-answered : (airport : Airport) (before after : State) (line : List ℕ) (block : Block) (now then : Output) → is_skipped line ≡ false
+    → IsAnswered airport before line block after → Grew now then (block_text airport block) → Handed now then (block_text airport block) → AreAnswered airport before (commands_among (line ∷ [])) (now, then) 1 after
+line-answered airport before after line block now then holds answered grew handed =
     subst (λ (c : List (List ℕ)). AreAnswered airport before c (now, then) 1 after) (sym (among-holds line holds)) (record {
       blocks = block ∷ [];
       run = (after, answered, refl);
       grew = rw (append-nil (block_text airport block)) grew;
+      handed = (then, handed, refl);
       counted = refl;
     })
+
+-- ---- pieces
+
+pub last_piece-more : (pieces : List (List ℕ)) (piece : List ℕ) → last_piece (pieces ++ piece ∷ []) ≡ piece
+last_piece-more [] piece = refl
+last_piece-more (first ∷ []) piece = refl
+last_piece-more (first ∷ second ∷ more) piece = last_piece-more (second ∷ more) piece
+
+joined-more : (pieces : List (List ℕ)) (piece : List ℕ) → flat_map (λ p. p) (pieces ++ piece ∷ []) ≡ flat_map (λ p. p) pieces ++ piece
+joined-more pieces piece = flat_map-append (λ p. p) pieces (piece ∷ []) ∙ ap (λ (l : List ℕ). flat_map (λ p. p) pieces ++ l) (append-nil piece)
 
 -- ---- so far
 
 -- Of the file the lines of a front are read, and the bytes behind it are kept. The commands among those lines are answered.
-pub record IsSoFar (airport : Airport) (limit : ℕ) (left written : Told) (kept : List ℕ) (room count : ℕ) (state : State) : Type 0 where
+pub record IsSoFar (airport : Airport) (limit : ℕ) (left : Told) (given : Pieces) (written : Outputs) (kept : List ℕ) (room count : ℕ) (state : State) : Type 0 where
   pub front : List ℕ
   pub read : List (List ℕ)
   pub passed : IsPassed front read
   pub gave : Gave left.0 left.1 (front ++ kept)
   pub within : room + length (front ++ kept) ≡ limit
-  pub short : IsShortAhead kept
+  pub pieces : List (List ℕ)
+  pub given_more : given.1 ≡ given.0 ++ pieces
+  pub joined : flat_map (λ piece. piece) pieces ≡ front ++ kept
+  pub few : length (last_piece pieces) ≤ 4096
+  pub short : IsShortAhead (length (last_piece pieces)) kept
   pub answered : AreAnswered airport no_holder (commands_among read) written count state
 
-pub nothing-so_far : (airport : Airport) (limit : ℕ) (left now : Option (List ℕ)) (state : State) → state ≡ no_holder → IsSoFar airport limit (left, left) (now, now) [] limit 0 state
-nothing-so_far airport limit left now state fresh = record {
+pub nothing-so_far : (airport : Airport) (limit : ℕ) (left : Option (List ℕ)) (given : List (List ℕ)) (now : Output) (state : State) → state ≡ no_holder
+    → IsSoFar airport limit (left, left) (given, given) (now, now) [] limit 0 state
+nothing-so_far airport limit left given now state fresh = record {
   front = [];
   read = [];
   passed = nothing-passed;
   gave = sym (prepend_known-nil left);
   within = omega arith;
-  short = ahead-nothing;
+  pieces = [];
+  given_more = sym (append-nil given);
+  joined = refl;
+  few = omega arith;
+  short = ahead-none 0 [] refl;
   answered = none-answered airport no_holder state now fresh;
 }
 
@@ -94,16 +116,40 @@ ended-left left next count buffer none ended gave =
     go None ended = tt
     go (Some bytes) ended = ended.0 none
 
-pub so_far-same : (airport : Airport) (limit : ℕ) (old left next : Option (List ℕ)) (written : Told) (kept : List ℕ) (room count : ℕ) (state : State) → next ≡ left
-    → IsSoFar airport limit (old, left) written kept room count state → IsSoFar airport limit (old, next) written kept room count state
-so_far-same airport limit old left next written kept room count state same so_far =
-    subst (λ (l : Option (List ℕ)). IsSoFar airport limit (old, l) written kept room count state) (sym same) so_far
+pub taken-none : (count : ℕ) (buffer : List ℕ) → count ≡ 0 → take count buffer ≡ []
+taken-none count buffer none = ap (λ (n : ℕ). take n buffer) none
 
-module _ (airport : Airport) (limit : ℕ) (old left w0 w1 : Option (List ℕ)) (kept : List ℕ) (room count : ℕ) (state : State) (so_far : IsSoFar airport limit (old, left) (w0, w1) kept room count state) where
+-- the file has ended, as the last read told
+pub so_far-ended : (airport : Airport) (limit : ℕ) (old left next : Option (List ℕ)) (given : Pieces) (now : List (List ℕ)) (piece : List ℕ) (written : Outputs) (kept : List ℕ)
+    (room count : ℕ) (state : State) → next ≡ left → now ≡ given.1 ++ piece ∷ [] → piece ≡ [] → first_line_of kept ≡ None
+    → IsSoFar airport limit (old, left) given written kept room count state
+    → (ended : IsSoFar airport limit (old, next) (given.0, now) written kept room count state) × (last_piece ended.pieces ≡ [])
+so_far-ended airport limit old left next given now piece written kept room count state same told nothing none so_far =
+    let last : last_piece (so_far.pieces ++ [] ∷ []) ≡ [] = last_piece-more so_far.pieces [] in (
+      record {
+        front = so_far.front;
+        read = so_far.read;
+        passed = so_far.passed;
+        gave = subst (λ (l : Option (List ℕ)). Gave old l (so_far.front ++ kept)) (sym same) so_far.gave;
+        within = so_far.within;
+        pieces = so_far.pieces ++ [] ∷ [];
+        given_more = told ∙ ap (λ (p : List ℕ). given.1 ++ p ∷ []) nothing ∙ ap (λ (l : List (List ℕ)). l ++ [] ∷ []) so_far.given_more ∙ append_assoc given.0 so_far.pieces ([] ∷ []);
+        joined = joined-more so_far.pieces [] ∙ append-nil (flat_map (λ p. p) so_far.pieces) ∙ so_far.joined;
+        few = rw last (omega arith);
+        short = ahead-none _ kept none;
+        answered = so_far.answered;
+      },
+      last,
+    )
+
+module _ (airport : Airport) (limit : ℕ) (old left : Option (List ℕ)) (given : Pieces) (w0 w1 : Output) (kept : List ℕ) (room count : ℕ) (state : State)
+    (so_far : IsSoFar airport limit (old, left) given (w0, w1) kept room count state) where
   -- a piece more is kept
-  pub so_far-fed : (next : Option (List ℕ)) (piece : List ℕ) (more : ℕ) → first_line_of kept ≡ None → Gave left next piece → length piece ≤ 4096 → length piece ≤ room → more ≡ room - length piece
-      → IsSoFar airport limit (old, next) (w0, w1) (kept ++ piece) more count state
-  so_far-fed next piece more none gave few within less =
+  pub so_far-fed : (next : Option (List ℕ)) (now : List (List ℕ)) (piece : List ℕ) (more : ℕ) → first_line_of kept ≡ None → Gave left next piece → now ≡ given.1 ++ piece ∷ []
+      → length piece ≤ 4096 → length piece ≤ room → more ≡ room - length piece
+      → IsSoFar airport limit (old, next) (given.0, now) (w0, w1) (kept ++ piece) more count state
+  so_far-fed next now piece more none gave told few within less =
+      let last = last_piece-more so_far.pieces piece in
       let split : (so_far.front ++ kept) ++ piece ≡ so_far.front ++ (kept ++ piece) = append_assoc so_far.front kept piece in
       record {
         front = so_far.front;
@@ -111,7 +157,11 @@ module _ (airport : Airport) (limit : ℕ) (old left w0 w1 : Option (List ℕ)) 
         passed = so_far.passed;
         gave = subst (Gave old next) split (gave-more old left next (so_far.front ++ kept) piece so_far.gave gave);
         within = let was = so_far.within in let l = ap length (sym split) in let m = length-append (so_far.front ++ kept) piece in omega (arith, was, l, m, less, within);
-        short = ahead-fed kept piece none few;
+        pieces = so_far.pieces ++ piece ∷ [];
+        given_more = told ∙ ap (λ (l : List (List ℕ)). l ++ piece ∷ []) so_far.given_more ∙ append_assoc given.0 so_far.pieces (piece ∷ []);
+        joined = joined-more so_far.pieces piece ∙ ap (λ (l : List ℕ). l ++ piece) so_far.joined ∙ split;
+        few = rw last few;
+        short = rw last (ahead-fed kept piece none);
         answered = so_far.answered;
       }
 
@@ -125,8 +175,8 @@ module _ (airport : Airport) (limit : ℕ) (old left w0 w1 : Option (List ℕ)) 
         )
 
     -- the first line that has ended is answered, and taken off
-    pub so_far-answered : (w2 : Option (List ℕ)) (few : ℕ) (after : State) → AreAnswered airport state (commands_among (line ∷ [])) (w1, w2) few after
-        → IsSoFar airport limit (old, left) (w0, w2) (behind_first_line kept) room (count + few) after
+    pub so_far-answered : (w2 : Output) (few : ℕ) (after : State) → AreAnswered airport state (commands_among (line ∷ [])) (w1, w2) few after
+        → IsSoFar airport limit (old, left) given (w0, w2) (behind_first_line kept) room (count + few) after
     so_far-answered w2 few after answered =
         let next = next_front in
         record {
@@ -135,7 +185,11 @@ module _ (airport : Airport) (limit : ℕ) (old left w0 w1 : Option (List ℕ)) 
           passed = next.2;
           gave = subst (Gave old left) (sym next.1) so_far.gave;
           within = let was = so_far.within in let l = ap length next.1 in omega (arith, was, l);
-          short = ahead-dropped kept line first so_far.short;
+          pieces = so_far.pieces;
+          given_more = so_far.given_more;
+          joined = so_far.joined ∙ sym next.1;
+          few = so_far.few;
+          short = ahead-dropped _ kept line first so_far.short;
           answered = rw (among-append so_far.read (line ∷ [])) (answered-append airport no_holder state after _ _ w0 w1 w2 count few so_far.answered answered);
         }
 
@@ -174,10 +228,10 @@ module _ (airport : Airport) (limit : ℕ) (old left w0 w1 : Option (List ℕ)) 
     go (Some all) (Some rest) gave ended = let same : all ≡ taken ++ rest = cc gave in same ∙ ap (λ (t : List ℕ). taken ++ t) ended ∙ append-nil taken
 
   -- a front is written of the blocks that answer some commands, and the run goes on over the others
-  cut-over : (bytes : List ℕ) (commands rest : List (List ℕ)) (blocks : List Block) (between : State) (front behind : List ℕ) (now next : Option (List ℕ))
+  cut-over : (bytes : List ℕ) (commands rest : List (List ℕ)) (blocks : List Block) (between : State) (front behind : List ℕ) (now : Output) (next : Option (List ℕ))
       → AreLeft old bytes → commands_within limit bytes ≡ commands ++ rest → IsRun airport no_holder commands blocks between
-      → front ++ behind ≡ blocks_text airport blocks → Grew w0 now front → IsCutRun airport limit (old, next) (w0, now)
-  cut-over bytes commands rest blocks between front behind now next file all run split grew =
+      → front ++ behind ≡ blocks_text airport blocks → Grew w0 now front → AreHandedInPart w0 now (texts_of airport blocks) → IsCutRun airport limit (old, next) (w0, now)
+  cut-over bytes commands rest blocks between front behind now next file all run split grew handed =
       let going_on = run-over airport between rest (IsRun-sound airport no_holder between commands blocks run (none-sound airport)) in
       record {
         bytes = bytes;
@@ -190,10 +244,11 @@ module _ (airport : Airport) (limit : ℕ) (old left w0 w1 : Option (List ℕ)) 
         split = sym (append_assoc front behind (blocks_text airport going_on.0)) ∙ ap (λ (t : List ℕ). t ++ blocks_text airport going_on.0) split
             ∙ sym (flat_map-append (block_text airport) blocks going_on.0);
         grew = grew;
+        handed = rw (map-append (block_text airport) blocks going_on.0) (handed-longer w0 now (texts_of airport blocks) (texts_of airport going_on.0) handed);
       }
 
   -- the same where the block of one command more is cut short
-  cut-block : (bytes line : List ℕ) (rest : List (List ℕ)) (now next : Option (List ℕ)) → AreLeft old bytes
+  cut-block : (bytes line : List ℕ) (rest : List (List ℕ)) (now : Output) (next : Option (List ℕ)) → AreLeft old bytes
       → commands_within limit bytes ≡ (commands_among so_far.read ++ line ∷ []) ++ rest → IsBlockCut airport state line (w1, now) → IsCutRun airport limit (old, next) (w0, now)
   cut-block bytes line rest now next file all cut =
       let answered = so_far.answered in
@@ -202,6 +257,8 @@ module _ (airport : Airport) (limit : ℕ) (old left w0 w1 : Option (List ℕ)) 
       (in_turn-append IsAnswered airport no_holder state cut.after (commands_among so_far.read) (line ∷ []) answered.blocks (cut.block ∷ []) answered.run (cut.after, cut.answered, refl))
       (append_assoc text cut.front.0 cut.front.1 ∙ ap (λ (t : List ℕ). text ++ t) cut.front.2 ∙ sym (blocks_text-more airport answered.blocks cut.block))
       (grew-more w0 w1 now text cut.front.0 answered.grew cut.front.4)
+      (rw (map-append (block_text airport) answered.blocks (cut.block ∷ []))
+      (handed-on w0 w1 now (texts_of airport answered.blocks) (block_text airport cut.block ∷ []) answered.handed (inl (inr cut.in_part))))
 
   -- memory runs out between two commands, perhaps with a piece more taken
   pub so_far-stays : (next : Option (List ℕ)) → IsCutRun airport limit (old, next) (w0, w1)
@@ -211,12 +268,13 @@ module _ (airport : Airport) (limit : ℕ) (old left w0 w1 : Option (List ℕ)) 
       let bytes : (so_far.front ++ kept) ++ rest.0 ≡ so_far.front ++ (kept ++ rest.0) = append_assoc so_far.front kept rest.0 in
       cut-over (so_far.front ++ (kept ++ rest.0)) (commands_among so_far.read) all.0 so_far.answered.blocks state (blocks_text airport so_far.answered.blocks) [] w1 next
       (subst (AreLeft old) bytes rest.1) all.1 so_far.answered.run (append-nil (blocks_text airport so_far.answered.blocks)) so_far.answered.grew
+      (handed-part w0 w1 (texts_of airport so_far.answered.blocks) so_far.answered.handed)
 
   among-more : (line : List ℕ) → is_skipped line ≡ false → commands_among (so_far.read ++ line ∷ []) ≡ commands_among so_far.read ++ line ∷ []
   among-more line holds = among-append so_far.read (line ∷ []) ∙ ap (λ (c : List (List ℕ)). commands_among so_far.read ++ c) (among-holds line holds)
 
   -- the block of the first line that has ended is cut short
-  pub first-cut : (line : List ℕ) → first_line_of kept ≡ Some line → (now : Option (List ℕ)) → IsBlockCut airport state line (w1, now) → IsCutRun airport limit (old, left) (w0, now)
+  pub first-cut : (line : List ℕ) → first_line_of kept ≡ Some line → (now : Output) → IsBlockCut airport state line (w1, now) → IsCutRun airport limit (old, left) (w0, now)
   first-cut line first now cut =
       let next = next_front line first in
       let rest = file-left (so_far.front ++ kept) so_far.gave in
@@ -227,14 +285,18 @@ module _ (airport : Airport) (limit : ℕ) (old left w0 w1 : Option (List ℕ)) 
       cut-block (next.0 ++ (behind_first_line kept ++ rest.0)) line all.0 now left (subst (AreLeft old) bytes rest.1)
       (all.1 ∙ ap (λ (c : List (List ℕ)). c ++ all.0) (among-more line cut.holds)) cut
 
-  pub first-prompt : (line : List ℕ) → first_line_of kept ≡ Some line → (now : Option (List ℕ)) → IsBlockCut airport state line (w1, now) → IsPrompt airport (old, left) (w0, now)
+  pub first-prompt : (line : List ℕ) → first_line_of kept ≡ Some line → (now : Output) → IsBlockCut airport state line (w1, now) → IsPrompt airport (old, left) given (w0, now)
   first-prompt line first now cut =
       let next = next_front line first in
       record {
         through = next.0;
         ahead = behind_first_line kept;
         gave = subst (Gave old left) (sym next.1) so_far.gave;
-        few = so_far.short line first;
+        few = let ahead = so_far.short line first in let piece = so_far.few in omega (arith, ahead, piece);
+        pieces = so_far.pieces;
+        given_more = so_far.given_more;
+        joined = so_far.joined ∙ sym next.1;
+        at_once = inl (so_far.short line first);
         before = so_far.read;
         line = line;
         last = ap lines_of (sym (append-nil next.0)) ∙ next.2.lines [] ∙ append-nil (so_far.read ++ line ∷ []);
@@ -247,7 +309,7 @@ module _ (airport : Airport) (limit : ℕ) (old left w0 w1 : Option (List ℕ)) 
 
   module _ (none : first_line_of kept ≡ None) where
     -- the block of the last line is cut short, which has no line feed
-    pub last-cut : (line : List ℕ) → last_line_of kept ≡ Some line → AreLeft left [] → (now : Option (List ℕ)) → IsBlockCut airport state line (w1, now) → IsCutRun airport limit (old, left) (w0, now)
+    pub last-cut : (line : List ℕ) → last_line_of kept ≡ Some line → AreLeft left [] → (now : Output) → IsBlockCut airport state line (w1, now) → IsCutRun airport limit (old, left) (w0, now)
     last-cut line last ended now cut =
         let taken = so_far.front ++ kept in
         let lines : lines_of taken ≡ so_far.read ++ line ∷ [] =
@@ -255,12 +317,17 @@ module _ (airport : Airport) (limit : ℕ) (old left w0 w1 : Option (List ℕ)) 
         cut-block taken line [] now left (file-all taken so_far.gave ended)
         (within-all limit taken taken-few ∙ ap commands_among lines ∙ among-more line cut.holds ∙ sym (append-nil (commands_among so_far.read ++ line ∷ []))) cut
 
-    pub last-prompt : (line : List ℕ) → last_line_of kept ≡ Some line → (now : Option (List ℕ)) → IsBlockCut airport state line (w1, now) → IsPrompt airport (old, left) (w0, now)
-    last-prompt line last now cut = record {
+    pub last-prompt : (line : List ℕ) → last_line_of kept ≡ Some line → last_piece so_far.pieces ≡ [] → (now : Output) → IsBlockCut airport state line (w1, now)
+        → IsPrompt airport (old, left) given (w0, now)
+    last-prompt line last ended now cut = record {
       through = so_far.front ++ kept;
       ahead = [];
       gave = subst (Gave old left) (sym (append-nil (so_far.front ++ kept))) so_far.gave;
       few = omega arith;
+      pieces = so_far.pieces;
+      given_more = so_far.given_more;
+      joined = so_far.joined ∙ sym (append-nil (so_far.front ++ kept));
+      at_once = inr (ended, refl, none-left so_far.front kept so_far.read so_far.passed none);
       before = so_far.read;
       line = line;
       last = last-line so_far.front kept so_far.read so_far.passed none ∙ ap (λ (l : Option (List ℕ)). so_far.read ++ only_line l) last;
@@ -272,7 +339,7 @@ module _ (airport : Airport) (limit : ℕ) (old left w0 w1 : Option (List ℕ)) 
     }
 
     -- the file is read to its end, and its last line, if there is one, is answered too
-    pub so_far-whole : (w2 : Option (List ℕ)) (few : ℕ) (after : State) → AreLeft left [] → AreAnswered airport state (commands_among (only_line (last_line_of kept))) (w1, w2) few after
+    pub so_far-whole : (w2 : Output) (few : ℕ) (after : State) → AreLeft left [] → AreAnswered airport state (commands_among (only_line (last_line_of kept))) (w1, w2) few after
         → IsWholeRun airport limit (old, left) (w0, w2) (count + few)
     so_far-whole w2 few after ended answered =
         let taken = so_far.front ++ kept in
@@ -288,7 +355,7 @@ module _ (airport : Airport) (limit : ℕ) (old left w0 w1 : Option (List ℕ)) 
           answered = rw commands (answered-append airport no_holder state after _ _ w0 w1 w2 count few so_far.answered answered);
         }
 
-    pub last-answered : (line : List ℕ) (w2 : Option (List ℕ)) (few : ℕ) (after : State) → last_line_of kept ≡ Some line → AreLeft left []
+    pub last-answered : (line : List ℕ) (w2 : Output) (few : ℕ) (after : State) → last_line_of kept ≡ Some line → AreLeft left []
         → AreAnswered airport state (commands_among (line ∷ [])) (w1, w2) few after → IsWholeRun airport limit (old, left) (w0, w2) (count + few)
     last-answered line w2 few after last ended answered =
         so_far-whole w2 few after ended (subst (λ (l : Option (List ℕ)). AreAnswered airport state (commands_among (only_line l)) (w1, w2) few after) (sym last) answered)

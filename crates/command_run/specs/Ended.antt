@@ -1,10 +1,14 @@
 -- Which lines have ended in the first bytes of a file, and which of its commands are answered?
-use Rattle.std.specs.Prelude.{ℕ, not, nat_lt, ◌==◌, List, length, take, filter, count_by, if◌then◌else◌}
+use Rattle.std.specs.Prelude.{ℕ, not, nat_lt, ◌==◌, List, length, take, drop, filter, count_by, if◌then◌else◌}
 use Rattle.taxi_text.specs.Lines.{lines_of, commands_of, is_skipped}
 
 -- the lines that have ended in these bytes, whatever comes behind them: each line feed ends one
 abbrev pub ended_lines_of : List ℕ → List (List ℕ)
 ended_lines_of bytes = take (count_by (λ b. b == 10) bytes) (lines_of bytes)
+
+-- those that haven't: the last line, if it has a byte and no line feed
+abbrev pub unended_lines_of : List ℕ → List (List ℕ)
+unended_lines_of bytes = drop (count_by (λ b. b == 10) bytes) (lines_of bytes)
 
 -- those of some lines that hold commands
 abbrev pub commands_among : List (List ℕ) → List (List ℕ)

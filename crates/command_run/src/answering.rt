@@ -33,7 +33,7 @@ pub fn run_commands<R: Router, S: Shelf, K: Sink>(
     requires countable { limit < 2 ^ 63 }
 
     ensures whole { IfOk result (IsWholeRun (R.airport router.old) limit (S.rest shelf.old, S.rest shelf.new) (K.written out.old, K.written out.new)) }
-    ensures stopped { IfErr result (IsStopped (R.airport router.old) limit (S.rest shelf.old, S.rest shelf.new) (K.written out.old, K.written out.new)) }
+    ensures stopped { IfErr result (IsStopped (R.airport router.old) limit (S.rest shelf.old, S.rest shelf.new) (S.given shelf.old, S.given shelf.new) (K.written out.old, K.written out.new)) }
     ensures read_fault { IsErrOf result RunRefused.ReadFault → Rose (S.faults shelf.old) (S.faults shelf.new) }
     ensures write_fault { IsErrOf result RunRefused.WriteFault → Rose (K.faults out.old) (K.faults out.new) }
 

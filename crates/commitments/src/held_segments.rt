@@ -3,7 +3,7 @@ ghost use Rattle.std.specs.Prelude.{ℕ, ◌≡◌, ◌+◌, ◌^◌, ◌<◌, �
 ghost use Rattle.taxi_base.specs.Airport.{IsWellFormed};
 ghost use Rattle.taxi_base.specs.Windows.{Hold, holds_of};
 ghost use Rattle.window_store.specs.Stands.{StandsFor, HasRoomFor, AreOnSegments, TakeTime, AreInTime};
-ghost use Rattle.window_store.specs.Kept.{IsApartFrom, IsClearOf, KeepsWindows, KeepsNodes, GainsRoom};
+ghost use Rattle.window_store.specs.Kept.{IsApartFrom, IsClearOf, KeepsWindows, KeepsNodes, GainsRoom, DrawsWhatIsLacking};
 ghost use Rattle.commitments.specs.Held.{hold_by, clearance_after, steps_with, AreAsMany, AreAmong};
 ghost use Rattle.commitments.specs.Taken.{IsFirstTaken};
 
@@ -85,6 +85,7 @@ impl HeldSegments {
         requires stands { (horizon : ℕ) × (holds : List Hold) × StandsFor airport.now.conflicts horizon holds self.old.store }
         ensures room { OnOk result (HasRoomFor airport.now.conflicts steps.now self.new.store) }
         ensures gained { GainsRoom self.old.store self.new.store }
+        ensures lacking { DrawsWhatIsLacking airport.now.conflicts steps.now self.old.store self.new.store }
         ensures stands { (horizon : ℕ) (holds : List Hold) → StandsFor airport.now.conflicts horizon holds self.old.store → StandsFor airport.now.conflicts horizon holds self.new.store }
         ensures steps { self.new.steps ≡ self.old.steps }
     {

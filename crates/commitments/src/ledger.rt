@@ -7,7 +7,7 @@ ghost use Rattle.taxi_base.specs.Walks.{IsFeasibleWalk};
 ghost use Rattle.taxi_base.specs.State.{no_holder, holder_count, has_holder, flight_named, without, with_flight, flight_holds, conditions_of, with_route};
 ghost use Rattle.taxi_base.specs.Faults.{conditions_in};
 ghost use Rattle.window_store.specs.Stands.{HasRoomFor};
-ghost use Rattle.window_store.specs.Kept.{IsApartFrom, IsClearOf, KeepsWindows, KeepsNodes, GainsRoom};
+ghost use Rattle.window_store.specs.Kept.{IsApartFrom, IsClearOf, KeepsWindows, KeepsNodes, GainsRoom, DrawsWhatIsLacking};
 ghost use Rattle.holder_lists.specs.Lists.{IsBook};
 ghost use Rattle.commitments.specs.Book.{Book, Fits, IsPrepared, lifted_flight};
 
@@ -92,21 +92,42 @@ impl Ledger {
         self.held.store()
     }
 
-    /// Makes room for one more flight with these steps. All holders and windows stay, also where memory runs out.
+    /// Makes room for one more flight with these steps, and no more nodes than these lack. All holders and windows stay, also where memory
+    /// runs out.
     pub fn prepare(&mut self, airport: &Airport, steps: &[Step]) -> Result<(), Memory>
         requires fits { Fits airport.now self.old }
         requires arcs { All (λ s. IsTrue (arc_exists (layout_of airport.now) s.arc)) steps.now }
         requires few { length steps.now < 2 ^ 32 }
+        requires not_full { holder_count self.old.state < 4096 }
         ensures room { OnOk result (IsPrepared airport.now steps.now self.new) }
         ensures state { self.new.state ≡ self.old.state }
         ensures lifted { self.new.lifted ≡ self.old.lifted }
         ensures kept { self.old.room ≤ self.new.room }
         ensures party_room { self.new.party_room ≡ self.old.party_room }
         ensures windows { GainsRoom self.old.store self.new.store }
+        ensures lacking { DrawsWhatIsLacking airport.now.conflicts steps.now self.old.store self.new.store }
+        ensures fits { Fits airport.now self.new }
+    {
+        self.holders.flights.prepare()?;
+        self.prepare_again(airport, steps)
+    }
+
+    /// Makes room for other steps of a flight that is in force already, however many are in force, and no more nodes than these lack. All
+    /// holders and windows stay, also where memory runs out.
+    pub fn prepare_again(&mut self, airport: &Airport, steps: &[Step]) -> Result<(), Memory>
+        requires fits { Fits airport.now self.old }
+        requires arcs { All (λ s. IsTrue (arc_exists (layout_of airport.now) s.arc)) steps.now }
+        requires few { length steps.now < 2 ^ 32 }
+        ensures room { OnOk result (HasRoomFor airport.now.conflicts steps.now self.new.store) }
+        ensures state { self.new.state ≡ self.old.state }
+        ensures lifted { self.new.lifted ≡ self.old.lifted }
+        ensures flight_room { self.new.room ≡ self.old.room }
+        ensures party_room { self.new.party_room ≡ self.old.party_room }
+        ensures windows { GainsRoom self.old.store self.new.store }
+        ensures lacking { DrawsWhatIsLacking airport.now.conflicts steps.now self.old.store self.new.store }
         ensures fits { Fits airport.now self.new }
     {
         keep_rules(airport);
-        self.holders.flights.prepare()?;
         self.held.reserve(airport, steps)
     }
 
@@ -160,7 +181,7 @@ impl Ledger {
         requires in_force { IsSome (flight_named name.now self.old.state.flights) }
         ensures state { self.new.state ≡ self.old.state }
         ensures lifted { self.new.lifted ≡ Some name.now }
-        ensures prepared { (steps : List StepRow) → IsPrepared airport.now steps self.old → IsPrepared airport.now steps self.new }
+        ensures prepared { (steps : List StepRow) → HasRoomFor airport.now.conflicts steps self.old.store → HasRoomFor airport.now.conflicts steps self.new.store }
         ensures room { self.new.room ≡ self.old.room }
         ensures party_room { self.new.party_room ≡ self.old.party_room }
         ensures nodes { KeepsNodes self.old.store self.new.store }

@@ -1,8 +1,9 @@
 //! The work parties of a ledger, and why a segment may not be shut.
 ghost use Rattle.std.specs.Prelude.{◌≡◌, ◌↔◌, ◌+◌, ◌<◌, ◌≤◌, false, Some, None, [], ◌∷◌, length, slice_get, IfNone, IfSome, OnOk};
-ghost use Rattle.taxi_base.specs.State.{IsFeasibleHold, holder_count, has_holder, party_named, party_hold, with_party, without};
+ghost use Rattle.taxi_base.specs.declared.answers.Party.{Party as PartyRow};
+ghost use Rattle.taxi_base.specs.State.{IsFeasibleHold, holder_count, has_holder, party_named, party_hold, party_step, with_party, without};
 ghost use Rattle.taxi_base.specs.Faults.{hold_fault, hold_cause};
-ghost use Rattle.window_store.specs.Kept.{IsApartFrom, IsClearOf, KeepsWindows, KeepsNodes, GainsRoom};
+ghost use Rattle.window_store.specs.Kept.{IsApartFrom, IsClearOf, KeepsWindows, KeepsNodes, GainsRoom, DrawsWhatIsLacking};
 ghost use Rattle.holder_lists.specs.Lists.{AreParties};
 ghost use Rattle.commitments.specs.Book.{Fits, IsPreparedForParty};
 
@@ -81,6 +82,7 @@ impl Ledger {
         ensures kept { self.old.party_room ≤ self.new.party_room }
         ensures flight_room { self.new.room ≡ self.old.room }
         ensures windows { GainsRoom self.old.store self.new.store }
+        ensures lacking { (party : PartyRow) → party.segment ≡ segment → DrawsWhatIsLacking airport.now.conflicts (party_step party ∷ []) self.old.store self.new.store }
         ensures fits { Fits airport.now self.new }
     {
         self.holders.parties.prepare()?;

@@ -2,3 +2,4 @@ pub mod HeldLaws
 mod TakenLaws
 mod HolderLaws
 pub mod FiledLaws
+mod ChoiceLaws

@@ -1,14 +1,15 @@
 //! What an arrival or a departure asks for, or why it is refused before any search.
-ghost use Rattle.std.specs.Prelude.{◌≡◌, ◌<◌, length, ◌∷◌, [], Some, None, false, nat_le, IfOk, IfErr};
+ghost use Rattle.std.specs.Prelude.{◌≡◌, ◌∷◌, [], Some, None, false, nat_le, IfOk, IfErr};
 ghost use Rattle.taxi_base.specs.State.{has_holder, holder_count};
 ghost use Rattle.taxi_text.specs.declared.command.Command.TheVariants as command;
-ghost use Rattle.certificate.specs.Refusals.{is_runway, is_stand, most_holders, first_of, in_force, unknown_class, unknown_node, first_refusal};
+ghost use Rattle.certificate.specs.Refusals.{most_holders, first_of, in_force, unknown_class, unknown_node, first_refusal};
 ghost use Rattle.checked_state.specs.Flights.{state_of};
-ghost use Rattle.due_refusals.specs.Asked.{is_of_kind, AreNamed};
+ghost use Rattle.due_refusals.specs.Asked.{AreNamed};
 
 use airport_file::Airport;
 use checked_state::HeldFlights;
-use taxi_base::{Class, Kind, Name, Node, Refusal};
+use taxi_base::{Class, Node, Refusal};
+use taxi_text::Asked;
 
 /// How many flights and work parties may be in force.
 pub(crate) const MOST_HOLDERS: usize = 4096;
@@ -22,23 +23,16 @@ pub struct Named {
 }
 
 /// What the words of an arrival name, or why it is refused: it goes from a runway to a stand.
-pub fn named_arrival(
-    airport: &Airport,
-    held: &HeldFlights,
-    flight: &Name,
-    class: &Name,
-    from: &Name,
-    to: &Name,
-) -> Result<Named, Refusal>
-    ensures named { IfOk result (AreNamed airport.now class.now from.now to.now) }
-    ensures ok { IfOk result (λ named. first_refusal airport.now (state_of held.now) (command.Arrival flight.now class.now from.now to.now 0 0) ≡ None) }
-    ensures err { IfErr result (λ why. first_refusal airport.now (state_of held.now) (command.Arrival flight.now class.now from.now to.now 0 0) ≡ Some why) }
+pub fn named_arrival(airport: &Airport, held: &HeldFlights, asked: &Asked) -> Result<Named, Refusal>
+    ensures named { IfOk result (AreNamed airport.now asked.now) }
+    ensures ok { IfOk result (λ named. first_refusal airport.now (state_of held.now) (command.Arrival asked.now) ≡ None) }
+    ensures err { IfErr result (λ why. first_refusal airport.now (state_of held.now) (command.Arrival asked.now) ≡ Some why) }
 {
-    let named = find_named(airport, held, flight, class, from, to)?;
-    if !is_runway(airport, named.from) {
+    let named = find_named(airport, held, asked)?;
+    if !airport.is_runway(named.from) {
         return Err(Refusal::WrongKind);
     }
-    if !is_stand(airport, named.to) {
+    if !airport.is_stand(named.to) {
         return Err(Refusal::WrongKind);
     }
     if is_full(held) {
@@ -51,20 +45,17 @@ pub fn named_arrival(
 pub fn named_departure(
     airport: &Airport,
     held: &HeldFlights,
-    flight: &Name,
-    class: &Name,
-    from: &Name,
-    to: &Name,
+    asked: &Asked,
 ) -> Result<Named, Refusal>
-    ensures named { IfOk result (AreNamed airport.now class.now from.now to.now) }
-    ensures ok { IfOk result (λ named. first_refusal airport.now (state_of held.now) (command.Departure flight.now class.now from.now to.now 0 0) ≡ None) }
-    ensures err { IfErr result (λ why. first_refusal airport.now (state_of held.now) (command.Departure flight.now class.now from.now to.now 0 0) ≡ Some why) }
+    ensures named { IfOk result (AreNamed airport.now asked.now) }
+    ensures ok { IfOk result (λ named. first_refusal airport.now (state_of held.now) (command.Departure asked.now) ≡ None) }
+    ensures err { IfErr result (λ why. first_refusal airport.now (state_of held.now) (command.Departure asked.now) ≡ Some why) }
 {
-    let named = find_named(airport, held, flight, class, from, to)?;
-    if !is_stand(airport, named.from) {
+    let named = find_named(airport, held, asked)?;
+    if !airport.is_stand(named.from) {
         return Err(Refusal::WrongKind);
     }
-    if !is_runway(airport, named.to) {
+    if !airport.is_runway(named.to) {
         return Err(Refusal::WrongKind);
     }
     if is_full(held) {
@@ -74,46 +65,24 @@ pub fn named_departure(
 }
 
 // What the words name, where the flight's name is new.
-fn find_named(
-    airport: &Airport,
-    held: &HeldFlights,
-    flight: &Name,
-    class: &Name,
-    from: &Name,
-    to: &Name,
-) -> Result<Named, Refusal>
-    ensures named { IfOk result (AreNamed airport.now class.now from.now to.now) }
-    ensures new { IfOk result (λ named. has_holder flight.now (state_of held.now) ≡ false) }
-    ensures err { IfErr result (λ why. first_of (in_force (state_of held.now) flight.now ∷ unknown_class airport.now class.now ∷ unknown_node airport.now from.now ∷ unknown_node airport.now to.now ∷ []) ≡ Some why) }
+fn find_named(airport: &Airport, held: &HeldFlights, asked: &Asked) -> Result<Named, Refusal>
+    ensures named { IfOk result (AreNamed airport.now asked.now) }
+    ensures new { IfOk result (λ named. has_holder asked.now.flight (state_of held.now) ≡ false) }
+    ensures err { IfErr result (λ why. first_of (in_force (state_of held.now) asked.now.flight ∷ unknown_class airport.now asked.now.class ∷ unknown_node airport.now asked.now.from ∷ unknown_node airport.now asked.now.to ∷ []) ≡ Some why) }
 {
-    if held.has_holder(flight) {
+    if held.has_holder(&asked.flight) {
         return Err(Refusal::InForce);
     }
-    let Some(class) = airport.class_named(class) else {
+    let Some(class) = airport.class_named(&asked.class) else {
         return Err(Refusal::UnknownClass);
     };
-    let Some(from) = airport.node_named(from) else {
+    let Some(from) = airport.node_named(&asked.from) else {
         return Err(Refusal::UnknownNode);
     };
-    let Some(to) = airport.node_named(to) else {
+    let Some(to) = airport.node_named(&asked.to) else {
         return Err(Refusal::UnknownNode);
     };
     Ok(Named { class, from, to })
-}
-
-fn is_runway(airport: &Airport, node: Node) -> bool
-    requires { node.0 < length airport.now.nodes }
-    ensures { result ≡ is_of_kind is_runway airport.now node }
-{
-    matches!(airport.kind(node), Kind::Runway)
-}
-
-/// Whether a node is a stand.
-pub fn is_stand(airport: &Airport, node: Node) -> bool
-    requires { node.0 < length airport.now.nodes }
-    ensures { result ≡ is_of_kind is_stand airport.now node }
-{
-    matches!(airport.kind(node), Kind::Stand)
 }
 
 // No further flight or party may be in force.

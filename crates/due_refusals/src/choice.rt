@@ -6,10 +6,11 @@ ghost use Rattle.due_refusals.specs.Choice.{AreAnyNamed};
 
 use crate::asked::is_full;
 use airport_file::Airport;
-use certificate::{has_no_runway, has_no_stand, is_no_runway, is_no_stand, nodes_named};
+use certificate::{has_no_runway, has_no_stand, nodes_named};
 use checked_state::HeldFlights;
 use std::alloc::Global;
-use taxi_base::{Class, List, Memory, Name, Node, Refusal};
+use taxi_base::{Class, List, Memory, Node, Refusal};
+use taxi_text::AskedAny;
 
 /// What the words of a choice name, or why it is refused.
 #[derive(Drop)]
@@ -29,36 +30,33 @@ pub fn named_arrival_any(
     alloc: Global,
     airport: &Airport,
     held: &HeldFlights,
-    flight: &Name,
-    class: &Name,
-    from: &Name,
-    stands: &[Name],
+    asked: &AskedAny,
 ) -> Result<NamedAny, Memory>
-    ensures { IfOk result (AreAnyNamed airport.now (state_of held.now) class.now from.now stands.now (command.ArrivalAny flight.now class.now from.now 0 0 stands.now)) }
+    ensures { IfOk result (AreAnyNamed airport.now (state_of held.now) asked.now (command.ArrivalAny asked.now)) }
 {
-    if held.has_holder(flight) {
+    if held.has_holder(&asked.flight) {
         return Ok(refused(Refusal::InForce));
     }
-    let Some(known) = airport.class_named(class) else {
+    let Some(class) = airport.class_named(&asked.class) else {
         return Ok(refused(Refusal::UnknownClass));
     };
-    let Some(start) = airport.node_named(from) else {
+    let Some(from) = airport.node_named(&asked.from) else {
         return Ok(refused(Refusal::UnknownNode));
     };
+    let stands = asked.nodes.as_slice();
     let Some(nodes) = nodes_named(alloc, airport, stands)? else {
         return Ok(refused(Refusal::UnknownNode));
     };
-    if is_no_runway(airport, from) || has_no_stand(airport, stands) {
+    if !airport.has_runway(&asked.from) {
+        return Ok(refused(Refusal::WrongKind));
+    }
+    if has_no_stand(airport, stands) {
         return Ok(refused(Refusal::WrongKind));
     }
     if is_full(held) {
         return Ok(refused(Refusal::Full));
     }
-    Ok(NamedAny::Named {
-        class: known,
-        from: start,
-        nodes,
-    })
+    Ok(NamedAny::Named { class, from, nodes })
 }
 
 /// The same of a departure to one of some runway nodes.
@@ -66,36 +64,33 @@ pub fn named_departure_any(
     alloc: Global,
     airport: &Airport,
     held: &HeldFlights,
-    flight: &Name,
-    class: &Name,
-    from: &Name,
-    names: &[Name],
+    asked: &AskedAny,
 ) -> Result<NamedAny, Memory>
-    ensures { IfOk result (AreAnyNamed airport.now (state_of held.now) class.now from.now names.now (command.DepartureAny flight.now class.now from.now 0 0 names.now)) }
+    ensures { IfOk result (AreAnyNamed airport.now (state_of held.now) asked.now (command.DepartureAny asked.now)) }
 {
-    if held.has_holder(flight) {
+    if held.has_holder(&asked.flight) {
         return Ok(refused(Refusal::InForce));
     }
-    let Some(known) = airport.class_named(class) else {
+    let Some(class) = airport.class_named(&asked.class) else {
         return Ok(refused(Refusal::UnknownClass));
     };
-    let Some(start) = airport.node_named(from) else {
+    let Some(from) = airport.node_named(&asked.from) else {
         return Ok(refused(Refusal::UnknownNode));
     };
-    let Some(nodes) = nodes_named(alloc, airport, names)? else {
+    let runways = asked.nodes.as_slice();
+    let Some(nodes) = nodes_named(alloc, airport, runways)? else {
         return Ok(refused(Refusal::UnknownNode));
     };
-    if is_no_stand(airport, from) || has_no_runway(airport, names) {
+    if !airport.has_stand(&asked.from) {
+        return Ok(refused(Refusal::WrongKind));
+    }
+    if has_no_runway(airport, runways) {
         return Ok(refused(Refusal::WrongKind));
     }
     if is_full(held) {
         return Ok(refused(Refusal::Full));
     }
-    Ok(NamedAny::Named {
-        class: known,
-        from: start,
-        nodes,
-    })
+    Ok(NamedAny::Named { class, from, nodes })
 }
 
 fn refused(why: Refusal) -> NamedAny

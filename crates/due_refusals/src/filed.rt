@@ -12,17 +12,8 @@ use airport_file::Airport;
 use check_rows::KnownWindows;
 use checked_state::HeldFlights;
 use std::alloc::Global;
-use taxi_base::{Flight, List, Memory, Name, Refusal, Request, Step, Time};
-use taxi_text::FiledStep;
-
-/// A route that is given by hand.
-#[derive(Clone, Copy)]
-pub struct FiledRoute<'a> {
-    pub name: &'a Name,
-    pub class: &'a Name,
-    pub start: Time,
-    pub steps: &'a [FiledStep],
-}
+use taxi_base::{Flight, List, Memory, Refusal, Request, Step, Time};
+use taxi_text::{Filed, FiledStep};
 
 /// What is due to a filed route: its refusal, or that its flight is in force.
 #[derive(Drop)]
@@ -37,21 +28,21 @@ pub fn find_due(
     airport: &Airport,
     held: &HeldFlights,
     known: &mut KnownWindows,
-    new: &FiledRoute<'_>,
+    filed: &Filed,
 ) -> Result<Due, Memory>
     requires spans { HasSpansOf airport.now (state_of held.now) held.now }
     requires known { AreKnownIn airport.now (state_of held.now) known.old }
-    requires steps { IsTrue (is_step_count (length new.now.steps.now)) }
-    ensures due { IfOk result (IsDueOf airport.now (state_of held.now) new.now.name.now new.now.class.now new.now.start new.now.steps.now) }
+    requires steps { IsTrue (is_step_count (length filed.now.steps)) }
+    ensures due { IfOk result (IsDueOf airport.now (state_of held.now) filed.now) }
     ensures known { AreKnownIn airport.now (state_of held.now) known.new }
 {
-    if held.has_holder(new.name) {
+    if held.has_holder(&filed.flight) {
         return Ok(Due::Refused(Refusal::InForce));
     }
-    let Some(class) = airport.class_named(new.class) else {
+    let Some(class) = airport.class_named(&filed.class) else {
         return Ok(Due::Refused(Refusal::UnknownClass));
     };
-    let Some(steps) = filed_steps(alloc, airport, new.start, new.steps)? else {
+    let Some(steps) = filed_steps(alloc, airport, filed.start, filed.steps.as_slice())? else {
         return Ok(Due::Refused(Refusal::UnknownSegment));
     };
     if held.count() >= MOST_HOLDERS {
@@ -62,7 +53,7 @@ pub fn find_due(
         return Ok(Due::Refused(Refusal::Step(fault)));
     }
     Ok(Due::Accepted(Flight {
-        name: *new.name,
+        name: filed.flight,
         class,
         request: Request::Filed,
         steps,

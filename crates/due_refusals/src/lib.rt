@@ -11,7 +11,7 @@ mod shut;
 mod taken;
 
 pub use again::{divert_refused, reroute_refused};
-pub use asked::{Named, is_stand, named_arrival, named_departure};
+pub use asked::{Named, named_arrival, named_departure};
 pub use choice::{NamedAny, named_arrival_any, named_departure_any};
-pub use filed::{Due, FiledRoute, find_due};
-pub use shut::{NewParty, hold_fault, named_party};
+pub use filed::{Due, find_due};
+pub use shut::{hold_fault, named_party};

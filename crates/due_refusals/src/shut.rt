@@ -12,31 +12,19 @@ use crate::taken::taken_by;
 use airport_file::Airport;
 use check_rows::KnownWindows;
 use checked_state::HeldFlights;
-use taxi_base::{Memory, Name, Refusal, Segment, Span, StepCause, StepFault, Time};
-
-/// A work party that is to come: it is to shut a segment from a second until another.
-#[derive(Clone, Copy)]
-pub struct NewParty<'a> {
-    pub name: &'a Name,
-    pub segment: &'a Name,
-    pub from: Time,
-    pub until: Time,
-}
+use taxi_base::{Memory, Refusal, Segment, Span, StepCause, StepFault};
+use taxi_text::Shut;
 
 /// The segment that a work party is to shut, or why it is refused before its span is looked at.
-pub fn named_party(
-    airport: &Airport,
-    held: &HeldFlights,
-    new: &NewParty<'_>,
-) -> Result<Segment, Refusal>
-    ensures named { IfOk result (λ segment. segment_named airport.now new.now.segment.now ≡ Some segment) }
-    ensures ok { IfOk result (λ segment. first_refusal airport.now (state_of held.now) (command.Work new.now.name.now new.now.segment.now new.now.from new.now.until) ≡ first_of (hold_fails airport.now (state_of held.now) new.now.name.now new.now.segment.now new.now.from new.now.until ∷ [])) }
-    ensures err { IfErr result (λ why. first_refusal airport.now (state_of held.now) (command.Work new.now.name.now new.now.segment.now new.now.from new.now.until) ≡ Some why) }
+pub fn named_party(airport: &Airport, held: &HeldFlights, asked: &Shut) -> Result<Segment, Refusal>
+    ensures named { IfOk result (λ segment. segment_named airport.now asked.now.segment ≡ Some segment) }
+    ensures ok { IfOk result (λ segment. first_refusal airport.now (state_of held.now) (command.Work asked.now) ≡ first_of (hold_fails airport.now (state_of held.now) asked.now ∷ [])) }
+    ensures err { IfErr result (λ why. first_refusal airport.now (state_of held.now) (command.Work asked.now) ≡ Some why) }
 {
-    if held.has_holder(new.name) {
+    if held.has_holder(&asked.name) {
         return Err(Refusal::InForce);
     }
-    let Some(segment) = airport.segment_named(new.segment) else {
+    let Some(segment) = airport.segment_named(&asked.segment) else {
         return Err(Refusal::UnknownSegment);
     };
     if held.count() >= MOST_HOLDERS {

@@ -1,5 +1,5 @@
 -- The numbered cells are what an arrival's search is asked.
-use Rattle.std.proofs.Common.{◌≡◌, ℕ, zero, suc, ◌<◌, ◌&&◌, ◌==◌, Bool, true, false, List, [], ◌∷◌, length, get_or, inl, inr, IsTrue, Some, None, cond, refl, sym, ◌∙◌, ap, subst, arith}
+use Rattle.std.proofs.Common.{◌≡◌, ℕ, zero, suc, ◌<◌, ◌&&◌, ◌==◌, Bool, true, false, List, [], ◌∷◌, length, get_or, inl, inr, IsTrue, Some, cond, refl, sym, ◌∙◌, ap, subst, arith}
 use Rattle.std.specs.Prelude.{Contains}
 use Rattle.std.proofs.lemmas.Bool.{and_parts, cond-true, eqb-true}
 use Rattle.std.proofs.lemmas.List.{get_or_default}
@@ -22,21 +22,9 @@ use Rattle.place_cells.proofs.TurnLaws.{leaving_arcs-all, some-exists}
 use Rattle.place_cells.proofs.GroundLaws.{usable_exists, turn_parts, turns_inside, in_next_run, in_previous_run, next_below, run_parts, takes, small_seconds, small_last, arc_below, cells_in_part}
 use Rattle.forward_search.specs.declared.starting.Start.{Start}
 use Rattle.forward_search.specs.declared.starting.Start.TheVariants as start
-use Rattle.forward_search.specs.Arrivals.{beginning_of, start_at, first_arcs, arrival_problem}
+use Rattle.forward_search.specs.Arrivals.{beginning_of, first_arcs, arrival_problem}
 
 -- ---- the starts
-
-pub start_here : {C : Type 0} (layout : Layout) (inside : C → Bool) (place : C → Place) (b : Beginning) (x : C) → inside x ≡ true → starts_by layout inside place b x ≡ start_at layout b (place x).arc
-start_here layout inside place (at_node node earliest latest) x in' =
-    ap (λ t. cond (t && meet (tail layout (place x).arc) (Some node)) (Some (record { earliest = earliest; latest = latest; exit_from = 0 })) None) in'
-start_here layout inside place (resuming begun exit_from) x in' =
-    ap (λ t. cond (t && ((place x).arc.0 == begun.arc.0)) (Some (record { earliest = begun.enter; latest = begun.enter; exit_from = exit_from })) None) in'
-
-pub start_not : {C : Type 0} (layout : Layout) (inside : C → Bool) (place : C → Place) (b : Beginning) (x : C) → inside x ≡ false → starts_by layout inside place b x ≡ None
-start_not layout inside place (at_node node earliest latest) x out =
-    ap (λ t. cond (t && meet (tail layout (place x).arc) (Some node)) (Some (record { earliest = earliest; latest = latest; exit_from = 0 })) None) out
-start_not layout inside place (resuming begun exit_from) x out =
-    ap (λ t. cond (t && ((place x).arc.0 == begun.arc.0)) (Some (record { earliest = begun.enter; latest = begun.enter; exit_from = exit_from })) None) out
 
 start_inside : {C : Type 0} (layout : Layout) (inside : C → Bool) (place : C → Place) (b : Beginning) (x : C) (s : CellStart) → starts_by layout inside place b x ≡ Some s → inside x ≡ true
 start_inside layout inside place (at_node node earliest latest) x s e = (and_parts (inside x) (meet (tail layout (place x).arc) (Some node)) (if_some _ _ s e).0).0

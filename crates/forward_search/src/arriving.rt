@@ -2,7 +2,7 @@
 ghost use Rattle.std.specs.Prelude.{◌≡◌, ℕ, ◌≤◌, [], ◌∷◌, length, All, Contains, IfOk};
 ghost use Rattle.taxi_base.specs.declared.numbers.Node.{Node as NodeNumber};
 ghost use Rattle.taxi_base.specs.Airport.{layout_of, IsWellFormed};
-ghost use Rattle.taxi_base.specs.Walks.{conditions_in_windows};
+ghost use Rattle.taxi_base.specs.Walks.{conditions_of_class};
 ghost use Rattle.taxi_base.specs.Labels.{AnswersArrival};
 ghost use Rattle.walk_labels.specs.Requests.{BeginsBy};
 ghost use Rattle.walk_labels.specs.PlacesInWindows.{AreWindowLists};
@@ -17,11 +17,11 @@ use airport_file::Airport;
 use label_search::{LabelRoom, earliest_exits};
 use place_cells::{CellNumbers, SearchGround, SearchRoom, steps_of};
 use std::alloc::Global;
-use taxi_base::{Class, Found, Memory, Node, Time};
+use taxi_base::{Class, Found, Memory, Node};
 use window_store::WindowStore;
 
 /// The picked one of the walks in the store's windows that begin so and reach the node soonest, with the labels short of its
-/// end; or that there is no walk, with all labels. Each step keeps the clearance after it inside its window, but no longer
+/// end; or that there is no walk, with all labels. Each step keeps the class's clearance after it inside its window, but no longer
 /// than to the horizon. What an earlier search left in the room does not matter.
 pub fn arrive(
     alloc: Global,
@@ -31,13 +31,12 @@ pub fn arrive(
     start: Start,
     class: Class,
     to: Node,
-    clearance: Time,
 ) -> Result<Found, Memory>
     requires segments { length store.now.lists ≡ length airport.now.segments }
     requires horizon { All (All (λ w. w.until ≤ airport.now.horizon)) (windows_of store.now) }
-    ensures { (leave : ℕ) → IfOk result (AnswersArrival (conditions_in_windows airport.now class clearance (windows_of store.now)) (BeginsBy (layout_of airport.now) (beginning_of start leave)) to) }
+    ensures { (leave : ℕ) → IfOk result (AnswersArrival (conditions_of_class airport.now class (windows_of store.now)) (BeginsBy (layout_of airport.now) (beginning_of start leave)) to) }
 {
-    arrive_to_one_of(alloc, room, airport, store, start, class, &[to], clearance)
+    arrive_to_one_of(alloc, room, airport, store, start, class, &[to])
 }
 
 /// The same where walks may reach any of some nodes: one that reaches any of them soonest. It is the picked one of those that
@@ -50,13 +49,12 @@ pub fn arrive_to_one_of(
     start: Start,
     class: Class,
     to: &[Node],
-    clearance: Time,
 ) -> Result<Found, Memory>
     requires segments { length store.now.lists ≡ length airport.now.segments }
     requires horizon { All (All (λ w. w.until ≤ airport.now.horizon)) (windows_of store.now) }
-    ensures any { (leave : ℕ) → IfOk result (AnswersArrivalToOneOf (conditions_in_windows airport.now class clearance (windows_of store.now)) (BeginsBy (layout_of airport.now) (beginning_of start leave)) to.now) }
-    ensures one { (leave : ℕ) (node : NodeNumber) → to.now ≡ node ∷ [] → IfOk result (AnswersArrival (conditions_in_windows airport.now class clearance (windows_of store.now)) (BeginsBy (layout_of airport.now) (beginning_of start leave)) node) }
-    ensures last { (leave : ℕ) (node : NodeNumber) → Contains to.now node → IfOk result (λ found. LeadsTo (layout_of airport.now) node found → AnswersArrival (conditions_in_windows airport.now class clearance (windows_of store.now)) (BeginsBy (layout_of airport.now) (beginning_of start leave)) node found) }
+    ensures any { (leave : ℕ) → IfOk result (AnswersArrivalToOneOf (conditions_of_class airport.now class (windows_of store.now)) (BeginsBy (layout_of airport.now) (beginning_of start leave)) to.now) }
+    ensures one { (leave : ℕ) (node : NodeNumber) → to.now ≡ node ∷ [] → IfOk result (AnswersArrival (conditions_of_class airport.now class (windows_of store.now)) (BeginsBy (layout_of airport.now) (beginning_of start leave)) node) }
+    ensures last { (leave : ℕ) (node : NodeNumber) → Contains to.now node → IfOk result (λ found. LeadsTo (layout_of airport.now) node found → AnswersArrival (conditions_of_class airport.now class (windows_of store.now)) (BeginsBy (layout_of airport.now) (beginning_of start leave)) node found) }
 {
     // With the horizon comes that the airport keeps the rules.
     let _horizon = airport.horizon();
@@ -70,7 +68,6 @@ pub fn arrive_to_one_of(
         start,
         class,
         to,
-        clearance,
     )
 }
 
@@ -84,14 +81,13 @@ fn search_among<'x>(
     start: Start,
     class: Class,
     to: &'x [Node],
-    clearance: Time,
 ) -> Result<Found, Memory>
     requires lists { AreWindowLists airport.now (windows_of store.now) }
     requires room { HaveNumbers (windows_of store.now) numbers.now.first.items }
     requires rules { IsWellFormed airport.now }
-    ensures any { (leave : ℕ) → IfOk result (AnswersArrivalToOneOf (conditions_in_windows airport.now class clearance (windows_of store.now)) (BeginsBy (layout_of airport.now) (beginning_of start leave)) to.now) }
-    ensures one { (leave : ℕ) (node : NodeNumber) → to.now ≡ node ∷ [] → IfOk result (AnswersArrival (conditions_in_windows airport.now class clearance (windows_of store.now)) (BeginsBy (layout_of airport.now) (beginning_of start leave)) node) }
-    ensures last { (leave : ℕ) (node : NodeNumber) → Contains to.now node → IfOk result (λ found. LeadsTo (layout_of airport.now) node found → AnswersArrival (conditions_in_windows airport.now class clearance (windows_of store.now)) (BeginsBy (layout_of airport.now) (beginning_of start leave)) node found) }
+    ensures any { (leave : ℕ) → IfOk result (AnswersArrivalToOneOf (conditions_of_class airport.now class (windows_of store.now)) (BeginsBy (layout_of airport.now) (beginning_of start leave)) to.now) }
+    ensures one { (leave : ℕ) (node : NodeNumber) → to.now ≡ node ∷ [] → IfOk result (AnswersArrival (conditions_of_class airport.now class (windows_of store.now)) (BeginsBy (layout_of airport.now) (beginning_of start leave)) node) }
+    ensures last { (leave : ℕ) (node : NodeNumber) → Contains to.now node → IfOk result (λ found. LeadsTo (layout_of airport.now) node found → AnswersArrival (conditions_of_class airport.now class (windows_of store.now)) (BeginsBy (layout_of airport.now) (beginning_of start leave)) node found) }
 {
     let classes = airport.classes();
     let ground = SearchGround {
@@ -102,7 +98,7 @@ fn search_among<'x>(
         class,
         times: classes.times(class),
         horizon: airport.horizon(),
-        clearance,
+        clearance: airport.clearance(class),
     };
     let asked = ArrivalCells { ground, start, to };
     let label_search::Found {

@@ -3,7 +3,10 @@
 
 mod arriving;
 mod cells;
+mod joining;
+mod onward;
 mod starting;
 
 pub use arriving::{arrive, arrive_to_one_of};
+pub use onward::{Onward, arrive_onward};
 pub use starting::Start;

@@ -1,7 +1,9 @@
 //! One command answered, and its reply read back and checked.
-ghost use Rattle.std.specs.Prelude.{◌≡◌, IfOk};
+ghost use Rattle.std.specs.Prelude.{◌≡◌, IfOk, OnOk};
+ghost use Rattle.taxi_base.specs.State.{State};
 ghost use Rattle.certificate.specs.declared.block.Block.{Block as PlainBlock};
 ghost use Rattle.certificate.specs.Replies.{IsAnswered};
+ghost use Rattle.certificate.specs.Passes.{IsPassed};
 ghost use Rattle.block_reader.specs.Read.{BeginsWith};
 ghost use Rattle.generated_run.specs.Summaries.{FoundMemory};
 
@@ -12,34 +14,45 @@ use std::alloc::Global;
 use taxi_base::{Memory, Refusal};
 use transcripts::{BlockChecker, CheckRefused, Router};
 
-/// Has a command answered, reads the reply back and has it checked: the block that answers it, which passes every rule. The only
-/// error is that memory ran out, for the command too.
-pub(crate) fn answer_checked<R: Router, C: BlockChecker>(
+/// Has a command answered, and reads the reply back: the block that answers it, which passes every rule. The only error is that
+/// memory ran out, for the command too.
+pub(crate) fn read_answer<R: Router>(
     alloc: Global,
     airport: &Airport,
     router: &mut R,
-    checker: &mut C,
     line: &[u8],
 ) -> Result<Block, Memory>
     requires router { R.airport router.old ≡ airport.now }
-    requires checker { C.airport checker.old ≡ airport.now }
-    requires same { C.state checker.old ≡ R.state router.old }
     ensures answered { IfOk result (λ block. IsAnswered airport.now (R.state router.old) line.now block (R.state router.new)) }
+    ensures passed { IfOk result (λ block. IsPassed airport.now (R.state router.old) line.now block (R.state router.new)) }
     ensures memory { IfOk result (λ block. FoundMemory block) }
     ensures router { R.airport router.new ≡ airport.now }
-    ensures checker { C.airport checker.new ≡ airport.now }
-    ensures same { IfOk result (λ block. C.state checker.new ≡ R.state router.new) }
 {
-    // The airport keeps its rules, so what passes leaves one state.
-    let _ = airport.horizon();
     router.answer(line);
     let block = read_reply(alloc, airport, router.reply())?;
     if let Block::Refused(Refusal::Memory) = block {
-        return Err(Memory);
+        return Err(Memory::told());
     }
-    match checker.check_next(line, &block) {
-        Ok(()) => Ok(block),
-        Err(CheckRefused::Memory) => Err(Memory),
+    Ok(block)
+}
+
+/// Has a block checked that passes. The only error is that memory ran out.
+pub(crate) fn check_answer<C: BlockChecker>(
+    airport: &Airport,
+    checker: &mut C,
+    line: &[u8],
+    block: Block,
+) -> Result<(), Memory>
+    requires checker { C.airport checker.old ≡ airport.now }
+    requires passes { (after : State) × IsPassed airport.now (C.state checker.old) line.now block after }
+    ensures checker { C.airport checker.new ≡ airport.now }
+    ensures follows { OnOk result ((after : State) → IsPassed airport.now (C.state checker.old) line.now block after → C.state checker.new ≡ after) }
+{
+    // The airport keeps its rules, so what passes leaves one state.
+    let _ = airport.horizon();
+    match checker.check_next(line, block) {
+        Ok(()) => Ok(()),
+        Err(CheckRefused::Memory) => Err(Memory::told()),
         Err(CheckRefused::Wrong { .. }) => unreachable!(),
     }
 }
@@ -51,7 +64,7 @@ fn read_reply(alloc: Global, airport: &Airport, reply: &[u8]) -> Result<Block, M
 {
     match read_block(alloc, airport, reply) {
         Ok((block, _)) => Ok(block),
-        Err(BlockRefused::Memory) => Err(Memory),
+        Err(BlockRefused::Memory) => Err(Memory::told()),
         Err(BlockRefused::NotABlock) => unreachable!(),
     }
 }

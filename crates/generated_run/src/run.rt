@@ -6,7 +6,7 @@ ghost use Rattle.airport_file.specs.Reading.{airport_of};
 ghost use Rattle.traffic_generator.specs.Grid.{grid_airport};
 ghost use Rattle.generated_run.specs.Summaries.{IsSummaryOf, IsSummary};
 
-use crate::answering::answer_checked;
+use crate::answering::{check_answer, read_answer};
 use crate::summary::Summary;
 use airport_file::{Airport, AirportRefused, read_airport};
 use std::alloc::Global;
@@ -59,7 +59,7 @@ fn read_accepted(alloc: Global, text: &[u8]) -> Result<Airport, Memory>
 {
     match read_airport(alloc, text) {
         Ok(airport) => Ok(airport),
-        Err(AirportRefused::Memory) => Err(Memory),
+        Err(AirportRefused::Memory) => Err(Memory::told()),
         Err(AirportRefused::Bad { .. }) => unreachable!(),
     }
 }
@@ -82,8 +82,9 @@ fn count_replies<R: Router, C: BlockChecker>(
     let mut summary = Summary::new(airport);
     for line in lines(commands) {
         if !skipped(line) {
-            let block = answer_checked(alloc, airport, router, checker, line)?;
+            let block = read_answer(alloc, airport, router, line)?;
             summary.count(&block);
+            check_answer(airport, checker, line, block)?;
         }
     }
     Ok(summary)

@@ -1,6 +1,6 @@
 -- What steps hold, put in and taken out one step after the other.
 use Rattle.std.proofs.Common.{◌≡◌, ◌∙◌, ℕ, ◌+◌, ◌<◌, ◌≤◌, true, false, ◌==◌, cond, List, [], ◌∷◌, ◌++◌, length, get_or, take, drop, append_assoc, append-nil, refl, sym, ap, subst, arith}
-use Rattle.std.specs.Prelude.{Result, Ok, Err, OnOk, OnErr, is_err}
+use Rattle.std.specs.Prelude.{Result, Ok, Err, OnOk, OnErr}
 use Rattle.std.proofs.lemmas.List.{at_drop_more, drop_all, take_all, take_more}
 use Rattle.std.proofs.lemmas.List.Sums.{sum_by_more, sum_by_more_le}
 use Rattle.taxi_base.specs.declared.numbers.Segment.{Segment}
@@ -16,14 +16,10 @@ use Rattle.held_spans.proofs.SpanLaws.{one_hold, AreHeldBy-same, named-cons, nam
 abbrev pub no_step : Step
 no_step = record { arc = record { 0 = 0 }; enter = 0; leave = 0 }
 
--- what a call did that did not fail, and one that did
-pub done-ok : {A E : Type 0} (r : Result A E) (P : Type 0) → OnOk r P → is_err r ≡ false → P
-done-ok (Ok x) P h e = h
-done-ok (Err x) P h e = absurd (cc e)
-
-pub done-err : {A E : Type 0} (r : Result A E) (P : Type 0) → OnErr r P → is_err r ≡ true → P
-done-err (Ok x) P h e = absurd (cc e)
-done-err (Err x) P h e = h
+-- what a call did that did not fail
+pub done-ok : {A E : Type 0} (r : Result A E) (P : Type 0) → OnOk r P → ((e : E) → r ≡ Err e → ⊥) → P
+done-ok (Ok x) P h never = h
+done-ok (Err x) P h never = absurd (never x refl)
 
 -- what follows of what a call did
 pub then-ok : {A E : Type 0} (r : Result A E) (P Q : Type 0) → (P → Q) → OnOk r P → OnOk r Q

@@ -63,9 +63,9 @@ impl HeldSpans {
     {
         for (at, step) in steps.iter().enumerate() {
             let span = step.held(horizon, clearance);
-            if self.put(step.arc.segment(), span, holder).is_err() {
+            if let Err(memory) = self.put(step.arc.segment(), span, holder) {
                 self.release(holder, horizon, clearance, &steps[..at]);
-                return Err(Memory);
+                return Err(memory);
             }
         }
         Ok(())

@@ -18,8 +18,8 @@ const MOST_FLIGHTS: usize = 4096;
 // So many keys are told apart in two bytes.
 const MOST_KEYS: usize = 1 << 16;
 
-/// The flights in force, by rising names, each with at least one step. The slab never grows, so that a key takes two bytes, and
-/// little is moved where a name goes in or out.
+/// The flights in force, by rising names, each with at least one step, of which there are 4,096 at most. The slab never grows, so
+/// that a key takes two bytes, and little is moved where a name goes in or out.
 #[derive(Drop)]
 pub struct FlightList {
     flights: Slab<Flight>,
@@ -30,7 +30,7 @@ pub struct FlightList {
 }
 
 impl Model for FlightList {
-    ghost use Rattle.std.specs.Prelude.{◌-◌, ◌^◌, ◌≤◌, length, min, vec_len, vec_capacity};
+    ghost use Rattle.std.specs.Prelude.{◌≡◌, ◌-◌, ◌^◌, ◌≤◌, length, min, vec_len, vec_capacity};
     ghost use Rattle.slab.specs.Slab.{slab_len};
     ghost use Rattle.holder_lists.specs.Lists.{Listing};
     ghost use Rattle.holder_lists.specs.Kept.{flights_of, IsKept};
@@ -43,7 +43,9 @@ impl Model for FlightList {
       room = min (l.flights.capacity - slab_len l.flights) (vec_capacity l.keys - vec_len l.keys);
     } };
 
-    ghost invariant = { λ l. IsKept l.flights l.keys.items × AreNumbered l.flights l.orders.items × (l.flights.capacity ≤ length l.orders.items) × (l.flights.capacity ≤ 2 ^ 16) };
+    ghost invariant = { λ l.
+        IsKept l.flights l.keys.items × AreNumbered l.flights l.orders.items × (l.flights.capacity ≤ length l.orders.items) × (l.flights.capacity ≤ 2 ^ 16)
+        × (slab_len l.flights ≡ length l.keys.items) × (4096 ≤ l.flights.capacity) };
 }
 
 impl FlightList {
@@ -53,7 +55,7 @@ impl FlightList {
     {
         let flights = Slab::with_capacity(alloc, MOST_FLIGHTS)?;
         if MOST_KEYS < flights.capacity() {
-            return Err(Memory);
+            return Err(Memory::for_so_many(flights.capacity()));
         }
         let orders = Vec::from_elem(alloc, 0, flights.capacity())?;
         Ok(FlightList {
@@ -96,13 +98,11 @@ impl FlightList {
 
     /// Makes room for one more flight. The flights stay, also where memory runs out.
     pub fn prepare(&mut self) -> Result<(), Memory>
+        requires few { length self.old.flights < 4096 }
         ensures room { OnOk result (1 ≤ self.new.room) }
         ensures flights { self.new.flights ≡ self.old.flights }
         ensures kept { self.old.room ≤ self.new.room }
     {
-        if self.flights.len() == self.flights.capacity() {
-            return Err(Memory);
-        }
         self.keys.reserve(1)?;
         Ok(())
     }

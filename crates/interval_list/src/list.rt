@@ -99,6 +99,7 @@ impl IntervalList {
     pub fn reserve(&mut self, ids: &mut Ids, n: usize) -> Result<(), Memory>
         requires below { All (λ id. id < ids.old.next) (owned self.old) }
         requires fits { ids.old.next + n < 2 ^ 64 }
+        requires few { length self.old.windows + n < 2 ^ 64 }
         ensures windows { self.new.windows ≡ self.old.windows }
         ensures spare { self.new.spare ≡ drawn ids.old.next (ids.new.next - ids.old.next) ++ self.old.spare }
         ensures next { ids.new.next + length self.old.spare ≡ ids.old.next + length self.new.spare }
@@ -143,18 +144,15 @@ impl IntervalList {
     }
 
     /// Makes one spare node, with the next id.
-    fn draw(&mut self, ids: &mut Ids) -> Result<(), Memory>
+    pub fn draw(&mut self, ids: &mut Ids) -> Result<(), Memory>
         requires below { All (λ id. id < ids.old.next) (owned self.old) }
         requires fits { ids.old.next + 1 < 2 ^ 64 }
+        requires few { length self.old.windows + length self.old.spare + 1 < 2 ^ 64 }
         ensures ok { OnOk result ((ids.new.next ≡ ids.old.next + 1) × (self.new ≡ record self.old { spare = ids.old.next ∷ self.old.spare })) }
         ensures err { OnErr result ((ids.new ≡ ids.old) × (self.new ≡ self.old)) }
         ensures below { All (λ id. id < ids.new.next) (owned self.new) }
         ensures normal { IsNormal self.new }
     {
-        // As many nodes as a `usize` counts fit into no memory, so that many count as want of memory.
-        if self.windows.len() >= usize::MAX - self.spares.len() {
-            return Err(Memory);
-        }
         let node = self.stock.draw()?;
         let window = Window {
             from: 0,

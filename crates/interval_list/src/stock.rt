@@ -90,9 +90,8 @@ impl Stock {
         ensures ok { OnOk result ((0 < length self.new.blank) × (self.new.made ≡ self.new.blank ++ self.old.made)) }
         ensures err { OnErr result (self.new ≡ self.old) }
     {
-        // As many blocks as a `usize` counts fit into no memory, so that many count as want of memory.
         if self.heads.len() == usize::MAX {
-            return Err(Memory);
+            return Err(Memory::for_so_many(self.heads.len()));
         }
         let older = self.heads.len();
         let head = new_block(self.alloc, older, &mut self.blocks, &mut self.blanks)?;

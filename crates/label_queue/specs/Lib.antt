@@ -4,3 +4,4 @@ pub mod Entry
 pub mod Heap
 pub mod Entries
 pub mod First
+pub mod Places

@@ -20,6 +20,10 @@ pub struct LabelQueue {
     // A label that is taken out leaves the first place open, and the next one that comes is put there, so that the heap is put in order
     // once for both.
     first: First,
+    // By label: where its entry lies in the heap, while places are kept.
+    places: Vec<u32>,
+    // From the first call that may have to lower a key until the queue is emptied by `clear`. Then the least entry lies in the first place.
+    keeps_places: bool,
     // All labels are below it.
     limit: usize,
 }
@@ -29,14 +33,16 @@ impl Model for LabelQueue {
 
     ghost Value = { List (Option ℕ) };
 
-    ghost use Rattle.std.specs.Prelude.{◌<◌, ◌≤◌, ◌^◌, vec_capacity};
+    ghost use Rattle.std.specs.Prelude.{◌≡◌, ◌<◌, ◌≤◌, ◌^◌, length, vec_capacity};
     ghost use Rattle.label_queue.specs.First.{IsHeapBelow, entries_by};
     ghost use Rattle.label_queue.specs.Entries.{keys_of, AreDistinct};
+    ghost use Rattle.label_queue.specs.Places.{AreKept};
 
     ghost view = { λ q. keys_of q.limit (entries_by q.first q.heap.items) };
 
     ghost invariant = { λ q.
-        IsHeapBelow q.first q.heap.items × AreDistinct q.limit q.heap.items × (q.limit ≤ vec_capacity q.heap) × (q.limit < 2 ^ 32) };
+        IsHeapBelow q.first q.heap.items × AreDistinct q.limit q.heap.items × (q.limit ≤ vec_capacity q.heap) × (q.limit < 2 ^ 32)
+        × (length q.places.items ≡ q.limit) × AreKept q.keeps_places q.first q.places.items q.heap.items };
 }
 
 impl LabelQueue {
@@ -45,12 +51,15 @@ impl LabelQueue {
         ensures { IfOk result (λ q. q ≡ replicate limit None) }
     {
         if limit > LABELS {
-            return Err(Memory);
+            return Err(Memory::for_so_many(limit));
         }
         let heap = Vec::with_capacity(alloc, limit)?;
+        let places = Vec::from_elem(alloc, 0, limit)?;
         Ok(LabelQueue {
             heap,
             first: First::Least,
+            places,
+            keeps_places: false,
             limit,
         })
     }
@@ -89,11 +98,16 @@ impl LabelQueue {
     {
         heap::put_in_order(&mut self.heap, self.first);
         self.first = First::Least;
-        heap::add(&mut self.heap, Entry::new(label as u32, key));
+        let entry = Entry::new(label as u32, key);
+        if self.keeps_places {
+            heap::add(&mut self.heap, &mut self.places, entry);
+        } else {
+            heap::add(&mut self.heap, &mut [], entry);
+        }
     }
 
-    /// Gives the label this key, or leaves it the lesser one that it has. No memory is taken. The label is looked for among all
-    /// that are in the queue.
+    /// Gives the label this key, or leaves it the lesser one that it has. No memory is taken. From here on the place of each label in the
+    /// heap is kept, until the queue is emptied by `clear`, so that its key is lowered where it lies.
     #[inline(never)]
     pub fn insert_or_lower(&mut self, label: usize, key: u32)
         requires { label < length self.old }
@@ -101,11 +115,13 @@ impl LabelQueue {
     {
         heap::put_in_order(&mut self.heap, self.first);
         self.first = First::Least;
-        match heap::place_of(&self.heap, label as u32) {
+        heap::note_places(&self.heap, &mut self.places, self.keeps_places);
+        self.keeps_places = true;
+        match heap::place_of(&self.heap, &self.places, label as u32) {
             None => self.insert_among(label, key),
             Some(at) => {
                 if key < self.heap[at].key() {
-                    heap::lower(&mut self.heap, at, key);
+                    heap::lower(&mut self.heap, &mut self.places, at, key);
                 }
             }
         }
@@ -125,15 +141,20 @@ impl LabelQueue {
             return None;
         }
         let first = self.heap[0];
-        self.first = First::Taken;
+        if self.keeps_places {
+            heap::fill_first(&mut self.heap, &mut self.places);
+        } else {
+            self.first = First::Taken;
+        }
         Some((first.label() as usize, first.key()))
     }
 
-    /// Empty again, with the same limit.
+    /// Empty again, with the same limit. No place is kept any more.
     pub fn clear(&mut self)
         ensures { self.new ≡ replicate (length self.old) None }
     {
         self.heap.clear();
         self.first = First::Least;
+        self.keeps_places = false;
     }
 }

@@ -26,7 +26,7 @@ impl Labels {
         ensures queue { IfOk result (λ l. l.queue ≡ replicate count None) }
     {
         if count > CELLS {
-            return Err(Memory);
+            return Err(Memory::for_so_many(count));
         }
         Ok(Labels {
             known: Vec::from_elem(alloc, Known::none(), count)?,

@@ -79,9 +79,9 @@ impl NameList {
         let number = number_of(&name);
         let at = self.names.len() as u32;
         self.names.push(name)?;
-        if self.places.insert(number, at).is_err() {
+        if let Err(error) = self.places.insert(number, at) {
             let _ = self.names.pop();
-            return Err(Memory);
+            return Err(Memory::from(error));
         }
         Ok(())
     }

@@ -85,7 +85,7 @@ impl SpotBlocks {
     {
         let laid = self.stretches.len();
         if stretches >= MOST - laid {
-            return Err(Memory);
+            return Err(Memory::for_so_many(laid.saturating_add(stretches)));
         }
         let first = (laid * STRETCH) as u32;
         self.stretches.reserve(stretches)?;

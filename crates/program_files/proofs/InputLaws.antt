@@ -1,5 +1,5 @@
 -- Why a file that is not read whole ends the call.
-use Rattle.std.proofs.Common.{◌≡◌, ◌≤◌, ◌++◌, ◌∙◌, ℕ, List, Option, Some, None, Ok, inl, inr, refl, ap, append_assoc, arith}
+use Rattle.std.proofs.Common.{◌≡◌, ◌≤◌, ◌++◌, ◌∙◌, ℕ, List, Option, Ok, inl, inr, refl, append_assoc, arith}
 use Rattle.taxi_base.specs.Airport.{Airport}
 use Rattle.taxi_io.specs.Counts.{Rose}
 use Rattle.taxi_io.specs.Files.{Files, IsLonger, BeganMore}
@@ -7,7 +7,7 @@ use Rattle.taxi_io.specs.declared.trouble.ReadRefused.{ReadRefused}
 use Rattle.taxi_io.specs.declared.trouble.ReadRefused.TheVariants as refused
 use Rattle.program_files.specs.declared.stop.Stop.{Stop}
 use Rattle.program_files.specs.declared.stop.Stop.TheVariants as stop
-use Rattle.program_words.specs.Asked.{FileNames, Route, Check, Migrate, Import}
+use Rattle.program_words.specs.Verb.{FileNames, Route, Check, Migrate, Import}
 use Rattle.program_files.specs.Inputs.{commands_limit, transcript_limit, IsJudged, AreAccepted}
 use Rattle.program_files.specs.Stops.{stop_for, IsCause, IsCauseOfAirport}
 
@@ -47,6 +47,5 @@ transcript_cause told names transcript airport commands refused.TooLarge before 
 transcript_cause told names transcript airport commands refused.Memory before between after accepted longer rose later = tt
 
 -- some names were tried, and then others
-pub began-more : (before between after : Option (List (List ℕ))) (names others : List (List ℕ)) → BeganMore before between names → BeganMore between after others → BeganMore before after (names ++ others)
-began-more None between after names others one two = rw one at two
-began-more (Some all) between after names others one two = (rw one at two) ∙ ap (λ (l : List (List ℕ)). Some l) (append_assoc all names others)
+pub began-more : (before between after names others : List (List ℕ)) → BeganMore before between names → BeganMore between after others → BeganMore before after (names ++ others)
+began-more before between after names others one two = (rw one at two) ∙ append_assoc before names others

@@ -4,7 +4,7 @@ use Rattle.taxi_base.specs.Airport.{Airport}
 use Rattle.taxi_io.specs.Counts.{Rose}
 use Rattle.taxi_io.specs.Files.{Files, IsFile, IsLonger, BeganMore}
 use Rattle.airport_file.specs.Reading.{RecordFault, airport_of}
-use Rattle.program_words.specs.Asked.{FileNames, Asked, Route, Check, Generate, Migrate, Import}
+use Rattle.program_words.specs.Verb.{FileNames, Verb, Route, Check, Generate, Migrate, Import}
 
 -- the most bytes of an airport file, of a command file or a schedule, and of a transcript
 abbrev pub airport_limit : ℕ
@@ -38,7 +38,7 @@ pub record AreToCheck (told : Option Files) (names : FileNames) (transcript : Li
 -- ---- what stops a call before a command is answered
 
 -- a record of the airport file breaks a rule
-abbrev pub IsRefused : Option Files → Asked → RecordFault → Type 0
+abbrev pub IsRefused : Option Files → Verb → RecordFault → Type 0
 IsRefused told (Route names) fault = IsJudged told names.airport (Err fault)
 IsRefused told (Check names transcript) fault = IsJudged told names.airport (Err fault)
 IsRefused told (Generate traffic) fault = ⊥
@@ -46,7 +46,7 @@ IsRefused told (Migrate airport) fault = IsJudged told airport (Err fault)
 IsRefused told (Import names) fault = IsJudged told names.airport (Err fault)
 
 -- a read of a file that is asked for failed, by the shelf's counts of faults before and after
-abbrev pub IsReadFault : Asked → ℕ × ℕ → Type 0
+abbrev pub IsReadFault : Verb → ℕ × ℕ → Type 0
 IsReadFault (Generate traffic) reads = ⊥
 IsReadFault _ reads = Rose reads.0 reads.1
 
@@ -57,7 +57,7 @@ IsRunTooLarge told names =
     ⊎ ((airport : Airport) × IsJudged told names.airport (Ok airport) × IsLonger told names.commands commands_limit)
 
 -- a file is longer than its limit; of a check the transcript where the airport and the commands are accepted
-abbrev pub IsTooLarge : Option Files → Asked → Type 0
+abbrev pub IsTooLarge : Option Files → Verb → Type 0
 IsTooLarge told (Route names) = IsRunTooLarge told names
 IsTooLarge told (Check names transcript) =
     IsRunTooLarge told names
@@ -68,16 +68,16 @@ IsTooLarge told (Import names) = IsRunTooLarge told names
 
 -- ---- which files were begun
 
--- Which files of a run or an import were begun, by the names tried before and after. The command file, or the schedule, is begun
+-- Which files of a run or an import were begun, by the names that were tried before and after. The command file, or the schedule, is begun
 -- only once the airport is accepted.
-abbrev pub IsRunInOrder : Option Files → FileNames → Option (List (List ℕ)) → Option (List (List ℕ)) → Type 0
+abbrev pub IsRunInOrder : Option Files → FileNames → List (List ℕ) → List (List ℕ) → Type 0
 IsRunInOrder told names before after =
     BeganMore before after (names.airport ∷ [])
     ⊎ (((airport : Airport) × IsJudged told names.airport (Ok airport)) × BeganMore before after (names.airport ∷ names.commands ∷ []))
 
 -- The same for any words: none for words of no form or for made traffic, and else those that the words name, in their order. A transcript is begun
 -- only once the airport and the commands are accepted.
-abbrev pub IsInOrder : Option Files → Option Asked → Option (List (List ℕ)) → Option (List (List ℕ)) → Type 0
+abbrev pub IsInOrder : Option Files → Option Verb → List (List ℕ) → List (List ℕ) → Type 0
 IsInOrder told None before after = BeganMore before after []
 IsInOrder told (Some (Route names)) before after = IsRunInOrder told names before after
 IsInOrder told (Some (Check names transcript)) before after =

@@ -2,13 +2,14 @@
 use Rattle.std.specs.Prelude.{◌≡◌, ◌⊎◌, ℕ, List, Option, Err, ⊤}
 use Rattle.taxi_io.specs.Counts.{Rose}
 use Rattle.taxi_io.specs.Files.{Files, IsLonger}
+use Rattle.taxi_io.specs.Written.{Output}
 use Rattle.taxi_io.specs.declared.trouble.ReadRefused.{ReadRefused}
 use Rattle.taxi_io.specs.declared.trouble.ReadRefused.TheVariants as refused
 use Rattle.taxi_io.specs.declared.trouble.Trouble.{Trouble}
 use Rattle.taxi_io.specs.declared.trouble.Trouble.TheVariants as trouble
 use Rattle.airport_file.specs.declared.read.AirportRefused.{AirportRefused}
 use Rattle.airport_file.specs.declared.read.AirportRefused.TheVariants as airport
-use Rattle.program_words.specs.Asked.{Asked}
+use Rattle.program_words.specs.Verb.{Verb}
 use Rattle.program_endings.specs.declared.status.Status.{Status}
 use Rattle.program_endings.specs.declared.status.Status.TheVariants as status
 use Rattle.program_endings.specs.LastLine.{EndsWith}
@@ -49,14 +50,14 @@ IsCauseOfBegin faults TooLarge = ⊥
 IsCauseOfBegin faults Memory = ⊤
 
 -- the same where a file that is named ends what is asked for
-abbrev pub IsCause : Option Files → Asked → ℕ × ℕ → Stop → Type 0
+abbrev pub IsCause : Option Files → Verb → ℕ × ℕ → Stop → Type 0
 IsCause told asked faults (Refused at why) = IsRefused told asked (record { at = at; why = why })
 IsCause told asked faults ReadFault = IsReadFault asked faults
 IsCause told asked faults TooLarge = IsTooLarge told asked
 IsCause told asked faults Memory = ⊤
 
 -- how a call ends whose reading was stopped: by the writing of the line that says why; want of memory writes none
-abbrev pub StopsWith : Stop → ℕ × ℕ → Option (List ℕ) × Option (List ℕ) → Status → Type 0
+abbrev pub StopsWith : Stop → ℕ × ℕ → Output × Output → Status → Type 0
 StopsWith (Refused at why) faults taken ended = EndsWith (refusal_line (record { at = at; why = why })) status.AirportRefused faults taken ended
 StopsWith ReadFault faults taken ended = EndsWith read_fault_line status.ReadFault faults taken ended
 StopsWith TooLarge faults taken ended = EndsWith too_large_line status.TooLarge faults taken ended
@@ -64,7 +65,7 @@ StopsWith Memory faults taken ended = (ended ≡ status.Memory) × (taken.1 ≡ 
 
 -- How a call ends whose files are read whole before anything is written: what stopped the reading, or else a text was to be written
 -- that goes with a status, and its writing decided how the call ends.
-abbrev pub IsReadEnd : (Status → List ℕ → Type 0) → Option Files → Asked → ℕ × ℕ → ℕ × ℕ → Option (List ℕ) × Option (List ℕ) → Status → Type 0
+abbrev pub IsReadEnd : (Status → List ℕ → Type 0) → Option Files → Verb → ℕ × ℕ → ℕ × ℕ → Output × Output → Status → Type 0
 IsReadEnd IsText told asked reads writes taken ended =
     ((why : Stop) × IsCause told asked reads why × StopsWith why writes taken ended)
     ⊎ ((whole : Status) × (text : List ℕ) × IsText whole text × EndsWith text whole writes taken ended)

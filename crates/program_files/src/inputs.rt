@@ -1,7 +1,7 @@
 //! The files of a call, read whole before anything is done with them, but for the command file of a run.
 ghost use Rattle.std.specs.Prelude.{◌≡◌, ◌≤◌, ◌∷◌, [], Some, Ok, is_ok, IfOk, OnOk, IfErr};
 ghost use Rattle.taxi_io.specs.Files.{SameNames, BeganMore, Begins};
-ghost use Rattle.program_words.specs.Asked.{Route, Check};
+ghost use Rattle.program_words.specs.Verb.{Route, Check};
 ghost use Rattle.program_files.specs.Inputs.{IsJudged, AreAccepted, AreToCheck, IsRunInOrder, IsInOrder};
 ghost use Rattle.program_files.specs.Stops.{IsCause, IsCauseOfAirport, IsCauseOfBegin};
 

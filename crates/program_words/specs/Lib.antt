@@ -1,3 +1,4 @@
-pub mod Asked
+pub mod Verb
+pub mod Given
 pub mod LentWords
 pub mod Usage

@@ -9,4 +9,4 @@ mod words;
 pub use given::words_after_name;
 pub use traffic::Traffic;
 pub use usage::usage_line;
-pub use words::{Asked, asked_by};
+pub use words::{Verb, asked_by};

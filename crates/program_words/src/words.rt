@@ -1,7 +1,7 @@
 //! What words ask for.
 ghost use Rattle.std.specs.Prelude.{◌≡◌, ◌<◌, ◌^◌, IfSome, map, string_bytes};
 ghost use Rattle.taxi_text.specs.Fields.{number_of};
-ghost use Rattle.program_words.specs.Asked.{traffic_in_range, traffic_of, asked_by, asked_of_one, asked_of_two, asked_of_three};
+ghost use Rattle.program_words.specs.Verb.{traffic_in_range, traffic_of, asked_by, asked_of_one, asked_of_two, asked_of_three};
 ghost use Rattle.program_words.specs.LentWords.{traffic_as, asked_as};
 
 use crate::traffic::Traffic;
@@ -9,7 +9,7 @@ use taxi_text::read_number;
 
 /// What words ask for, with the names of the files.
 #[derive(Drop)]
-pub enum Asked<'a> {
+pub enum Verb<'a> {
     Route {
         airport: &'a str,
         commands: &'a str,
@@ -30,7 +30,7 @@ pub enum Asked<'a> {
 }
 
 /// What the words ask for. None for words of no form.
-pub fn asked_by(words: &[String]) -> Option<Asked<'_>>
+pub fn asked_by(words: &[String]) -> Option<Verb<'_>>
     ensures { asked_as result ≡ asked_by (map string_bytes words.now) }
 {
     match words {
@@ -50,26 +50,26 @@ pub fn asked_by(words: &[String]) -> Option<Asked<'_>>
     }
 }
 
-fn asked_of_one<'a>(verb: &str, airport: &'a str) -> Option<Asked<'a>>
+fn asked_of_one<'a>(verb: &str, airport: &'a str) -> Option<Verb<'a>>
     ensures { asked_as result ≡ asked_of_one verb.now airport.now }
 {
     if verb == "migrate" {
-        Some(Asked::Migrate { airport })
+        Some(Verb::Migrate { airport })
     } else {
         None
     }
 }
 
-fn asked_of_two<'a>(verb: &str, airport: &'a str, second: &'a str) -> Option<Asked<'a>>
+fn asked_of_two<'a>(verb: &str, airport: &'a str, second: &'a str) -> Option<Verb<'a>>
     ensures { asked_as result ≡ asked_of_two verb.now airport.now second.now }
 {
     if verb == "route" {
-        Some(Asked::Route {
+        Some(Verb::Route {
             airport,
             commands: second,
         })
     } else if verb == "import" {
-        Some(Asked::Import {
+        Some(Verb::Import {
             airport,
             schedule: second,
         })
@@ -83,18 +83,18 @@ fn asked_of_three<'a>(
     first: &'a str,
     second: &'a str,
     third: &'a str,
-) -> Option<Asked<'a>>
+) -> Option<Verb<'a>>
     ensures { asked_as result ≡ asked_of_three verb.now first.now second.now third.now }
 {
     if verb == "check" {
-        Some(Asked::Check {
+        Some(Verb::Check {
             airport: first,
             commands: second,
             transcript: third,
         })
     } else if verb == "generate" {
         let traffic = traffic_of(first, second, third)?;
-        Some(Asked::Generate(traffic))
+        Some(Verb::Generate(traffic))
     } else {
         None
     }

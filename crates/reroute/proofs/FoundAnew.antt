@@ -1,5 +1,5 @@
 -- What answers a flight under way is the best, and no worse than its old route.
-use Rattle.std.proofs.Common.{◌≡◌, ℕ, ◌+◌, ◌-◌, ◌<◌, ◌≤◌, max, min, Bool, true, false, nat_le, if◌then◌else◌, List, [], ◌∷◌, Option, Some, None, Ok, Err, is_some, refl, sym, subst, arith}
+use Rattle.std.proofs.Common.{◌≡◌, ℕ, ◌-◌, ◌<◌, ◌≤◌, Bool, true, false, nat_le, if◌then◌else◌, List, [], ◌∷◌, Option, Some, None, Ok, Err, is_some, refl, subst, arith}
 use Rattle.std.specs.Prelude.{Result, IfOk, unwrap_or}
 use Rattle.std.proofs.lemmas.Bool.Decides.{nat_tests}
 use Rattle.taxi_base.specs.declared.numbers.Node.{Node}
@@ -11,15 +11,12 @@ use Rattle.taxi_base.specs.declared.answers.Flight.{Flight}
 use Rattle.taxi_base.specs.declared.answers.Found.{Found}
 use Rattle.taxi_base.specs.declared.answers.Found.TheVariants.{Route, NoRoute}
 use Rattle.taxi_base.specs.Airport.{layout_of}
-use Rattle.taxi_base.specs.Walks.{Conditions, IsFeasibleStep, LeavesNodeWithin, ReachesNodeWithin, Resumes, Meets, begin_of, end_of}
-use Rattle.taxi_base.specs.Labels.{AnswersArrival}
-use Rattle.taxi_base.specs.State.{step_begun, steps_done}
-use Rattle.taxi_base.specs.Again.{IsTarget, MayGoAgain, after_steps, AnswersAgain, IsBestAgain}
+use Rattle.taxi_base.specs.Walks.{Conditions, IsFeasibleStep, ReachesNodeWithin, Meets, begin_of, end_of}
+use Rattle.taxi_base.specs.Again.{IsTarget, MayGoAgain, AnswersAgain, IsBestAgain}
 use Rattle.taxi_base.proofs.WalkLaws.{Meets-IsFeasibleWalk, AtLast-both, IsFeasibleWalk-last}
 use Rattle.taxi_base.proofs.AgainLaws.{again-best, old-frozen}
 use Rattle.reroute.specs.Refused.{flight_refusal}
 use Rattle.reroute.specs.Anew.{IsMeant, IsNoWorse, IsFoundAnew}
-use Rattle.reroute.proofs.SameBegins.{AnswersArrival-cut}
 
 -- where a test comes first that gives something, and there is nothing, it fails, and there is nothing else
 else-none : {A : Type 0} (test : Bool) (x : A) (o : Option A) → (if test then Some x else o) ≡ None → (test ≡ false) × (o ≡ None)
@@ -58,21 +55,11 @@ module _ (c : Conditions) (steps : List Step) (time : ℕ) (to : Option Node) (f
   meant-arrival None = refl
   meant-arrival (Some node) = refl
 
-  -- to one that has not begun
-  pub begins-anew : (most : ℕ) → c.airport.horizon ≤ most → step_begun time steps ≡ None → (r : Result Found Memory)
-      → IfOk r (AnswersArrival c (LeavesNodeWithin (layout_of c.airport) from (max asked time) (min (asked + hold) most)) (unwrap_or to own))
+  -- to an arrival, for which it does not matter which node was asked for
+  pub onward-anew : (r : Result Found Memory) → IfOk r (AnswersAgain c steps time (unwrap_or to own) (request.Arrival from (unwrap_or to own) asked hold))
       → IfOk r (IsAnswerAnew c steps time to (request.Arrival from own asked hold))
-  begins-anew most far none (Err e) h = tt
-  begins-anew most far none (Ok found) h =
-      (unwrap_or to own, meant-arrival to, rw none (AnswersArrival-cut c from (unwrap_or to own) (max asked time) (asked + hold) most far found h))
-
-  -- to one that is under way
-  pub goes-on : (begun : Step) (done : List Step) → step_begun time steps ≡ Some begun → steps_done time steps ≡ done
-      → (rest : Found) → AnswersArrival c (Resumes begun time) (unwrap_or to own) rest → (r : Result Found Memory) → IfOk r (λ joined. joined ≡ after_steps done rest)
-      → IfOk r (IsAnswerAnew c steps time to (request.Arrival from own asked hold))
-  goes-on begun done is_begun is_done rest answers (Err e) joined = tt
-  goes-on begun done is_begun is_done rest answers (Ok found) joined =
-      (unwrap_or to own, meant-arrival to, rw is_begun (rest, subst (λ us. found ≡ after_steps us rest) (sym is_done) joined, answers))
+  onward-anew (Err e) h = tt
+  onward-anew (Ok found) h = (unwrap_or to own, meant-arrival to, h)
 
 -- ---- and the best
 

@@ -1,7 +1,6 @@
 //! A flight in force, routed anew from a time on, or led to another node: the best of the ways that it may still take.
 #![tactic(auto)]
 
-mod joining;
 mod refused;
 mod rerouting;
 mod searching;

@@ -1,21 +1,18 @@
 //! The search for the way that a flight takes anew.
-ghost use Rattle.std.specs.Prelude.{◌≡◌, ◌+◌, ◌≤◌, max, min, length, All, IfOk, IfSome, None, is_some};
-ghost use Rattle.taxi_base.specs.Airport.{clearance_of};
-ghost use Rattle.taxi_base.specs.Walks.{conditions_in_windows, Meets};
+ghost use Rattle.std.specs.Prelude.{◌≡◌, ◌≤◌, length, All, IfOk, None, is_some};
+ghost use Rattle.taxi_base.specs.Walks.{conditions_of_class, Meets};
 ghost use Rattle.taxi_base.specs.declared.numbers.Node.{Node as NodeNumber};
 ghost use Rattle.taxi_base.specs.Again.{AnswersAgain};
 ghost use Rattle.place_cells.specs.Laid.{windows_of};
-ghost use Rattle.forward_search.specs.declared.starting.Start.TheVariants as start;
 ghost use Rattle.reroute.specs.Refused.{flight_refusal};
 ghost use Rattle.reroute.specs.Anew.{IsMeant};
 
-use crate::joining::{after_steps, under_way};
 use airport_file::Airport;
-use backward_search::depart;
-use forward_search::{Start, arrive};
+use backward_search::{Departure, depart};
+use forward_search::{Onward, arrive_onward};
 use place_cells::SearchRoom;
 use std::alloc::Global;
-use taxi_base::{Flight, Found, Memory, Node, Request, Step, Time};
+use taxi_base::{Flight, Found, Memory, Node, Request, Time};
 use window_store::WindowStore;
 
 /// Searches in a store's windows for the way that a flight takes from a time on, to the node that is meant. An arrival goes on
@@ -32,13 +29,12 @@ pub(crate) fn find_anew(
     requires segments { length store.now.lists ≡ length airport.now.segments }
     requires horizon { All (All (λ w. w.until ≤ airport.now.horizon)) (windows_of store.now) }
     requires may { flight_refusal time (is_some to) flight.now ≡ None }
-    requires met { Meets (conditions_in_windows airport.now flight.now.class (clearance_of airport.now flight.now.class) (windows_of store.now)) flight.now.request flight.now.steps }
-    ensures { IfOk result (λ found. (target : NodeNumber) × IsMeant to flight.now.request target × AnswersAgain (conditions_in_windows airport.now flight.now.class (clearance_of airport.now flight.now.class) (windows_of store.now)) flight.now.steps time target flight.now.request found) }
+    requires met { Meets (conditions_of_class airport.now flight.now.class (windows_of store.now)) flight.now.request flight.now.steps }
+    ensures { IfOk result (λ found. (target : NodeNumber) × IsMeant to flight.now.request target × AnswersAgain (conditions_of_class airport.now flight.now.class (windows_of store.now)) flight.now.steps time target flight.now.request found) }
 {
     // With the horizon comes that the airport keeps the rules.
     let _horizon = airport.horizon();
     let class = flight.class;
-    let clearance = airport.clearance(class);
     match flight.request {
         Request::Filed => unreachable!(),
         Request::Arrival {
@@ -47,14 +43,15 @@ pub(crate) fn find_anew(
             time: asked,
             hold,
         } => {
+            let onward = Onward {
+                steps: flight.steps.as_slice(),
+                time,
+                from,
+                asked,
+                hold,
+            };
             let target = to.unwrap_or(own);
-            let way = under_way(flight.steps.as_slice(), time);
-            let start = start_anew(way, time, from, asked, hold);
-            let rest = arrive(alloc, room, airport, store, start, class, target, clearance)?;
-            match way {
-                None => Ok(rest),
-                Some((_, done)) => after_steps(alloc, done, rest),
-            }
+            arrive_onward(alloc, room, airport, store, onward, class, target)
         }
         Request::Departure {
             from,
@@ -63,35 +60,14 @@ pub(crate) fn find_anew(
             queue,
         } => {
             let target = to.unwrap_or(own);
-            let earliest = asked.saturating_sub(queue);
-            depart(
-                alloc, room, airport, store, from, target, class, earliest, asked, clearance,
-            )
+            let earliest_out = asked.saturating_sub(queue);
+            let departure = Departure {
+                class,
+                from,
+                earliest_out,
+                latest_out: asked,
+            };
+            depart(alloc, room, airport, store, departure, target)
         }
-    }
-}
-
-// How an arrival begins from a time on: with what is left of the step under way, or at the node where it asked to begin.
-fn start_anew(
-    way: Option<(&Step, &[Step])>,
-    time: Time,
-    from: Node,
-    asked: Time,
-    hold: Time,
-) -> Start
-    ensures node { way.entry ≡ None → result ≡ start.Node from (max asked time) (min (asked + hold) 4294967295) }
-    ensures step { IfSome way.entry (λ w. result ≡ start.Frozen w.0.now.arc w.0.now.enter time) }
-{
-    match way {
-        None => Start::Node {
-            from,
-            earliest: asked.max(time),
-            latest: asked.saturating_add(hold),
-        },
-        Some((begun, _)) => Start::Frozen {
-            arc: begun.arc,
-            enter: begun.enter,
-            exit_from: time,
-        },
     }
 }

@@ -2,6 +2,7 @@
 use Rattle.std.specs.Prelude.{ℕ, ℤ, List, [], ◌∷◌, ◌++◌, Option, Some, None, Result, Ok, Err}
 use Rattle.airport_file.specs.Reading.{records_of}
 use Rattle.taxi_base.specs.Airport.{Airport}
+use Rattle.taxi_text.specs.declared.command.Asked.{Asked}
 use Rattle.taxi_text.specs.declared.command.Command.{Command}
 use Rattle.taxi_text.specs.declared.command.Command.TheVariants as command
 use Rattle.schedule_import.specs.declared.row.Movement.{Movement}
@@ -12,10 +13,14 @@ use Rattle.schedule_import.specs.declared.row.RowFault.{RowFault}
 use Rattle.schedule_import.specs.Rows.{row_of, time_of_row}
 use Rattle.schedule_import.specs.Schedule.{start_of}
 
+-- what names ask for at a second of the day
+abbrev pub asked_at : Names → ℕ → ℕ → Asked
+asked_at names time slack = record { flight = names.flight; class = names.class; from = names.from; to = names.to; time = time; slack = slack }
+
 -- the command of a movement at a second of the day
 abbrev pub command_of_names : Movement → Names → ℕ → ℕ → Command
-command_of_names Arrival names time slack = command.Arrival names.flight names.class names.from names.to time slack
-command_of_names Departure names time slack = command.Departure names.flight names.class names.from names.to time slack
+command_of_names Arrival names time slack = command.Arrival (asked_at names time slack)
+command_of_names Departure names time slack = command.Departure (asked_at names time slack)
 
 abbrev pub command_at : Row → ℕ → Command
 command_at row time = command_of_names row.movement row.names time row.slack

@@ -1,9 +1,6 @@
 -- Which flight does a record of a schedule ask for, and if none, why not?
-use Rattle.std.specs.Prelude.{ℕ, Bool, true, false, ◌&&◌, nat_lt, if◌then◌else◌, ℤ, pos, negsuc, ◌-ℤ◌, List, [], ◌∷◌, Option, Some, None, is_some, Result, Ok, Err, slice_get, bytes_eq, codes}
-use Rattle.std.specs.Option.{option_map_or}
-use Rattle.taxi_base.specs.declared.rows.Kind.{Kind}
-use Rattle.taxi_base.specs.declared.rows.Kind.TheVariants.{Runway, Stand}
-use Rattle.taxi_base.specs.Airport.{Airport, node_named, class_named}
+use Rattle.std.specs.Prelude.{ℕ, Bool, ◌&&◌, nat_lt, if◌then◌else◌, ℤ, pos, negsuc, ◌-ℤ◌, List, [], ◌∷◌, Option, Some, None, is_some, Result, Ok, Err, bytes_eq, codes}
+use Rattle.taxi_base.specs.Airport.{Airport, node_named, class_named, is_runway, is_stand, is_node_of}
 use Rattle.taxi_text.specs.Commands.{◌>>=◌}
 use Rattle.taxi_text.specs.Fields.{name_of, number_of}
 use Rattle.schedule_import.specs.declared.row.Movement.{Movement}
@@ -61,19 +58,6 @@ abbrev pub row_of : List (List ℕ) → Result Row RowFault
 row_of fields = needs (movement_of fields) fault.UnknownRow (λ movement. row_of_fields movement fields)
 
 -- ---- the row at the airport
-
-abbrev pub is_runway : Kind → Bool
-is_runway Runway = true
-is_runway _ = false
-
-abbrev pub is_stand : Kind → Bool
-is_stand Stand = true
-is_stand _ = false
-
--- whether a name is that of a node of a kind
-abbrev pub is_node_of : (Kind → Bool) → Airport → List ℕ → Bool
-is_node_of is_kind airport name =
-    option_map_or (λ node. option_map_or (λ row. is_kind row.kind) (slice_get airport.nodes node.0) false) (node_named airport name) false
 
 -- whether the airport has the class and the nodes
 abbrev pub are_known : Airport → Names → Bool

@@ -1,10 +1,10 @@
 //! The rows of a schedule: what each says, and whether the airport can take it.
 ghost use Rattle.std.specs.Prelude.{◌≡◌, ◌-ℤ◌, map, IfOk};
 ghost use Rattle.schedule_import.specs.Times.{IsSecond};
-ghost use Rattle.schedule_import.specs.Rows.{movement_named, movement_of, names_of, row_of_words, row_of_fields, row_of, is_runway, is_stand, is_node_of, are_known, are_of_kinds, time_within, time_of_row};
+ghost use Rattle.schedule_import.specs.Rows.{movement_named, movement_of, names_of, row_of_words, row_of_fields, row_of, are_known, are_of_kinds, time_within, time_of_row};
 
 use crate::times::second_of;
-use airport_file::{Airport, Kind};
+use airport_file::Airport;
 use taxi_base::{Name, Time};
 use taxi_text::read_number;
 
@@ -172,26 +172,8 @@ fn are_of_kinds(airport: &Airport, movement: Movement, names: &Names) -> bool
     ensures { result ≡ are_of_kinds airport.now movement names.now }
 {
     match movement {
-        Movement::Arrival => is_runway(airport, &names.from) && is_stand(airport, &names.to),
-        Movement::Departure => is_stand(airport, &names.from) && is_runway(airport, &names.to),
-    }
-}
-
-fn is_runway(airport: &Airport, name: &Name) -> bool
-    ensures { result ≡ is_node_of is_runway airport.now name.now }
-{
-    match airport.node_named(name) {
-        Some(node) => matches!(airport.kind(node), Kind::Runway),
-        None => false,
-    }
-}
-
-fn is_stand(airport: &Airport, name: &Name) -> bool
-    ensures { result ≡ is_node_of is_stand airport.now name.now }
-{
-    match airport.node_named(name) {
-        Some(node) => matches!(airport.kind(node), Kind::Stand),
-        None => false,
+        Movement::Arrival => airport.has_runway(&names.from) && airport.has_stand(&names.to),
+        Movement::Departure => airport.has_stand(&names.from) && airport.has_runway(&names.to),
     }
 }
 

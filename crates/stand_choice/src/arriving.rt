@@ -1,7 +1,7 @@
 //! The choice of stands for an arrival.
 ghost use Rattle.std.specs.Prelude.{◌≡◌, ◌<◌, ◌≤◌, length, All, Contains, IsTrue, IfOk};
 ghost use Rattle.taxi_base.specs.Airport.{layout_of, arc_exists};
-ghost use Rattle.taxi_base.specs.Walks.{conditions_in_windows, end_of, AtLast, ReachesNode, LeavesNodeWithin};
+ghost use Rattle.taxi_base.specs.Walks.{conditions_of_class, end_of, AtLast, ReachesNode};
 ghost use Rattle.taxi_base.specs.Choices.{AnswersArrivalChoice};
 ghost use Rattle.walk_labels.specs.Requests.{BeginsBy};
 ghost use Rattle.place_cells.specs.Laid.{windows_of};
@@ -13,54 +13,33 @@ use airport_file::Airport;
 use forward_search::{Start, arrive_to_one_of};
 use place_cells::SearchRoom;
 use std::alloc::Global;
-use taxi_base::{Chosen, Class, Found, List, Memory, Node, Step, Time, end_of};
+use taxi_base::{Chosen, Class, Found, List, Memory, Node, Step, end_of};
 use window_store::WindowStore;
 
 /// Of the nodes, the one that a walk in the store's windows reaches soonest, and of several that are reached then the first by
 /// name, with the route that is picked to it and the labels short of its end; or that no walk reaches any of them, with all
-/// labels. Walks leave `from` and enter their first arc from `earliest` to `latest`. A node that is named twice counts once. What
-/// an earlier search left in the room does not matter.
+/// labels. Each step keeps the class's clearance after it inside its window. A node that is named twice counts once. What an earlier
+/// search left in the room does not matter.
 pub fn choose_arrival(
     alloc: Global,
     room: &mut SearchRoom,
     airport: &Airport,
     store: &WindowStore,
-    from: Node,
-    to: &[Node],
+    start: Start,
     class: Class,
-    earliest: Time,
-    latest: Time,
-    clearance: Time,
+    to: &[Node],
 ) -> Result<Chosen, Memory>
     requires segments { length store.now.lists ≡ length airport.now.segments }
     requires horizon { All (All (λ w. w.until ≤ airport.now.horizon)) (windows_of store.now) }
     requires nodes { All (λ n. n.0 < length airport.now.nodes) to.now }
-    ensures { IfOk result (AnswersArrivalChoice (conditions_in_windows airport.now class clearance (windows_of store.now)) (LeavesNodeWithin (layout_of airport.now) from earliest latest) to.now) }
+    ensures { IfOk result (AnswersArrivalChoice (conditions_of_class airport.now class (windows_of store.now)) (BeginsBy (layout_of airport.now) (beginning_of start 0)) to.now) }
 {
-    let asked = Asked {
-        start: Start::Node {
-            from,
-            earliest,
-            latest,
-        },
-        class,
-        clearance,
-    };
-    let found = arrive_to_one_of(
-        alloc,
-        room,
-        airport,
-        store,
-        asked.start,
-        class,
-        to,
-        clearance,
-    )?;
+    let found = arrive_to_one_of(alloc, room, airport, store, start, class, to)?;
     match found {
         Found::NoRoute { labels } => Ok(Chosen::NoRoute { labels }),
         Found::Route { steps, labels } => {
             let best = way_of(airport, steps);
-            let way = first_by_name(alloc, room, airport, store, asked, to, best)?;
+            let way = first_by_name(alloc, room, airport, store, start, class, to, best)?;
             Ok(Chosen::Route {
                 to: way.to,
                 steps: way.steps,
@@ -68,14 +47,6 @@ pub fn choose_arrival(
             })
         }
     }
-}
-
-/// How walks begin, and what walks.
-#[derive(Clone, Copy)]
-struct Asked {
-    start: Start,
-    class: Class,
-    clearance: Time,
 }
 
 /// A route, with the node that it reaches.
@@ -102,7 +73,8 @@ fn first_by_name(
     room: &mut SearchRoom,
     airport: &Airport,
     store: &WindowStore,
-    asked: Asked,
+    start: Start,
+    class: Class,
     nodes: &[Node],
     way: Way,
 ) -> Result<Way, Memory>
@@ -110,26 +82,17 @@ fn first_by_name(
     requires horizon { All (All (λ w. w.until ≤ airport.now.horizon)) (windows_of store.now) }
     requires nodes { AreNodes airport.now nodes.now }
     requires named { Contains nodes.now way.to }
-    requires way { IsWay (conditions_in_windows airport.now asked.class asked.clearance (windows_of store.now)) (BeginsBy (layout_of airport.now) (beginning_of asked.start 0)) way }
-    requires none_earlier { NoneEarlier (conditions_in_windows airport.now asked.class asked.clearance (windows_of store.now)) (BeginsBy (layout_of airport.now) (beginning_of asked.start 0)) nodes.now (end_of way.steps) }
-    ensures first { IfOk result (λ w. IsFirstByName airport.now nodes.now (IsReachedAt (conditions_in_windows airport.now asked.class asked.clearance (windows_of store.now)) (BeginsBy (layout_of airport.now) (beginning_of asked.start 0)) (end_of way.steps)) w.to) }
-    ensures way { IfOk result (IsWay (conditions_in_windows airport.now asked.class asked.clearance (windows_of store.now)) (BeginsBy (layout_of airport.now) (beginning_of asked.start 0))) }
+    requires way { IsWay (conditions_of_class airport.now class (windows_of store.now)) (BeginsBy (layout_of airport.now) (beginning_of start 0)) way }
+    requires none_earlier { NoneEarlier (conditions_of_class airport.now class (windows_of store.now)) (BeginsBy (layout_of airport.now) (beginning_of start 0)) nodes.now (end_of way.steps) }
+    ensures first { IfOk result (λ w. IsFirstByName airport.now nodes.now (IsReachedAt (conditions_of_class airport.now class (windows_of store.now)) (BeginsBy (layout_of airport.now) (beginning_of start 0)) (end_of way.steps)) w.to) }
+    ensures way { IfOk result (IsWay (conditions_of_class airport.now class (windows_of store.now)) (BeginsBy (layout_of airport.now) (beginning_of start 0))) }
     ensures as_early { IfOk result (λ w. end_of w.steps ≡ end_of way.steps) }
 {
     let before = named_before(alloc, airport, nodes, way.to)?;
     if before.is_empty() {
         return Ok(way);
     }
-    let found = arrive_to_one_of(
-        alloc,
-        room,
-        airport,
-        store,
-        asked.start,
-        asked.class,
-        &before,
-        asked.clearance,
-    )?;
+    let found = arrive_to_one_of(alloc, room, airport, store, start, class, &before)?;
     let Found::Route { steps, .. } = found else {
         return Ok(way);
     };
@@ -137,5 +100,5 @@ fn first_by_name(
         return Ok(way);
     }
     let other = way_of(airport, steps);
-    first_by_name(alloc, room, airport, store, asked, &before, other)
+    first_by_name(alloc, room, airport, store, start, class, &before, other)
 }

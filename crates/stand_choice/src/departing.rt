@@ -2,7 +2,7 @@
 ghost use Rattle.std.specs.Prelude.{◌≡◌, ◌^◌, ◌<◌, ◌≤◌, List as Items, length, All, Contains, IfOk};
 ghost use Rattle.taxi_base.specs.declared.rows.Step.{Step as StepRow};
 ghost use Rattle.taxi_base.specs.Airport.{layout_of};
-ghost use Rattle.taxi_base.specs.Walks.{conditions_in_windows, IsRoute, LeavesNode, ReachesNodeWithin, BeginsLatest};
+ghost use Rattle.taxi_base.specs.Walks.{conditions_of_class, IsRoute, LeavesNode, ReachesNodeWithin, BeginsLatest};
 ghost use Rattle.taxi_base.specs.Labels.{IsPickedDeparture, AnswersDeparture};
 ghost use Rattle.taxi_base.specs.Choices.{ReachesOneOfWithin, AnswersDepartureChoice};
 ghost use Rattle.place_cells.specs.Laid.{windows_of};
@@ -10,42 +10,31 @@ ghost use Rattle.stand_choice.specs.Ways.{AreNodes, IsFirstByName, IsLeftForAt, 
 
 use crate::nodes::{named_before, node_at_end};
 use airport_file::Airport;
-use backward_search::{depart, depart_to_one_of};
+use backward_search::{Departure, depart, depart_to_one_of};
 use place_cells::SearchRoom;
 use std::alloc::Global;
-use taxi_base::{Chosen, Class, Found, List, Memory, Node, Step, Time, begin_of};
+use taxi_base::{Chosen, Found, List, Memory, Node, Step, Time, begin_of};
 use window_store::WindowStore;
 
 /// Of the nodes, the one for which a walk in the store's windows leaves `from` latest, and of several the first by name, with the
 /// route that is picked to it alone, and past its begin the latest entries of the walks to any of the nodes; or that no walk
-/// reaches any of them, with all entries. Walks leave their last step from `earliest_out` to `latest_out`. A node that is named
+/// reaches any of them, with all entries. Each step keeps the class's clearance after it inside its window. A node that is named
 /// twice counts once. What an earlier search left in the room does not matter.
 pub fn choose_departure(
     alloc: Global,
     room: &mut SearchRoom,
     airport: &Airport,
     store: &WindowStore,
-    from: Node,
+    departure: Departure,
     to: &[Node],
-    class: Class,
-    earliest_out: Time,
-    latest_out: Time,
-    clearance: Time,
 ) -> Result<Chosen, Memory>
     requires segments { length store.now.lists ≡ length airport.now.segments }
     requires horizon { All (All (λ w. w.until ≤ airport.now.horizon)) (windows_of store.now) }
     requires nodes { All (λ n. n.0 < length airport.now.nodes) to.now }
-    requires times { earliest_out < 2 ^ 31 }
-    ensures { IfOk result (AnswersDepartureChoice (conditions_in_windows airport.now class clearance (windows_of store.now)) from to.now earliest_out latest_out) }
+    requires times { departure.earliest_out < 2 ^ 31 }
+    ensures { IfOk result (AnswersDepartureChoice (conditions_of_class airport.now departure.class (windows_of store.now)) departure.from to.now departure.earliest_out departure.latest_out) }
 {
-    let asked = Asked {
-        from,
-        class,
-        earliest_out,
-        latest_out,
-        clearance,
-    };
-    let found = find_among(alloc, room, airport, store, asked, to)?;
+    let found = depart_to_one_of(alloc, room, airport, store, departure, to)?;
     match found {
         Found::NoRoute { labels } => Ok(Chosen::NoRoute { labels }),
         Found::Route { steps, labels } => {
@@ -55,49 +44,11 @@ pub fn choose_departure(
             }
             let begin = begin_of(steps.as_slice());
             let node = node_at_end(airport, steps.as_slice());
-            let to = first_by_name(alloc, room, airport, store, asked, to, node, begin)?;
-            let steps = route_to(alloc, room, airport, store, asked, to)?;
+            let to = first_by_name(alloc, room, airport, store, departure, to, node, begin)?;
+            let steps = route_to(alloc, room, airport, store, departure, to)?;
             Ok(Chosen::Route { to, steps, labels })
         }
     }
-}
-
-/// Where walks begin, when they may end, and what walks.
-#[derive(Clone, Copy)]
-struct Asked {
-    from: Node,
-    class: Class,
-    earliest_out: Time,
-    latest_out: Time,
-    clearance: Time,
-}
-
-/// What is found for walks that end at one of some nodes.
-fn find_among(
-    alloc: Global,
-    room: &mut SearchRoom,
-    airport: &Airport,
-    store: &WindowStore,
-    asked: Asked,
-    nodes: &[Node],
-) -> Result<Found, Memory>
-    requires segments { length store.now.lists ≡ length airport.now.segments }
-    requires horizon { All (All (λ w. w.until ≤ airport.now.horizon)) (windows_of store.now) }
-    requires times { asked.earliest_out < 2 ^ 31 }
-    ensures { IfOk result (AnswersDeparture (conditions_in_windows airport.now asked.class asked.clearance (windows_of store.now)) asked.from (ReachesOneOfWithin (layout_of airport.now) nodes.now asked.earliest_out asked.latest_out)) }
-{
-    depart_to_one_of(
-        alloc,
-        room,
-        airport,
-        store,
-        asked.from,
-        nodes,
-        asked.class,
-        asked.earliest_out,
-        asked.latest_out,
-        asked.clearance,
-    )
 }
 
 /// The route that is picked to a node alone, where there is a walk to it.
@@ -106,28 +57,17 @@ fn route_to(
     room: &mut SearchRoom,
     airport: &Airport,
     store: &WindowStore,
-    asked: Asked,
+    departure: Departure,
     node: Node,
 ) -> Result<List<Step>, Memory>
     requires segments { length store.now.lists ≡ length airport.now.segments }
     requires horizon { All (All (λ w. w.until ≤ airport.now.horizon)) (windows_of store.now) }
-    requires times { asked.earliest_out < 2 ^ 31 }
-    requires walk { (steps : Items StepRow) × IsRoute (conditions_in_windows airport.now asked.class asked.clearance (windows_of store.now)) (LeavesNode (layout_of airport.now) asked.from) (ReachesNodeWithin (layout_of airport.now) node asked.earliest_out asked.latest_out) steps }
-    ensures best { IfOk result (BeginsLatest (IsRoute (conditions_in_windows airport.now asked.class asked.clearance (windows_of store.now)) (LeavesNode (layout_of airport.now) asked.from) (ReachesNodeWithin (layout_of airport.now) node asked.earliest_out asked.latest_out))) }
-    ensures picked { IfOk result (IsPickedDeparture (conditions_in_windows airport.now asked.class asked.clearance (windows_of store.now)) (ReachesNodeWithin (layout_of airport.now) node asked.earliest_out asked.latest_out) asked.from) }
+    requires times { departure.earliest_out < 2 ^ 31 }
+    requires walk { (steps : Items StepRow) × IsRoute (conditions_of_class airport.now departure.class (windows_of store.now)) (LeavesNode (layout_of airport.now) departure.from) (ReachesNodeWithin (layout_of airport.now) node departure.earliest_out departure.latest_out) steps }
+    ensures best { IfOk result (BeginsLatest (IsRoute (conditions_of_class airport.now departure.class (windows_of store.now)) (LeavesNode (layout_of airport.now) departure.from) (ReachesNodeWithin (layout_of airport.now) node departure.earliest_out departure.latest_out))) }
+    ensures picked { IfOk result (IsPickedDeparture (conditions_of_class airport.now departure.class (windows_of store.now)) (ReachesNodeWithin (layout_of airport.now) node departure.earliest_out departure.latest_out) departure.from) }
 {
-    let found = depart(
-        alloc,
-        room,
-        airport,
-        store,
-        asked.from,
-        node,
-        asked.class,
-        asked.earliest_out,
-        asked.latest_out,
-        asked.clearance,
-    )?;
+    let found = depart(alloc, room, airport, store, departure, node)?;
     match found {
         Found::Route { steps, .. } => Ok(steps),
         Found::NoRoute { .. } => unreachable!(),
@@ -141,25 +81,25 @@ fn first_by_name(
     room: &mut SearchRoom,
     airport: &Airport,
     store: &WindowStore,
-    asked: Asked,
+    departure: Departure,
     nodes: &[Node],
     node: Node,
     begin: Time,
 ) -> Result<Node, Memory>
     requires segments { length store.now.lists ≡ length airport.now.segments }
     requires horizon { All (All (λ w. w.until ≤ airport.now.horizon)) (windows_of store.now) }
-    requires times { asked.earliest_out < 2 ^ 31 }
+    requires times { departure.earliest_out < 2 ^ 31 }
     requires nodes { AreNodes airport.now nodes.now }
     requires named { Contains nodes.now node }
-    requires left { IsLeftForAt (conditions_in_windows airport.now asked.class asked.clearance (windows_of store.now)) asked.from asked.earliest_out asked.latest_out begin node }
-    requires none_later { NoneLater (conditions_in_windows airport.now asked.class asked.clearance (windows_of store.now)) asked.from nodes.now asked.earliest_out asked.latest_out begin }
-    ensures { IfOk result (IsFirstByName airport.now nodes.now (IsLeftForAt (conditions_in_windows airport.now asked.class asked.clearance (windows_of store.now)) asked.from asked.earliest_out asked.latest_out begin)) }
+    requires left { IsLeftForAt (conditions_of_class airport.now departure.class (windows_of store.now)) departure.from departure.earliest_out departure.latest_out begin node }
+    requires none_later { NoneLater (conditions_of_class airport.now departure.class (windows_of store.now)) departure.from nodes.now departure.earliest_out departure.latest_out begin }
+    ensures { IfOk result (IsFirstByName airport.now nodes.now (IsLeftForAt (conditions_of_class airport.now departure.class (windows_of store.now)) departure.from departure.earliest_out departure.latest_out begin)) }
 {
     let before = named_before(alloc, airport, nodes, node)?;
     if before.is_empty() {
         return Ok(node);
     }
-    let found = find_among(alloc, room, airport, store, asked, &before)?;
+    let found = depart_to_one_of(alloc, room, airport, store, departure, &before)?;
     let Found::Route { steps, .. } = found else {
         return Ok(node);
     };
@@ -167,5 +107,7 @@ fn first_by_name(
         return Ok(node);
     }
     let other = node_at_end(airport, steps.as_slice());
-    first_by_name(alloc, room, airport, store, asked, &before, other, begin)
+    first_by_name(
+        alloc, room, airport, store, departure, &before, other, begin,
+    )
 }

@@ -1,5 +1,9 @@
 //! What a flight asks for, and what is answered.
-use crate::{Class, LabelRow, List, Name, Node, Segment, Step, Time};
+ghost use Rattle.std.specs.Prelude.{◌≡◌};
+ghost use Rattle.taxi_base.specs.Again.{retargeted};
+ghost use Rattle.taxi_base.specs.Reports.{kind_of_request};
+
+use crate::{Class, FlightKind, LabelRow, List, Memory, Name, Node, Segment, Step, Time};
 
 /// What a flight asked for. An arrival begins at `time` or up to `hold` seconds later; a departure reaches its node at `time` or up to
 /// `queue` seconds sooner.
@@ -18,6 +22,50 @@ pub enum Request {
         time: Time,
         queue: Time,
     },
+}
+
+impl Request {
+    /// How a flight with this request came to its route.
+    pub fn kind(&self) -> FlightKind
+        ensures { result ≡ kind_of_request self.now }
+    {
+        match self {
+            Request::Filed => FlightKind::Filed,
+            Request::Arrival { .. } => FlightKind::Arrival,
+            Request::Departure { .. } => FlightKind::Departure,
+        }
+    }
+
+    /// The same request for another node to reach; a route given by hand asks for none.
+    pub fn retargeted(self, to: Node) -> Request
+        ensures { result ≡ retargeted self to }
+    {
+        match self {
+            Request::Filed => Request::Filed,
+            Request::Arrival {
+                from,
+                time,
+                hold,
+                ..
+            } => Request::Arrival {
+                from,
+                to,
+                time,
+                hold,
+            },
+            Request::Departure {
+                from,
+                time,
+                queue,
+                ..
+            } => Request::Departure {
+                from,
+                to,
+                time,
+                queue,
+            },
+        }
+    }
 }
 
 /// A flight in force, with its route.
@@ -97,4 +145,15 @@ pub enum Refusal {
     Full,
     Step(StepFault),
     Memory,
+}
+
+impl From<Memory> for Refusal {
+    ghost use Rattle.std.specs.Prelude.{◌≡◌};
+    ghost use Rattle.taxi_base.specs.declared.answers.Refusal.TheVariants as refusal;
+
+    ghost from_gives = { λ _ why. why ≡ refusal.Memory };
+
+    fn from(_memory: Memory) -> Refusal {
+        Refusal::Memory
+    }
 }

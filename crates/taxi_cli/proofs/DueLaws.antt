@@ -10,7 +10,7 @@ use Rattle.schedule_import.specs.declared.import.ScheduleRefused.TheVariants as 
 use Rattle.schedule_import.specs.Schedule.{import_of}
 use Rattle.program_endings.specs.declared.status.Status.{Status}
 use Rattle.program_endings.specs.declared.status.Status.TheVariants as status
-use Rattle.program_words.specs.Asked.{FileNames, Traffic, Asked, Route, Check, Generate, Migrate, Import}
+use Rattle.program_words.specs.Verb.{FileNames, Traffic, Verb, Route, Check, Generate, Migrate, Import}
 use Rattle.program_files.specs.Inputs.{airport_limit, commands_limit, transcript_limit, IsJudged, AreAccepted, IsRefused, IsReadFault, IsRunTooLarge, IsTooLarge}
 use Rattle.text_verbs.specs.Texts.{IsImported}
 use Rattle.taxi_cli.specs.Outcomes.{IsDoneText, IsWrongText, IsScheduleRefusedText}
@@ -56,7 +56,7 @@ import-due : (files : Files) (names : FileNames) (outcome : Result (List ℕ) Wh
 import-due files names outcome due t holds =
     run-due files names t.airport t.schedule (OfImport due) due t.accepted (subst (λ (o : Result (List ℕ) WhyRefused). IsDueOfImport o due) (sym t.comes_to) holds)
 
-done-due : (files : Files) (asked : Asked) (text : List ℕ) → IsDoneText (Some files) asked text → IsDueOf files (Some asked) status.Done
+done-due : (files : Files) (asked : Verb) (text : List ℕ) → IsDoneText (Some files) asked text → IsDueOf files (Some asked) status.Done
 done-due files (Route names) text t = run-due files names t.airport t.commands (λ airport commands. status.Done ≡ status.Done) status.Done t.accepted refl
 done-due files (Check names transcript) text t =
     run-due files names t.airport t.commands (OfCheck files transcript status.Done) status.Done t.files.accepted
@@ -66,7 +66,7 @@ done-due files (Generate traffic) text t = refl
 done-due files (Migrate airport) text t = judged-due files airport (Ok t.airport) _ status.Done t.accepted refl
 done-due files (Import names) text t = import-due files names (Ok text) status.Done t refl
 
-wrong-due : (files : Files) (asked : Asked) (text : List ℕ) → IsWrongText (Some files) asked text → IsDueOf files (Some asked) status.Wrong
+wrong-due : (files : Files) (asked : Verb) (text : List ℕ) → IsWrongText (Some files) asked text → IsDueOf files (Some asked) status.Wrong
 wrong-due files (Route names) text t = absurd t
 wrong-due files (Check names transcript) text t =
     run-due files names t.airport t.commands (OfCheck files transcript status.Wrong) status.Wrong t.files.accepted
@@ -76,7 +76,7 @@ wrong-due files (Generate traffic) text t = absurd t
 wrong-due files (Migrate airport) text t = absurd t
 wrong-due files (Import names) text t = absurd t
 
-schedule-due : (files : Files) (asked : Asked) (text : List ℕ) → IsScheduleRefusedText (Some files) asked text → IsDueOf files (Some asked) status.ScheduleRefused
+schedule-due : (files : Files) (asked : Verb) (text : List ℕ) → IsScheduleRefusedText (Some files) asked text → IsDueOf files (Some asked) status.ScheduleRefused
 schedule-due files (Route names) text t = absurd t
 schedule-due files (Check names transcript) text t = absurd t
 schedule-due files (Generate traffic) text t = absurd t
@@ -84,14 +84,14 @@ schedule-due files (Migrate airport) text t = absurd t
 schedule-due files (Import names) text (inl t) = import-due files names (Err why.FirstRow) status.ScheduleRefused t.0 refl
 schedule-due files (Import names) text (inr t) = import-due files names (Err why.BadStart) status.ScheduleRefused t.0 refl
 
-refused-due : (files : Files) (asked : Asked) (fault : RecordFault) → IsRefused (Some files) asked fault → IsDueOf files (Some asked) status.AirportRefused
+refused-due : (files : Files) (asked : Verb) (fault : RecordFault) → IsRefused (Some files) asked fault → IsDueOf files (Some asked) status.AirportRefused
 refused-due files (Route names) fault judged = judged-due files names.airport (Err fault) _ status.AirportRefused judged refl
 refused-due files (Check names transcript) fault judged = judged-due files names.airport (Err fault) _ status.AirportRefused judged refl
 refused-due files (Generate traffic) fault judged = absurd judged
 refused-due files (Migrate airport) fault judged = judged-due files airport (Err fault) _ status.AirportRefused judged refl
 refused-due files (Import names) fault judged = judged-due files names.airport (Err fault) _ status.AirportRefused judged refl
 
-too_large-due : (files : Files) (asked : Asked) → IsTooLarge (Some files) asked → IsDueOf files (Some asked) status.TooLarge
+too_large-due : (files : Files) (asked : Verb) → IsTooLarge (Some files) asked → IsDueOf files (Some asked) status.TooLarge
 too_large-due files (Route names) large = run-large files names (λ airport commands. status.TooLarge ≡ status.Done) large
 too_large-due files (Check names transcript) (inl large) = run-large files names (OfCheck files transcript status.TooLarge) large
 too_large-due files (Check names transcript) (inr (airport, commands, accepted, longer)) =
@@ -101,7 +101,7 @@ too_large-due files (Generate traffic) large = absurd large
 too_large-due files (Migrate airport) longer = longer-due files airport airport_limit _ longer
 too_large-due files (Import names) large = run-large files names (OfImport status.TooLarge) large
 
-fault-rose : (asked : Asked) (reads : ℕ × ℕ) → IsReadFault asked reads → Rose reads.0 reads.1
+fault-rose : (asked : Verb) (reads : ℕ × ℕ) → IsReadFault asked reads → Rose reads.0 reads.1
 fault-rose (Route names) reads rose = rose
 fault-rose (Check names transcript) reads rose = rose
 fault-rose (Generate traffic) reads rose = absurd rose
@@ -109,7 +109,7 @@ fault-rose (Migrate airport) reads rose = rose
 fault-rose (Import names) reads rose = rose
 
 -- a file is too large where the line is told that says so
-pub large-is : (told : Option Files) (asked : Asked) (text : List ℕ) → IsLargeText told asked text → IsTooLarge told asked
+pub large-is : (told : Option Files) (asked : Verb) (text : List ℕ) → IsLargeText told asked text → IsTooLarge told asked
 large-is told (Route names) text (inl large) = inl large.0
 large-is told (Route names) text (inr (file, is_file, longer, halted)) = inr (halted.airport, halted.accepted, (file, is_file, longer))
 large-is told (Check names transcript) text large = large.0
@@ -118,7 +118,7 @@ large-is told (Migrate airport) text large = large.0
 large-is told (Import names) text large = large.0
 
 -- a call that ends where no fault was counted ends with the status that is due, but for want of memory
-pub due-is : (call : Call) (files : Files) (asked : Option Asked) (ended : Status) → call.files ≡ Some files → Ends call asked ended
+pub due-is : (call : Call) (files : Files) (asked : Option Verb) (ended : Status) → call.files ≡ Some files → Ends call asked ended
     → (Rose call.reads.0 call.reads.1 → ⊥) → (Rose call.writes.0 call.writes.1 → ⊥) → IsDueOf files asked ended ⊎ (ended ≡ status.Memory)
 due-is call files None status.Usage told ends no_read no_write = inl refl
 due-is call files None status.Done told ends no_read no_write = absurd ends.1

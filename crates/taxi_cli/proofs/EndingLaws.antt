@@ -1,12 +1,15 @@
 -- How a call ends whose text was to be written.
-use Rattle.std.proofs.Common.{◌≡◌, inl, inr, ℕ, List, Option, Some, Result, Ok, Err, refl, sym, ◌∙◌, ap, subst}
+use Rattle.std.proofs.Common.{◌≡◌, inl, inr, ℕ, List, Option, Some, Result, Ok, Err, OnOk, OnErr, IsErrOf, refl, sym, ◌∙◌, ap, subst}
 use Rattle.taxi_base.specs.Airport.{Airport}
 use Rattle.taxi_text.specs.Lines.{commands_of}
+use Rattle.taxi_io.specs.Counts.{Rose}
+use Rattle.taxi_io.specs.Written.{Grew, GrewInPart}
 use Rattle.taxi_io.specs.declared.trouble.Trouble.{Trouble}
 use Rattle.taxi_io.specs.declared.trouble.Trouble.TheVariants as trouble
 use Rattle.program_endings.specs.declared.status.Status.{Status}
 use Rattle.program_endings.specs.declared.status.Status.TheVariants.{Done, Usage, AirportRefused, ReadFault, WriteFault, Memory, TooLarge, Wrong, ScheduleRefused}
 use Rattle.taxi_io.proofs.Pieces.{grew-nothing}
+use Rattle.command_run.specs.Answered.{Outputs}
 use Rattle.program_files.specs.Lines.{refusal_line}
 use Rattle.program_endings.specs.Lines.{read_fault_line, too_large_line}
 use Rattle.taxi_cli.specs.Lines.{ok_line, wrong_line}
@@ -14,11 +17,11 @@ use Rattle.transcripts.specs.Runs.{transcript}
 use Rattle.taxi_io.specs.Files.{Files}
 use Rattle.program_files.specs.Stops.{IsCause, StopsWith, IsReadEnd}
 use Rattle.text_verbs.specs.Texts.{IsMigrateText, IsImportText}
-use Rattle.program_words.specs.declared.words.Asked.{Asked as LentAsked}
+use Rattle.program_words.specs.declared.words.Verb.{Verb as LentAsked}
 use Rattle.program_words.specs.LentWords.{asked_for, asked_as}
 use Rattle.program_files.specs.declared.stop.Stop.{Stop}
 use Rattle.program_files.specs.declared.stop.Stop.TheVariants as stop
-use Rattle.program_words.specs.Asked.{FileNames, Traffic, Asked, Route, Check, Generate, Migrate, Import, asked_by}
+use Rattle.program_words.specs.Verb.{FileNames, Traffic, Verb, Route, Check, Generate, Migrate, Import, asked_by}
 use Rattle.generated_run.specs.declared.summary.Summary.{Summary}
 use Rattle.generated_run.specs.Summaries.{IsSummary, six_lines}
 use Rattle.transcript_check.specs.declared.failure.Failure.{Failure}
@@ -29,20 +32,29 @@ use Rattle.taxi_cli.specs.Halts.{IsFaultText, IsLargeText}
 use Rattle.taxi_cli.specs.Endings.{Call, IsDueText, IsWhole, Ends}
 use Rattle.program_endings.specs.LastLine.{status_after, IsWriting, EndsWith}
 
+-- what is true of the writing of a text, whatever pieces it came in
+pub record IsTaken (text : List ℕ) (faults : ℕ × ℕ) (taken : Outputs) (written : Result (Unit {0}) Trouble) : Type 0 where
+  pub whole : OnOk written (Grew taken.0 taken.1 text)
+  pub front : OnErr written (GrewInPart taken.0 taken.1 text)
+  pub failed : IsErrOf written trouble.Failed → Rose faults.0 faults.1
+
+pub writing-taken : (text : List ℕ) (faults : ℕ × ℕ) (taken : Outputs) (written : Result (Unit {0}) Trouble) → IsWriting text faults taken written → IsTaken text faults taken written
+writing-taken text faults taken written writing = record { whole = writing.whole; front = writing.front; failed = writing.failed }
+
 -- the writing of the text that is due ends the call
-pub writing-ends : (call : Call) (asked : Option Asked) (whole : Status) (text : List ℕ) (written : Result (Unit {0}) Trouble)
-    → IsDueText call asked whole text → IsWriting text call.writes call.taken written → (IsWhole call asked whole → Ends call asked whole)
+pub writing-ends : (call : Call) (asked : Option Verb) (whole : Status) (text : List ℕ) (written : Result (Unit {0}) Trouble)
+    → IsDueText call asked whole text → IsTaken text call.writes call.taken written → (IsWhole call asked whole → Ends call asked whole)
     → Ends call asked (status_after written whole)
 writing-ends call asked whole text (Ok done) due writing ends = ends (text, due, writing.whole)
 writing-ends call asked whole text (Err trouble.Failed) due writing ends = (writing.failed refl, (whole, text, due, writing.front))
 writing-ends call asked whole text (Err trouble.Memory) due writing ends = inr (whole, text, due, writing.front)
 
 -- the same, where the writing of a line decided the status, and the line is the text that is due
-pub last-ends : (call : Call) (asked : Option Asked) (whole : Status) (text line : List ℕ) (status : Status)
+pub last-ends : (call : Call) (asked : Option Verb) (whole : Status) (text line : List ℕ) (status : Status)
     → IsDueText call asked whole text → line ≡ text → EndsWith line whole call.writes call.taken status → (IsWhole call asked whole → Ends call asked whole)
     → Ends call asked status
 last-ends call asked whole text line status due same ends as_whole =
-    rw ends.2 (writing-ends call asked whole line ends.0 (rw same due) ends.1 as_whole)
+    rw ends.2 (writing-ends call asked whole line ends.0 (rw same due) (writing-taken line call.writes call.taken ends.0 ends.1) as_whole)
 
 -- the writing of what a check finds ends the call
 pub right-ends : (call : Call) (names : FileNames) (transcript : List ℕ) (airport : Airport) (commands bytes : List ℕ) (count : ℕ) (line : List ℕ) (status : Status)
@@ -79,18 +91,18 @@ generate-ends call traffic summary line status comes_to same ends =
     (record { summary = summary; comes_to = comes_to; whole = refl }) same ends (λ whole. whole)
 
 -- a verb whose files are read whole before anything is written
-abbrev pub ReadsWhole : Asked → Type 0
+abbrev pub ReadsWhole : Verb → Type 0
 ReadsWhole (Route names) = ⊥
 ReadsWhole asked = Unit {0}
 
-fault-line : (told : Option Files) (asked : Asked) → IsFaultText told asked read_fault_line
+fault-line : (told : Option Files) (asked : Verb) → IsFaultText told asked read_fault_line
 fault-line told (Route names) = inl refl
 fault-line told (Check names transcript) = refl
 fault-line told (Generate traffic) = refl
 fault-line told (Migrate airport) = refl
 fault-line told (Import names) = refl
 
-large-line : (told : Option Files) (asked : Asked) → ReadsWhole asked → IsTooLarge told asked → IsLargeText told asked too_large_line
+large-line : (told : Option Files) (asked : Verb) → ReadsWhole asked → IsTooLarge told asked → IsLargeText told asked too_large_line
 large-line told (Route names) whole large = absurd whole
 large-line told (Check names transcript) whole large = (large, refl)
 large-line told (Generate traffic) whole large = absurd large
@@ -98,7 +110,7 @@ large-line told (Migrate airport) whole large = (large, refl)
 large-line told (Import names) whole large = (large, refl)
 
 -- what stopped the reading ends the call
-pub stop-ends : (call : Call) (asked : Asked) (why : Stop) (status : Status) → ReadsWhole asked
+pub stop-ends : (call : Call) (asked : Verb) (why : Stop) (status : Status) → ReadsWhole asked
     → IsCause call.files asked call.reads why → StopsWith why call.writes call.taken status → Ends call (Some asked) status
 stop-ends call asked (stop.Refused at why) status whole cause stops =
     last-ends call (Some asked) AirportRefused (refusal_line (record { at = at; why = why })) _ status (record { at = at; why = why }, cause, refl) refl stops (λ whole. whole)
@@ -137,13 +149,13 @@ import-ends call names status (inr (TooLarge, text, is, ends)) = absurd is
 import-ends call names status (inr (Wrong, text, is, ends)) = absurd is
 
 -- how a call ends for what the words ask for
-pub asked-ends : (call : Call) (words : List (List ℕ)) (lent : LentAsked) (asked : Asked) (status : Status)
+pub asked-ends : (call : Call) (words : List (List ℕ)) (lent : LentAsked) (asked : Verb) (status : Status)
     → asked_as (Some lent) ≡ asked_by words → asked_for lent ≡ asked → Ends call (Some asked) status → Ends call (asked_by words) status
 asked-ends call words lent asked status by same ends =
-    subst (λ (o : Option Asked). Ends call o status) (ap (λ (a : Asked). Some a) (sym same) ∙ by) ends
+    subst (λ (o : Option Verb). Ends call o status) (ap (λ (a : Verb). Some a) (sym same) ∙ by) ends
 
 -- the words ask for one thing
-pub one-asked : (words : List (List ℕ)) (lent : LentAsked) (asked other : Asked) → asked_as (Some lent) ≡ asked_by words → asked_for lent ≡ asked
+pub one-asked : (words : List (List ℕ)) (lent : LentAsked) (asked other : Verb) → asked_as (Some lent) ≡ asked_by words → asked_for lent ≡ asked
     → asked_by words ≡ Some other → asked ≡ other
 one-asked words lent asked other by same is =
     let one : Some (asked_for lent) ≡ Some other = by ∙ is in

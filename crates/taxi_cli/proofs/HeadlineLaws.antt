@@ -1,6 +1,8 @@
 -- From runs to the headline.
 use Rattle.std.proofs.Common.{◌≡◌, ◌≤◌, ◌↔◌, ◌⊎◌, inl, inr, ◌∷◌, ◌∙◌, [], ℕ, List, length, All, Option, Some, None, option_and_then, Result, Ok, Err, refl, sym, ap, subst, arith}
-use Rattle.std.proofs.lemmas.List.Elements.{All-cons, All-nil}
+use Rattle.std.specs.Prelude.{⊤}
+use Rattle.std.specs.Option.{option_map_or}
+use Rattle.std.proofs.lemmas.List.Elements.{All-cons, All-nil, All-head}
 use Rattle.std.proofs.lemmas.List.{length-append}
 use Rattle.taxi_base.specs.declared.answers.Request.{Request}
 use Rattle.taxi_base.specs.declared.answers.Request.TheVariants as request
@@ -25,21 +27,23 @@ use Rattle.certificate.specs.Printable.{IsPrintable}
 use Rattle.certificate.specs.CarriedOut.{second_of}
 use Rattle.certificate.specs.Refusals.{first_refusal}
 use Rattle.certificate.specs.Replies.{IsAnswered, HaveNames}
-use Rattle.certificate.specs.Passes.{KeepsReply, IsOfDueForm, IsFormOf, TellsBest}
+use Rattle.certificate.specs.Passes.{KeepsReply, IsOfDueForm, IsFormOf, IsBestTold}
 use Rattle.certificate.specs.declared.rule.Rule.TheVariants as rule
 use Rattle.certificate.specs.Sought.{Sought, sought_of, sought_by, IsWalkFor}
+use Rattle.certificate.specs.Turns.{Turn, turns_of}
 use Rattle.certificate.proofs.PassLaws.{reply-passes}
 use Rattle.certificate.proofs.BestLaws.{passed-best}
+use Rattle.certificate.proofs.TurnLaws.{all-one, one_turn}
 use Rattle.program_endings.specs.declared.status.Status.{Status}
 use Rattle.program_endings.specs.declared.status.Status.TheVariants as status
-use Rattle.program_words.specs.Asked.{FileNames, Asked, Route}
+use Rattle.program_words.specs.Verb.{FileNames, Verb, Route}
 use Rattle.transcripts.specs.Runs.{InTurn, IsRun, blocks_text, done_line, transcript}
 use Rattle.transcript_check.specs.Checks.{IsPassedRun}
 use Rattle.taxi_cli.proofs.DueLaws.{large-is}
 use Rattle.program_files.specs.Inputs.{airport_limit, commands_limit, IsJudged, AreAccepted, IsRunTooLarge}
 use Rattle.taxi_cli.specs.Outcomes.{IsTranscript}
 use Rattle.taxi_cli.specs.Endings.{Call, IsDueText, IsCutShort, Ends}
-use Rattle.taxi_cli.specs.Headline.{TellsNoRoute, IsBestWalk, AnswersCommand, AnswersAll, IsWholeAnswer, Headline}
+use Rattle.taxi_cli.specs.Headline.{IsBestWalk, AnswersSearch, AnswersCommand, AnswersAll, IsWholeAnswer, Headline}
 use Rattle.transcripts.proofs.RunLaws.{none-sound, run-over}
 
 -- ---- one command
@@ -54,43 +58,50 @@ best-walk request.Filed IsOne second steps best told = absurd best
 best-walk (request.Arrival from to asked hold) IsOne second steps best told = (best, told)
 best-walk (request.Departure from to asked queue) IsOne second steps best told = (best, told)
 
-sought-command : (airport : Airport) (state : State) (o : Option Command) (s : Sought) → option_and_then (sought_of airport state) o ≡ Some s
-    → (command : Command) × (o ≡ Some command) × (sought_of airport state command ≡ Some s)
-sought-command airport state (Some command) s e = (command, refl, e)
-sought-command airport state None s e = absurd (cc)
+-- a route, told by any words, is best
+abbrev IsBestRoute : Sought → Block → Type 0
+IsBestRoute s (block.Route name second steps labels) = IsBestWalk s.request (IsWalkFor s) second steps
+IsBestRoute s _ = ⊤
 
-route-best : (airport : Airport) (state : State) (line : List ℕ) (b : Block) → TellsBest airport state line b
-    → (name : List ℕ) (second : ℕ) (steps : List Step) (labels : List LabelRow) → b ≡ block.Route name second steps labels
-    → (command : Command) × (sought : Sought) × (command_of line ≡ Some command) × (sought_of airport state command ≡ Some sought) × IsBestWalk sought.request (IsWalkFor sought) second steps
-route-best airport state line b best name second steps labels is =
-    let told : TellsBest airport state line (block.Route name second steps labels) = subst (TellsBest airport state line) is best in
-    let found = sought-command airport state (command_of line) told.0 told.1 in
-    (found.0, told.0, found.1, found.2, best-walk told.0.request (IsWalkFor told.0) second steps told.2 told.3)
+route-answers : (s : Sought) (name : List ℕ) (second : ℕ) (steps : List Step) (labels : List LabelRow) → IsBestTold s (block.Route name second steps labels)
+    → AnswersSearch (record { sought = s; told = block.Route name second steps labels })
+route-answers s name second steps labels best = record {
+  best = λ other time walk rows is. subst (λ (b : Block). IsBestRoute s b) is (best-walk s.request (IsWalkFor s) second steps best.0 best.1);
+  no_route = (λ none. absurd none, λ none. absurd (none steps (best-one s.request (IsWalkFor s) steps best.0)));
+}
 
--- the walks that the line seeks are those that its command seeks
-same-sought : (airport : Airport) (state : State) (line : List ℕ) (command : Command) (s t : Sought) → command_of line ≡ Some command
-    → sought_of airport state command ≡ Some s → sought_by airport state line ≡ Some t → t ≡ s
-same-sought airport state line command s t read is by =
-    let one : sought_by airport state line ≡ sought_of airport state command = ap (option_and_then (sought_of airport state)) read in
-    cc
+none-answers : (s : Sought) (labels : List LabelRow) → IsBestTold s (block.NoRoute labels) → AnswersSearch (record { sought = s; told = block.NoRoute labels })
+none-answers s labels best = record {
+  best = λ other time walk rows is. absurd (cc is);
+  no_route = (λ told. best, λ none. tt);
+}
+
+-- what is told of the searches is best, so each is answered
+abbrev IsBestTurn : Turn → Type 0
+IsBestTurn turn = IsBestTold turn.sought turn.told
+
+abbrev turns_by : Block → Option Sought → List Turn
+turns_by told o = option_map_or (λ s. record { sought = s; told = told } ∷ []) o []
+
+searches-answered : (airport : Airport) (state : State) (line : List ℕ) (b : Block) → All IsBestTurn (turns_of airport state line b) → All AnswersSearch (turns_of airport state line b)
+searches-answered airport state line b best = go b best where
+  of_one : (told : Block) → ((s : Sought) → IsBestTold s told → AnswersSearch (record { sought = s; told = told })) → (o : Option Sought) → All IsBestTurn (turns_by told o) → All AnswersSearch (turns_by told o)
+  of_one told each None best = All-nil AnswersSearch
+  of_one told each (Some s) best = all-one AnswersSearch (record { sought = s; told = told }) (each s (All-head IsBestTurn (record { sought = s; told = told }) [] best))
+
+  go : (b : Block) → All IsBestTurn (turns_of airport state line b) → All AnswersSearch (turns_of airport state line b)
+  go (block.Route name second steps labels) best = of_one (block.Route name second steps labels) (λ s. route-answers s name second steps labels) (sought_by airport state line) best
+  go (block.NoRoute labels) best = of_one (block.NoRoute labels) (λ s. none-answers s labels) (sought_by airport state line) best
+  go (block.Refused why) best = All-nil AnswersSearch
+  go (block.Filed name start end) best = All-nil AnswersSearch
+  go (block.Cancelled name) best = All-nil AnswersSearch
+  go (block.Windows segment windows) best = All-nil AnswersSearch
+  go (block.Occupancy segment held) best = All-nil AnswersSearch
+  go (block.Timetable flights) best = All-nil AnswersSearch
 
 due-form : (airport : Airport) (state : State) (line : List ℕ) (command : Command) (s : Sought) (b : Block) → command_of line ≡ Some command
     → first_refusal airport state command ≡ None → sought_of airport state command ≡ Some s → IsOfDueForm airport state line b → IsFormOf s b
 due-form airport state line command s b read none is form = rw is at (rw none at (rw read at form))
-
-no_route-is : (airport : Airport) (state : State) (line : List ℕ) (command : Command) (s : Sought) (b : Block) → command_of line ≡ Some command
-    → sought_of airport state command ≡ Some s → IsFormOf s b → TellsBest airport state line b → TellsNoRoute b ↔ ((steps : List Step) → IsWalkFor s steps → ⊥)
-no_route-is airport state line command s (block.Route name second steps labels) read is form best = (
-  λ none. absurd none,
-  λ none. let same = same-sought airport state line command s best.0 read is best.1 in
-      absurd (none steps (subst (λ (t : Sought). IsWalkFor t steps) same (best-one best.0.request (IsWalkFor best.0) steps best.2))),
-)
-no_route-is airport state line command s (block.NoRoute labels) read is form best = (
-  λ told. let same = same-sought airport state line command s best.0 read is best.1 in
-      λ steps walk. best.2 steps (subst (λ (t : Sought). IsWalkFor t steps) (sym same) walk),
-  λ none. tt,
-)
-no_route-is airport state line command s b read is form best = absurd form
 
 answers-command : (airport : Airport) (state : State) (line : List ℕ) (b : Block) (after : State) → IsWellFormed airport → IsSound airport state
     → IsAnswered airport state line b after → AnswersCommand airport state line b after
@@ -99,16 +110,18 @@ answers-command airport state line b after well sound answered =
     let best = passed-best airport state well sound line b after passed in
     record {
       answers = answered.reply;
-      best = route-best airport state line b best;
-      no_route = λ command read none s is memory. keeps command read none s is memory (passed.keeps rule.Reply) best;
+      searches = searches-answered airport state line b best.best;
+      all_told = best.all_told;
+      searched = λ command read none s is memory. searched command read none s is memory (passed.keeps rule.Reply);
       clash_free = answered.clash_free;
       passes = passed;
     }
   where
-    keeps : (command : Command) → command_of line ≡ Some command → first_refusal airport state command ≡ None → (s : Sought) → sought_of airport state command ≡ Some s
-        → (b ≡ block.Refused refusal.Memory → ⊥) → KeepsReply airport state line b → TellsBest airport state line b → TellsNoRoute b ↔ ((steps : List Step) → IsWalkFor s steps → ⊥)
-    keeps command read none s is memory (inl want) best = absurd (memory want.1)
-    keeps command read none s is memory (inr form) best = no_route-is airport state line command s b read is (due-form airport state line command s b read none is form) best
+    searched : (command : Command) → command_of line ≡ Some command → first_refusal airport state command ≡ None → (s : Sought) → sought_of airport state command ≡ Some s
+        → (b ≡ block.Refused refusal.Memory → ⊥) → KeepsReply airport state line b → turns_of airport state line b ≡ record { sought = s; told = b } ∷ []
+    searched command read none s is memory (inl want) = absurd (memory want.1)
+    searched command read none s is memory (inr form) =
+        one_turn airport state line s (ap (option_and_then (sought_of airport state)) read ∙ is) b (due-form airport state line command s b read none is form)
 
 -- ---- a run
 
@@ -259,5 +272,5 @@ headline-is call names ended ends = record {
 }
 
 -- the same for words that ask for a run
-pub headline-asked : (call : Call) (asked : Option Asked) (names : FileNames) (ended : Status) → Ends call asked ended → asked ≡ Some (Route names) → Headline call names ended
-headline-asked call asked names ended ends is = headline-is call names ended (subst (λ (a : Option Asked). Ends call a ended) is ends)
+pub headline-asked : (call : Call) (asked : Option Verb) (names : FileNames) (ended : Status) → Ends call asked ended → asked ≡ Some (Route names) → Headline call names ended
+headline-asked call asked names ended ends is = headline-is call names ended (subst (λ (a : Option Verb). Ends call a ended) is ends)

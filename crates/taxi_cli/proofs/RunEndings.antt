@@ -1,30 +1,31 @@
 -- How a run ends: what was due of it where it came to the end of its command file, where it was halted, and where it was cut short.
-use Rattle.std.proofs.Common.{◌≡◌, ◌<◌, ◌≤◌, ◌++◌, ◌∷◌, ◌∙◌, [], inl, inr, ℕ, List, Bool, true, false, cond, Option, Some, None, Result, Ok, Err, OnOk, OnErr, length, take, option_map, unwrap_or, nat_lt, refl, sym, ap, subst, append_assoc, append-nil, arith}
+use Rattle.std.proofs.Common.{◌≡◌, ◌==◌, ◌<◌, ◌≤◌, ◌++◌, ◌∷◌, ◌∙◌, [], inl, inr, ℕ, List, Bool, true, false, cond, Option, Some, None, Result, Ok, Err, OnOk, OnErr, length, take, option_map, unwrap_or, nat_lt, refl, sym, ap, subst, append_assoc, append-nil, arith}
 use Rattle.std.proofs.lemmas.Bool.{ltb-true, ltb-false}
-use Rattle.std.proofs.lemmas.List.{length-append, take_all, take-append-le}
+use Rattle.std.specs.List.{count_by}
+use Rattle.std.proofs.lemmas.List.{length-append, take_all, take-append-le, take-append-drop}
 use Rattle.std.proofs.KnownBytes.{prepend_known-nil}
 use Rattle.taxi_base.specs.Airport.{Airport}
-use Rattle.taxi_base.specs.State.{no_holder}
+use Rattle.taxi_base.specs.State.{State, no_holder}
 use Rattle.taxi_text.specs.Lines.{commands_of, lines_of}
 use Rattle.taxi_io.specs.Counts.{Rose}
 use Rattle.taxi_io.specs.Files.{Files, IsFile, IsLonger, Begins, BeganMore, Gave}
-use Rattle.taxi_io.specs.Written.{Grew, GrewInPart}
+use Rattle.taxi_io.specs.Written.{Output, Grew, GrewInPart, AreHanded, AreHandedInPart}
 use Rattle.taxi_io.specs.declared.trouble.Trouble.{Trouble}
 use Rattle.taxi_io.specs.declared.trouble.Trouble.TheVariants as trouble
-use Rattle.taxi_io.proofs.Pieces.{grew-nothing, grew-more}
+use Rattle.taxi_io.proofs.Pieces.{grew-nothing, grew-more, handed-nothing, handed-on, handed-all, handed-longer}
 use Rattle.certificate.specs.declared.block.Block.{Block}
 use Rattle.transcripts.specs.Runs.{IsRun, blocks_text, done_line, transcript}
 use Rattle.command_run.specs.declared.refused.RunRefused.{RunRefused}
 use Rattle.command_run.specs.declared.refused.RunRefused.TheVariants as refused
-use Rattle.command_run.specs.Ended.{ended_lines_of, ended_commands_of, commands_among}
-use Rattle.command_run.specs.Answered.{Told, AreLeft, AreAnswered, IsWholeRun, IsHaltedRun, IsCutRun, IsPrompt, IsStopped}
-use Rattle.command_run.proofs.Reading.{among-append, ended-first}
+use Rattle.command_run.specs.Ended.{ended_lines_of, unended_lines_of, ended_commands_of, commands_among, commands_within}
+use Rattle.command_run.specs.Answered.{Told, Outputs, AreLeft, texts_of, AreAnswered, IsWholeRun, IsHaltedRun, IsCutRun, IsPrompt, IsStopped}
+use Rattle.command_run.proofs.Reading.{among-append}
 use Rattle.command_run.proofs.SoFar.{none-answered}
 use Rattle.program_files.specs.declared.stop.Stop.{Stop}
 use Rattle.program_files.specs.declared.stop.Stop.TheVariants as stop
 use Rattle.program_endings.specs.declared.status.Status.{Status}
 use Rattle.program_endings.specs.declared.status.Status.TheVariants as status
-use Rattle.program_words.specs.Asked.{FileNames, Route}
+use Rattle.program_words.specs.Verb.{FileNames, Route}
 use Rattle.program_files.specs.Inputs.{airport_limit, commands_limit, IsJudged}
 use Rattle.program_files.specs.Lines.{refusal_line}
 use Rattle.program_endings.specs.Lines.{read_fault_line, too_large_line}
@@ -32,19 +33,20 @@ use Rattle.taxi_cli.specs.Endings.{Call, IsDueText, IsWhole, IsCutShort, Ends}
 use Rattle.program_endings.specs.LastLine.{status_after, IsWriting, EndsWith}
 use Rattle.program_files.specs.Stops.{IsCauseOfAirport, StopsWith, IsCauseOfBegin}
 use Rattle.taxi_cli.specs.RunEnds.{HaltsWith, HasOutcome, IsRunEnd}
-use Rattle.taxi_cli.specs.Pace.{HaveBegun, bytes_told, left_of, commands_left, IsHalted, IsCaughtUp, IsCutInStep, KeepsPace, KeepsPaceOnceBegun}
-use Rattle.taxi_cli.proofs.EndingLaws.{writing-ends, last-ends}
+use Rattle.taxi_cli.specs.Handed.{AreRunTexts, IsInPieces}
+use Rattle.taxi_cli.specs.Pace.{HaveBegun, HaveBegunFirst, bytes_told, left_of, commands_left, IsHalted, IsCaughtUp, KeepsPace, EndsBeforeCommands}
+use Rattle.taxi_cli.proofs.EndingLaws.{IsTaken, writing-ends, last-ends}
 use Rattle.taxi_cli.proofs.HeadlineLaws.{one-judgement, not-longer}
 
 -- ---- what is written behind blocks
 
-front-behind : (before now then : Option (List ℕ)) (done line : List ℕ) → Grew before now done → GrewInPart now then line → GrewInPart before then (done ++ line)
+front-behind : (before now then : Output) (done line : List ℕ) → Grew before now done → GrewInPart now then line → GrewInPart before then (done ++ line)
 front-behind before now then done line grew front =
     (done ++ front.0, front.1, append_assoc done front.0 front.1 ∙ ap (λ (l : List ℕ). done ++ l) front.2, front.3, grew-more before now then done front.0 grew front.4)
 
 -- a line is written behind a text that was written whole
-writing-behind : (done line : List ℕ) (before between after : ℕ) (old now then : Option (List ℕ)) (written : Result (Unit {0}) Trouble) → before ≤ between
-    → Grew old now done → IsWriting line (between, after) (now, then) written → IsWriting (done ++ line) (before, after) (old, then) written
+writing-behind : (done line : List ℕ) (before between after : ℕ) (old now then : Output) (written : Result (Unit {0}) Trouble) → before ≤ between
+    → Grew old now done → IsWriting line (between, after) (now, then) written → IsTaken (done ++ line) (before, after) (old, then) written
 writing-behind done line before between after old now then written later grew writing = record {
   whole = on_ok written writing.whole;
   front = on_err written writing.front;
@@ -78,7 +80,7 @@ taken-file (Some files) name rest (Some more) taken begins gave =
     let same : begins.0 ≡ taken ++ more = cc (begins.2, gave) in (more, begins.1 ∙ ap (λ (b : List ℕ). Some b) same)
 
 -- a front of a text, and what is behind it, is a front of the text with a line
-front-of : (old now : Option (List ℕ)) (front behind text line : List ℕ) → front ++ behind ≡ text → 0 < length line → Grew old now front → GrewInPart old now (text ++ line)
+front-of : (old now : Output) (front behind text line : List ℕ) → front ++ behind ≡ text → 0 < length line → Grew old now front → GrewInPart old now (text ++ line)
 front-of old now front behind text line split some grew = (
   front,
   behind ++ line,
@@ -89,7 +91,7 @@ front-of old now front behind text line split some grew = (
 
 -- ---- what the last line says of the status
 
-other-status : (line : List ℕ) (whole ended other : Status) (faults : ℕ × ℕ) (taken : Told) → EndsWith line whole faults taken ended → ended ≡ other
+other-status : (line : List ℕ) (whole ended other : Status) (faults : ℕ × ℕ) (taken : Outputs) → EndsWith line whole faults taken ended → ended ≡ other
     → (whole ≡ other → ⊥) → (status.WriteFault ≡ other → ⊥) → (status.Memory ≡ other → ⊥) → ⊥
 other-status line whole ended other faults taken ends is no_whole no_fault no_memory = go ends.0 (sym ends.2 ∙ is) where
   go : (written : Result (Unit {0}) Trouble) → status_after written whole ≡ other → ⊥
@@ -98,7 +100,7 @@ other-status line whole ended other faults taken ends is no_whole no_fault no_me
   go (Err trouble.Memory) same = no_memory same
 
 -- the line is written whole
-line-told : (line : List ℕ) (whole ended : Status) (faults : ℕ × ℕ) (taken : Told) → EndsWith line whole faults taken ended → ended ≡ whole
+line-told : (line : List ℕ) (whole ended : Status) (faults : ℕ × ℕ) (taken : Outputs) → EndsWith line whole faults taken ended → ended ≡ whole
     → (status.WriteFault ≡ whole → ⊥) → (status.Memory ≡ whole → ⊥) → Grew taken.0 taken.1 line
 line-told line whole ended faults taken ends is no_fault no_memory = go ends.0 (sym ends.2 ∙ is) ends.1 where
   go : (written : Result (Unit {0}) Trouble) → status_after written whole ≡ whole → IsWriting line faults taken written → Grew taken.0 taken.1 line
@@ -107,7 +109,7 @@ line-told line whole ended faults taken ends is no_fault no_memory = go ends.0 (
   go (Err trouble.Memory) same writing = absurd (no_memory same)
 
 -- a front of it is written, and not the whole
-front-told : (line : List ℕ) (whole ended : Status) (faults : ℕ × ℕ) (taken : Told) → EndsWith line whole faults taken ended → ended ≡ status.WriteFault
+front-told : (line : List ℕ) (whole ended : Status) (faults : ℕ × ℕ) (taken : Outputs) → EndsWith line whole faults taken ended → ended ≡ status.WriteFault
     → (whole ≡ status.WriteFault → ⊥) → GrewInPart taken.0 taken.1 line
 front-told line whole ended faults taken ends is no_whole = go ends.0 (sym ends.2 ∙ is) ends.1 where
   go : (written : Result (Unit {0}) Trouble) → status_after written whole ≡ status.WriteFault → IsWriting line faults taken written → GrewInPart taken.0 taken.1 line
@@ -138,15 +140,18 @@ begin-ends call names stop.ReadFault ended before cause later stops =
     let rose : Rose call.reads.0 call.reads.1 = omega (arith, cause, later) in
     last-ends call (Some (Route names)) status.ReadFault read_fault_line _ ended (rose, inl refl) refl stops (λ whole. whole)
 
+-- more names were tried than others
+pub other-names : (before after names others : List (List ℕ)) → BeganMore before after names → BeganMore before after others → (length names ≡ length others → ⊥) → ⊥
+other-names before after names others one other apart =
+    let l : length (before ++ names) ≡ length (before ++ others) = ap length (sym one ∙ other) in
+    let m = length-append before names in
+    let n = length-append before others in
+    apart (omega (arith, l, m, n))
+
 -- only the airport file was tried
-pub not-begun : (names : FileNames) (before after : Option (List (List ℕ))) → BeganMore before after (names.airport ∷ []) → HaveBegun names before after → ⊥
-not-begun names before after began both =
-    let one : after ≡ Some (both.0 ++ names.airport ∷ []) = began ∙ ap (option_map (λ all. all ++ names.airport ∷ [])) both.1 in
-    let same : both.0 ++ names.airport ∷ names.commands ∷ [] ≡ both.0 ++ names.airport ∷ [] = cc (one, both.2) in
-    let l = ap length same in
-    let m = length-append both.0 (names.airport ∷ names.commands ∷ []) in
-    let n = length-append both.0 (names.airport ∷ []) in
-    omega (arith, l, m, n)
+pub not-begun : (names : FileNames) (before after : List (List ℕ)) → HaveBegunFirst names before after → HaveBegun names before after → ⊥
+not-begun names before after first both =
+    other-names before after (names.airport ∷ []) (names.airport ∷ names.commands ∷ []) first both (λ e. cc e)
 
 -- ---- where memory runs out
 
@@ -159,7 +164,7 @@ memory-pace call names left ended is = record {
 
 -- ---- a run at an accepted airport, over the command file that was begun
 
-module _ (call : Call) (names : FileNames) (airport : Airport) (accepted : IsJudged call.files names.airport (Ok airport)) (rest left between : Option (List ℕ)) where
+module _ (call : Call) (names : FileNames) (airport : Airport) (accepted : IsJudged call.files names.airport (Ok airport)) (rest left : Option (List ℕ)) (between : Output) where
   -- reading ends, and the line that says so is written behind the blocks
   halted-pace : (taken line : List ℕ) (whole ended : Status) (faults : ℕ × ℕ) → IsHaltedRun airport commands_limit (rest, left) (call.taken.0, between) taken
       → EndsWith line whole faults (between, call.taken.1) ended → ended ≡ status.WriteFault → (whole ≡ status.WriteFault → ⊥) → IsCaughtUp airport (rest, left) call.taken
@@ -169,6 +174,7 @@ module _ (call : Call) (names : FileNames) (airport : Airport) (accepted : IsJud
         taken = taken;
         gave = halted.gave;
         others = [];
+        at_end = inl refl;
         between = between;
         count = halted.count;
         after = halted.after;
@@ -211,38 +217,39 @@ module _ (call : Call) (names : FileNames) (airport : Airport) (accepted : IsJud
     late = λ is. (airport, accepted, inr (caught_up (front-told line status.Done ended faults (between, call.taken.1) ends is (λ e. cc e))));
   }
     where
-      others : (others : List (List ℕ)) × (commands_of whole.bytes ≡ ended_commands_of (take commands_limit whole.bytes) ++ others)
-      others =
-          let first = ended-first whole.bytes [] in
-          let lines : lines_of whole.bytes ≡ ended_lines_of whole.bytes ++ first.0 = ap lines_of (sym (append-nil whole.bytes)) ∙ first.1 in
-          let bytes : take commands_limit whole.bytes ≡ whole.bytes = take_all commands_limit whole.bytes whole.within in (
-            commands_among first.0,
-            ap commands_among lines ∙ among-append (ended_lines_of whole.bytes) first.0
-                ∙ ap (λ (t : List ℕ). ended_commands_of t ++ commands_among first.0) (sym bytes),
-          )
+      others : List (List ℕ)
+      others = commands_among (unended_lines_of whole.bytes)
+
+      all : commands_of whole.bytes ≡ ended_commands_of (take commands_limit whole.bytes) ++ others
+      all =
+          let lines : lines_of whole.bytes ≡ ended_lines_of whole.bytes ++ unended_lines_of whole.bytes = sym (take-append-drop (count_by (λ b. b == 10) whole.bytes) (lines_of whole.bytes)) in
+          let bytes : take commands_limit whole.bytes ≡ whole.bytes = take_all commands_limit whole.bytes whole.within in
+          ap commands_among lines ∙ among-append (ended_lines_of whole.bytes) (unended_lines_of whole.bytes)
+          ∙ ap (λ (t : List ℕ). ended_commands_of t ++ others) (sym bytes)
 
       caught_up : GrewInPart between call.taken.1 line → IsCaughtUp airport (rest, left) call.taken
       caught_up front = record {
         taken = whole.bytes;
         gave = whole.gave;
-        others = others.0;
+        others = others;
+        at_end = inr (refl, whole.at_end);
         between = between;
         count = count;
         after = whole.after;
-        answered = subst (λ (c : List (List ℕ)). AreAnswered airport no_holder c (call.taken.0, between) count whole.after) others.1 whole.answered;
+        answered = subst (λ (c : List (List ℕ)). AreAnswered airport no_holder c (call.taken.0, between) count whole.after) all whole.answered;
         front = front.0;
         grew = front.4;
       }
 
-  pub halt-pace : (why : RunRefused) (ended : Status) (faults : ℕ × ℕ) → IsStopped airport commands_limit (rest, left) (call.taken.0, between) why
+  pub halt-pace : (first : List (List ℕ)) (why : RunRefused) (ended : Status) (faults : ℕ × ℕ) → IsStopped airport commands_limit (rest, left) (first, call.given) (call.taken.0, between) why
       → HaltsWith why faults (between, call.taken.1) ended → KeepsPace call names (rest, left) ended
-  halt-pace refused.ReadFault ended faults stopped halts = fault-pace stopped.0 ended faults stopped.1 stopped.2 halts
-  halt-pace refused.TooLarge ended faults stopped halts = large-pace stopped.0 ended faults stopped.1 stopped.2 halts
-  halt-pace refused.Memory ended faults stopped halts = memory-pace call names (rest, left) ended halts.0
-  halt-pace refused.WriteFault ended faults stopped halts = record {
+  halt-pace first refused.ReadFault ended faults stopped halts = fault-pace stopped.0 ended faults stopped.1 stopped.2 halts
+  halt-pace first refused.TooLarge ended faults stopped halts = large-pace stopped.0 ended faults stopped.1 stopped.2 halts
+  halt-pace first refused.Memory ended faults stopped halts = memory-pace call names (rest, left) ended halts.0
+  halt-pace first refused.WriteFault ended faults stopped halts = record {
     fault = λ other. absurd (cc (halts.0, other));
     large = λ other. absurd (cc (halts.0, other));
-    late = λ _. (airport, accepted, inl (subst (λ (t : Option (List ℕ)). IsPrompt airport (rest, left) (call.taken.0, t)) (sym halts.1) stopped.1));
+    late = λ _. (airport, accepted, inl (first, subst (λ (t : Output). IsPrompt airport (rest, left) (first, call.given) (call.taken.0, t)) (sym halts.1) stopped.1));
   }
 
   module _ (begins : Begins call.files names.commands rest) (mid : ℕ) (later : call.writes.0 ≤ mid) where
@@ -331,20 +338,121 @@ module _ (call : Call) (names : FileNames) (airport : Airport) (accepted : IsJud
         front-of call.taken.0 call.taken.1 cut.front cut.behind (blocks_text airport cut.blocks) too_large_line cut.split (omega arith) cut.grew,
       )
 
-    pub halt-ends : (why : RunRefused) (ended : Status) (before : ℕ) → IsStopped airport commands_limit (rest, left) (call.taken.0, between) why
+    pub halt-ends : (first : List (List ℕ)) (why : RunRefused) (ended : Status) (before : ℕ) → IsStopped airport commands_limit (rest, left) (first, call.given) (call.taken.0, between) why
         → (why ≡ refused.ReadFault → Rose before call.reads.1) → call.reads.0 ≤ before → (why ≡ refused.WriteFault → Rose call.writes.0 mid) → mid ≤ call.writes.1
         → HaltsWith why (mid, call.writes.1) (between, call.taken.1) ended → Ends call (Some (Route names)) ended
-    halt-ends refused.ReadFault ended before stopped read earlier write after halts =
+    halt-ends first refused.ReadFault ended before stopped read earlier write after halts =
         let risen = read refl in
         let rose : Rose call.reads.0 call.reads.1 = omega (arith, risen, earlier) in
         fault-ends stopped.0 ended rose stopped.2 halts
-    halt-ends refused.TooLarge ended before stopped read earlier write after halts = large-ends stopped.0 ended stopped.1 stopped.2 halts
-    halt-ends refused.WriteFault ended before stopped read earlier write after halts =
+    halt-ends first refused.TooLarge ended before stopped read earlier write after halts = large-ends stopped.0 ended stopped.1 stopped.2 halts
+    halt-ends first refused.WriteFault ended before stopped read earlier write after halts =
         let risen = write refl in
         let rose : Rose call.writes.0 call.writes.1 = omega (arith, risen, after) in
-        rw halts.0 (rose, cut-ends (subst (λ (t : Option (List ℕ)). IsCutRun airport commands_limit (rest, left) (call.taken.0, t)) (sym halts.1) stopped.0))
-    halt-ends refused.Memory ended before stopped read earlier write after halts =
-        rw halts.0 (inr (cut-ends (subst (λ (t : Option (List ℕ)). IsCutRun airport commands_limit (rest, left) (call.taken.0, t)) (sym halts.1) stopped)))
+        rw halts.0 (rose, cut-ends (subst (λ (t : Output). IsCutRun airport commands_limit (rest, left) (call.taken.0, t)) (sym halts.1) stopped.0))
+    halt-ends first refused.Memory ended before stopped read earlier write after halts =
+        rw halts.0 (inr (cut-ends (subst (λ (t : Output). IsCutRun airport commands_limit (rest, left) (call.taken.0, t)) (sym halts.1) stopped)))
+
+-- ---- the pieces that are handed over
+
+-- a line is handed over, whole or in part
+line-handed : (line : List ℕ) (whole ended : Status) (faults : ℕ × ℕ) (taken : Outputs) → EndsWith line whole faults taken ended → AreHandedInPart taken.0 taken.1 (line ∷ [])
+line-handed line whole ended faults taken ends = go ends.0 ends.1 where
+  go : (written : Result (Unit {0}) Trouble) → IsWriting line faults taken written → AreHandedInPart taken.0 taken.1 (line ∷ [])
+  go (Ok done) writing = inr (taken.1, writing.handed, refl)
+  go (Err why) writing = inl (inr writing.in_part)
+
+-- and whole with `Done`
+line-handed-whole : (line : List ℕ) (ended : Status) (faults : ℕ × ℕ) (taken : Outputs) → EndsWith line status.Done faults taken ended → ended ≡ status.Done → AreHanded taken.0 taken.1 (line ∷ [])
+line-handed-whole line ended faults taken ends is = go ends.0 (sym ends.2 ∙ is) ends.1 where
+  go : (written : Result (Unit {0}) Trouble) → status_after written status.Done ≡ status.Done → IsWriting line faults taken written → AreHanded taken.0 taken.1 (line ∷ [])
+  go (Ok done) same writing = (taken.1, writing.handed, refl)
+  go (Err trouble.Failed) same writing = absurd (cc same)
+  go (Err trouble.Memory) same writing = absurd (cc same)
+
+-- one line alone is written
+module _ (call : Call) (names : FileNames) where
+  one-line : (line : List ℕ) (whole ended : Status) → (whole ≡ status.Done → ⊥) → EndsWith line whole call.writes call.taken ended → IsInPieces call names ended
+  one-line line whole ended other ends = record {
+    texts = line ∷ [];
+    are = inl (line, refl);
+    handed = line-handed line whole ended call.writes call.taken ends;
+    done = λ is. absurd (other-status line whole ended status.Done call.writes call.taken ends is other (λ e. cc e) (λ e. cc e));
+  }
+
+  -- nothing is
+  pub stop-handed : (why : Stop) (ended : Status) → StopsWith why call.writes call.taken ended → IsInPieces call names ended
+  stop-handed (stop.Refused at why) ended stops = one-line (refusal_line (record { at = at; why = why })) status.AirportRefused ended (λ e. cc e) stops
+  stop-handed stop.ReadFault ended stops = one-line read_fault_line status.ReadFault ended (λ e. cc e) stops
+  stop-handed stop.TooLarge ended stops = one-line too_large_line status.TooLarge ended (λ e. cc e) stops
+  stop-handed stop.Memory ended stops = record {
+    texts = [] ∷ [];
+    are = inl ([], refl);
+    handed = handed-nothing call.taken.0 call.taken.1 ([] ∷ []) (ap (λ (o : Output). o.pieces) stops.1);
+    done = λ is. absurd (cc (stops.0, is));
+  }
+
+module _ (call : Call) (names : FileNames) (airport : Airport) (accepted : IsJudged call.files names.airport (Ok airport)) (rest left : Option (List ℕ)) (between : Output) where
+  blocks-and-line : (lines : List (List ℕ)) (blocks : List Block) (after : State) (line : List ℕ) → IsRun airport no_holder lines blocks after
+      → AreRunTexts call.files names (texts_of airport blocks ++ line ∷ [])
+  blocks-and-line lines blocks after line run =
+      inr (record { airport = airport; accepted = accepted; lines = lines; blocks = blocks; after = after; run = run; last = line; are = refl })
+
+  -- the whole file is read
+  whole-handed : (begins : Begins call.files names.commands rest) (count : ℕ) (ended : Status) (faults : ℕ × ℕ) → IsWholeRun airport commands_limit (rest, left) (call.taken.0, between) count
+      → EndsWith (done_line count) status.Done faults (between, call.taken.1) ended → IsInPieces call names ended
+  whole-handed begins count ended faults whole ends =
+      let answered = whole.answered in
+      record {
+        texts = texts_of airport answered.blocks ++ done_line count ∷ [];
+        are = blocks-and-line (commands_of whole.bytes) answered.blocks whole.after (done_line count) answered.run;
+        handed = handed-on call.taken.0 between call.taken.1 (texts_of airport answered.blocks) (done_line count ∷ []) answered.handed
+            (line-handed (done_line count) status.Done ended faults (between, call.taken.1) ends);
+        done = λ is. (
+          transcript airport answered.blocks,
+          record {
+            airport = airport;
+            commands = whole.bytes;
+            accepted = record { accepted = accepted; file = begun-file call.files names.commands rest whole.bytes begins whole.file; within = whole.within };
+            blocks = answered.blocks;
+            after = whole.after;
+            run = answered.run;
+            whole = refl;
+          },
+          subst (λ (n : ℕ). AreHanded call.taken.0 call.taken.1 (texts_of airport answered.blocks ++ done_line n ∷ [])) answered.counted
+              (handed-all call.taken.0 between call.taken.1 (texts_of airport answered.blocks) (done_line count ∷ []) answered.handed
+              (line-handed-whole (done_line count) ended faults (between, call.taken.1) ends is)),
+        );
+      }
+
+  halted-handed : (taken line : List ℕ) (whole ended : Status) (faults : ℕ × ℕ) → (whole ≡ status.Done → ⊥) → IsHaltedRun airport commands_limit (rest, left) (call.taken.0, between) taken
+      → EndsWith line whole faults (between, call.taken.1) ended → IsInPieces call names ended
+  halted-handed taken line whole ended faults other halted ends =
+      let answered = halted.answered in
+      record {
+        texts = texts_of airport answered.blocks ++ line ∷ [];
+        are = blocks-and-line (ended_commands_of (take commands_limit taken)) answered.blocks halted.after line answered.run;
+        handed = handed-on call.taken.0 between call.taken.1 (texts_of airport answered.blocks) (line ∷ []) answered.handed
+            (line-handed line whole ended faults (between, call.taken.1) ends);
+        done = λ is. absurd (other-status line whole ended status.Done faults (between, call.taken.1) ends is other (λ e. cc e) (λ e. cc e));
+      }
+
+  cut-handed : (ended : Status) → (ended ≡ status.Done → ⊥) → IsCutRun airport commands_limit (rest, left) call.taken → IsInPieces call names ended
+  cut-handed ended other cut = record {
+    texts = texts_of airport cut.blocks ++ [] ∷ [];
+    are = blocks-and-line (commands_within commands_limit cut.bytes) cut.blocks cut.after [] cut.run;
+    handed = handed-longer call.taken.0 call.taken.1 (texts_of airport cut.blocks) ([] ∷ []) cut.handed;
+    done = λ is. absurd (other is);
+  }
+
+  halt-handed : (first : List (List ℕ)) (why : RunRefused) (ended : Status) (faults : ℕ × ℕ) → IsStopped airport commands_limit (rest, left) (first, call.given) (call.taken.0, between) why
+      → HaltsWith why faults (between, call.taken.1) ended → IsInPieces call names ended
+  halt-handed first refused.ReadFault ended faults stopped halts = halted-handed stopped.0 read_fault_line status.ReadFault ended faults (λ e. cc e) stopped.2 halts
+  halt-handed first refused.TooLarge ended faults stopped halts = halted-handed stopped.0 too_large_line status.TooLarge ended faults (λ e. cc e) stopped.2 halts
+  halt-handed first refused.WriteFault ended faults stopped halts =
+      cut-handed ended (λ is. cc (halts.0, is)) (subst (λ (t : Output). IsCutRun airport commands_limit (rest, left) (call.taken.0, t)) (sym halts.1) stopped.0)
+  halt-handed first refused.Memory ended faults stopped halts =
+      cut-handed ended (λ is. cc (halts.0, is)) (subst (λ (t : Output). IsCutRun airport commands_limit (rest, left) (call.taken.0, t)) (sym halts.1) stopped)
 
 -- the command file can't be begun, and all of it is left
 pub begin-pace : (call : Call) (names : FileNames) (airport : Airport) (file next : Option (List ℕ)) (why : Stop) (ended : Status) (faults : ℕ × ℕ)
@@ -364,61 +472,49 @@ begin-pace call names airport file next stop.ReadFault ended faults accepted sam
 
 -- ---- the call as a whole
 
-run-outcome : (call : Call) (names : FileNames) (airport : Airport) (accepted : IsJudged call.files names.airport (Ok airport)) (rest left between : Option (List ℕ))
+run-outcome : (call : Call) (names : FileNames) (airport : Airport) (accepted : IsJudged call.files names.airport (Ok airport)) (rest left : Option (List ℕ)) (first : List (List ℕ)) (between : Output)
     (begun : Bool) (before mid : ℕ) (ended : Status) (outcome : Result ℕ RunRefused) → Begins call.files names.commands rest → call.writes.0 ≤ mid → mid ≤ call.writes.1 → call.reads.0 ≤ before
-    → HasOutcome (record { files = call.files; reads = (before, call.reads.1); writes = call.writes; begun = begun; left = left; taken = call.taken }) airport rest between mid ended outcome
-    → Ends call (Some (Route names)) ended × KeepsPace call names (rest, left) ended
-run-outcome call names airport accepted rest left between begun before mid ended (Ok count) begins later after earlier has = (
+    → HasOutcome (record { files = call.files; reads = (before, call.reads.1); writes = call.writes; begun = begun; left = left; given = call.given; taken = call.taken }) airport rest first between mid ended outcome
+    → Ends call (Some (Route names)) ended × KeepsPace call names (rest, left) ended × IsInPieces call names ended
+run-outcome call names airport accepted rest left first between begun before mid ended (Ok count) begins later after earlier has = (
   whole-ends call names airport accepted rest left between begins mid later count (done_line count) ended has.0 refl has.1,
   whole-pace call names airport accepted rest left between count (done_line count) ended (mid, call.writes.1) has.0 has.1,
+  whole-handed call names airport accepted rest left between begins count ended (mid, call.writes.1) has.0 has.1,
 )
-run-outcome call names airport accepted rest left between begun before mid ended (Err why) begins later after earlier has = (
-  halt-ends call names airport accepted rest left between begins mid later why ended before has.0 has.2 earlier has.3 after has.1,
-  halt-pace call names airport accepted rest left between why ended (mid, call.writes.1) has.0 has.1,
+run-outcome call names airport accepted rest left first between begun before mid ended (Err why) begins later after earlier has = (
+  halt-ends call names airport accepted rest left between begins mid later first why ended before has.0 has.2 earlier has.3 after has.1,
+  halt-pace call names airport accepted rest left between first why ended (mid, call.writes.1) has.0 has.1,
+  halt-handed call names airport accepted rest left between first why ended (mid, call.writes.1) has.0 has.1,
 )
 
 -- how the run ends ends the call, and it keeps pace with its command file
 pub run-ends : (call : Call) (names : FileNames) (airport : Airport) (told : Option Files) (begun : Bool) (left : Option (List ℕ)) (before : ℕ) (ended : Status)
     → IsJudged call.files names.airport (Ok airport) → told ≡ call.files → call.reads.0 ≤ before
-    → IsRunEnd (record { files = told; reads = (before, call.reads.1); writes = call.writes; begun = begun; left = left; taken = call.taken }) airport names.commands ended
-    → Ends call (Some (Route names)) ended × KeepsPace call names (commands_left call.files names begun left) ended
+    → IsRunEnd (record { files = told; reads = (before, call.reads.1); writes = call.writes; begun = begun; left = left; given = call.given; taken = call.taken }) airport names.commands ended
+    → Ends call (Some (Route names)) ended × KeepsPace call names (commands_left call.files names begun left) ended × IsInPieces call names ended
 run-ends call names airport told begun left before ended accepted same earlier (inl stopped) = (
   begin-ends call names stopped.why ended before stopped.cause earlier stopped.stops,
   begin-pace call names airport (bytes_told call.files names.commands) (left_of begun (bytes_told call.files names.commands) left) stopped.why ended (before, call.reads.1) accepted
       (ap (λ (b : Bool). left_of b (bytes_told call.files names.commands) left) stopped.nothing) stopped.cause stopped.stops,
+  stop-handed call names stopped.why ended stopped.stops,
 )
 run-ends call names airport told begun left before ended accepted same earlier (inr run) =
     let begins : Begins call.files names.commands run.rest = subst (λ (t : Option Files). Begins t names.commands run.rest) same run.begins in
-    let both = run-outcome call names airport accepted run.rest left run.between begun before run.mid ended run.outcome begins run.later run.after earlier run.has in
+    let both = run-outcome call names airport accepted run.rest left run.first run.between begun before run.mid ended run.outcome begins run.later run.after earlier run.has in
     let whole = begun-told call.files names.commands run.rest begins in
     let rest : left ≡ left_of begun (bytes_told call.files names.commands) left = ap (λ (b : Bool). left_of b (bytes_told call.files names.commands) left) (sym run.is_begun) in (
       both.0,
       subst (λ (l : Option (List ℕ)). KeepsPace call names (bytes_told call.files names.commands, l) ended) rest
           (subst (λ (f : Option (List ℕ)). KeepsPace call names (f, left) ended) whole both.1),
+      both.2,
     )
 
--- ---- pace from when the command file is begun
+-- ---- before the command file is begun
 
-module _ (call : Call) (names : FileNames) (left : Told) (ended : Status) where
-  pub pace-begun : KeepsPace call names left ended → KeepsPaceOnceBegun call names left ended
-  pace-begun pace = record {
-    fault = λ is. inr (pace.fault is);
-    large = λ is. inr (pace.large is);
-    late = λ is files told airport accepted. inr (late (pace.late is).0 (pace.late is).1 (pace.late is).2 files told airport accepted);
-  }
-    where
-      late : (mine : Airport) → IsJudged call.files names.airport (Ok mine) → IsCutInStep mine left call.taken → (files : Files) → call.files ≡ Some files
-          → (airport : Airport) → IsJudged call.files names.airport (Ok airport) → IsCutInStep airport left call.taken
-      late mine judged cut files told airport accepted =
-          let one = subst (λ (t : Option Files). IsJudged t names.airport (Ok mine)) told judged in
-          let two = subst (λ (t : Option Files). IsJudged t names.airport (Ok airport)) told accepted in
-          let same = one-judgement files names.airport (Ok mine) (Ok airport) one two in
-          let is : mine ≡ airport = cc same in
-          subst (λ (a : Airport). IsCutInStep a left call.taken) is cut
-
+module _ (call : Call) (names : FileNames) (ended : Status) where
   -- the airport file ends the call before the command file is begun
-  pub airport-pace : (why : Stop) → IsCauseOfAirport call.files names.airport call.reads why → StopsWith why call.writes call.taken ended → KeepsPaceOnceBegun call names left ended
-  airport-pace (stop.Refused at why) cause stops =
+  pub before-commands : (why : Stop) → IsCauseOfAirport call.files names.airport call.reads why → StopsWith why call.writes call.taken ended → EndsBeforeCommands call names ended
+  before-commands (stop.Refused at why) cause stops =
       let line : List ℕ = refusal_line (record { at = at; why = why }) in
       record {
         fault = λ is. absurd (other-status line status.AirportRefused ended status.ReadFault call.writes call.taken stops is (λ e. cc e) (λ e. cc e) (λ e. cc e));
@@ -429,17 +525,21 @@ module _ (call : Call) (names : FileNames) (left : Told) (ended : Status) where
             let same = one-judgement files names.airport (Ok airport) (Err (record { at = at; why = why })) one two in
             absurd (cc same);
       }
-  airport-pace stop.ReadFault cause stops = record {
-    fault = λ is. inl (line-told read_fault_line status.ReadFault ended call.writes call.taken stops is (λ e. cc e) (λ e. cc e));
+  before-commands stop.ReadFault cause stops = record {
+    fault = λ is. line-told read_fault_line status.ReadFault ended call.writes call.taken stops is (λ e. cc e) (λ e. cc e);
     large = λ is. absurd (other-status read_fault_line status.ReadFault ended status.TooLarge call.writes call.taken stops is (λ e. cc e) (λ e. cc e) (λ e. cc e));
-    late = λ is files told airport accepted. inl (cause, front-told read_fault_line status.ReadFault ended call.writes call.taken stops is (λ e. cc e));
+    late = λ is files told airport accepted. (cause, front-told read_fault_line status.ReadFault ended call.writes call.taken stops is (λ e. cc e));
   }
-  airport-pace stop.TooLarge cause stops = record {
+  before-commands stop.TooLarge cause stops = record {
     fault = λ is. absurd (other-status too_large_line status.TooLarge ended status.ReadFault call.writes call.taken stops is (λ e. cc e) (λ e. cc e) (λ e. cc e));
-    large = λ is. inl (cause, line-told too_large_line status.TooLarge ended call.writes call.taken stops is (λ e. cc e) (λ e. cc e));
+    large = λ is. (cause, line-told too_large_line status.TooLarge ended call.writes call.taken stops is (λ e. cc e) (λ e. cc e));
     late = λ is files told airport accepted.
         let judged = subst (λ (t : Option Files). IsJudged t names.airport (Ok airport)) told accepted in
         let longer = subst (λ (t : Option Files). IsLonger t names.airport airport_limit) told cause in
         absurd (not-longer files names.airport judged.bytes airport_limit judged.file judged.within longer);
   }
-  airport-pace stop.Memory cause stops = pace-begun (memory-pace call names left ended stops.0)
+  before-commands stop.Memory cause stops = record {
+    fault = λ other. absurd (cc (stops.0, other));
+    large = λ other. absurd (cc (stops.0, other));
+    late = λ other. absurd (cc (stops.0, other));
+  }

@@ -10,7 +10,7 @@ use Rattle.schedule_import.specs.Schedule.{import_of}
 use Rattle.transcript_check.specs.declared.failure.Failure.{Failure}
 use Rattle.program_endings.specs.declared.status.Status.{Status}
 use Rattle.program_endings.specs.declared.status.Status.TheVariants.{Done, Usage, AirportRefused, TooLarge, Wrong, ScheduleRefused}
-use Rattle.program_words.specs.Asked.{FileNames, Asked, Route, Check, Generate, Migrate, Import}
+use Rattle.program_words.specs.Verb.{FileNames, Verb, Route, Check, Generate, Migrate, Import}
 use Rattle.transcript_check.specs.Checks.{IsRight, IsWrongAt}
 use Rattle.program_files.specs.Inputs.{airport_limit, commands_limit, transcript_limit}
 
@@ -44,7 +44,7 @@ abbrev pub IsDueOfRun : Files → FileNames → (Airport → List ℕ → Type 0
 IsDueOfRun files names Accepted due =
     IsDueOfAirport (file_of files names.airport) (λ airport. IsDueOfFile (file_of files names.commands) commands_limit (Accepted airport) due) due
 
-abbrev pub IsDueOf : Files → Option Asked → Status → Type 0
+abbrev pub IsDueOf : Files → Option Verb → Status → Type 0
 IsDueOf files None due = due ≡ Usage
 IsDueOf files (Some (Route names)) due = IsDueOfRun files names (λ airport commands. due ≡ Done) due
 IsDueOf files (Some (Check names transcript)) due =

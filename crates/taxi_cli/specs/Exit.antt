@@ -1,17 +1,32 @@
--- With which number may the program end?
-use Rattle.std.specs.Prelude.{◌≡◌, ℕ, List, Option, None}
+-- What does a whole call promise, by the status with which it ends?
+use Rattle.std.specs.Prelude.{◌≡◌, ◌≤◌, ◌⊎◌, ℕ, List, Option, Some, None}
+use Rattle.taxi_io.specs.Counts.{Rose}
+use Rattle.taxi_io.specs.Files.{Files}
+use Rattle.command_run.specs.Answered.{Told, Pieces}
 use Rattle.program_endings.specs.declared.status.Status.{Status}
-use Rattle.program_endings.specs.Exit.{number_of}
-use Rattle.program_words.specs.Asked.{Asked, asked_by}
+use Rattle.program_endings.specs.declared.status.Status.TheVariants.{Done, Usage, WriteFault, Memory}
+use Rattle.program_words.specs.Verb.{FileNames, Traffic, Verb, Route, Generate}
+use Rattle.program_files.specs.Inputs.{IsInOrder}
+use Rattle.taxi_cli.specs.Due.{IsDueOf}
 use Rattle.taxi_cli.specs.Endings.{Call, Ends}
+use Rattle.taxi_cli.specs.Handed.{IsInPieces}
+use Rattle.taxi_cli.specs.Headline.{Headline}
+use Rattle.taxi_cli.specs.Pace.{HaveBegun, HaveBegunFirst, KeepsPace, EndsBeforeCommands}
 
--- the number is that of a status with which the call ends
-abbrev pub ExitsWith : Call → Option Asked → ℕ → Type 0
-ExitsWith call asked number = (status : Status) × Ends call asked status × (number ≡ number_of status)
-
--- A program with these words may end with this number: it is that of a status with which the call may end, over files and output that
--- tell nothing and of which no fault was counted before.
-abbrev pub MayExit : List (List ℕ) → ℕ → Type 0
-MayExit words number =
-    (reads : ℕ) × (writes : ℕ)
-    × ExitsWith (record { files = None; reads = (0, reads); writes = (0, writes); taken = (None, None) }) (asked_by words) number
+-- What `taxi` promises, clause by clause, of what the words ask for; by what is left of a run's command file, the names that were tried
+-- before and after, and that the shelf is as it was. No file is tried where memory runs out before the words are known.
+pub record KeepsPromises (call : Call) (asked : Option Verb) (left : FileNames → Told) (tried : Pieces) (Unread : Type 0) (ended : Status) : Type 0 where
+  pub ends : Ends call asked ended
+  pub usage : asked ≡ None → (ended ≡ Usage) ⊎ ((ended ≡ WriteFault) ⊎ (ended ≡ Memory))
+  pub unread : asked ≡ None → Unread
+  pub complete : (files : Files) → call.files ≡ Some files → (Rose call.reads.0 call.reads.1 → ⊥) → (Rose call.writes.0 call.writes.1 → ⊥)
+      → IsDueOf files asked ended ⊎ (ended ≡ Memory)
+  pub headline : (names : FileNames) → asked ≡ Some (Route names) → Headline call names ended
+  pub made : (traffic : Traffic) → asked ≡ Some (Generate traffic)
+      → Unread × ((Rose call.writes.0 call.writes.1 → ⊥) → (ended ≡ Done) ⊎ (ended ≡ Memory))
+  pub pace : (names : FileNames) → asked ≡ Some (Route names) → HaveBegun names tried.0 tried.1 → KeepsPace call names (left names) ended
+  pub first : (names : FileNames) → asked ≡ Some (Route names) → HaveBegunFirst names tried.0 tried.1 → EndsBeforeCommands call names ended
+  pub handed : (names : FileNames) → asked ≡ Some (Route names) → IsInPieces call names ended
+  pub order : IsInOrder call.files asked tried.0 tried.1 ⊎ ((ended ≡ Memory) × Unread)
+  pub reads_later : call.reads.0 ≤ call.reads.1
+  pub writes_later : call.writes.0 ≤ call.writes.1

@@ -2,7 +2,7 @@
 -- an arrival's route is feasible among the commitments then standing and no feasible walk ends earlier; a departure's is
 -- feasible and none pushes back later; no-route comes exactly when no feasible walk exists; no two aircraft ever hold
 -- conflicting segments at one moment; and the checker accepts the transcript.
-use Rattle.std.specs.Prelude.{◌≡◌, ◌↔◌, ◌⊎◌, ℕ, List, Option, Some, None, ⊤}
+use Rattle.std.specs.Prelude.{◌≡◌, ◌↔◌, ◌⊎◌, ℕ, List, [], ◌∷◌, map, All, Option, Some, None, ⊤}
 use Rattle.taxi_base.specs.declared.answers.Request.{Request}
 use Rattle.taxi_base.specs.declared.answers.Request.TheVariants as request
 use Rattle.taxi_base.specs.declared.answers.Refusal.TheVariants as refusal
@@ -23,9 +23,10 @@ use Rattle.certificate.specs.Refusals.{first_refusal}
 use Rattle.certificate.specs.Replies.{IsReply}
 use Rattle.certificate.specs.Passes.{IsPassed}
 use Rattle.certificate.specs.Sought.{Sought, sought_of, IsWalkFor}
+use Rattle.certificate.specs.Turns.{Turn, told_in, turns_of}
 use Rattle.program_endings.specs.declared.status.Status.{Status}
 use Rattle.program_endings.specs.declared.status.Status.TheVariants.{Done, WriteFault, Memory}
-use Rattle.program_words.specs.Asked.{FileNames}
+use Rattle.program_words.specs.Verb.{FileNames}
 use Rattle.transcripts.specs.Runs.{InTurn, transcript}
 use Rattle.transcript_check.specs.Checks.{IsRight}
 use Rattle.program_files.specs.Inputs.{AreAccepted}
@@ -36,7 +37,7 @@ abbrev pub TellsNoRoute : Block → Type 0
 TellsNoRoute (NoRoute labels) = ⊤
 TellsNoRoute _ = ⊥
 
--- The best of the walks that a command seeks, each of which is feasible among the commitments then standing, but for the
+-- The best of the walks that a search seeks, each of which is feasible among the commitments then standing, but for the
 -- flight's own, and begins and ends as is asked (`IsWalkFor`). An arrival's route is one of them, and no feasible walk ends
 -- earlier. A departure's is one, and none pushes back later. The second that is told is that end, or that pushback.
 abbrev pub IsBestWalk : Request → (List Step → Type 0) → ℕ → List Step → Type 0
@@ -44,17 +45,25 @@ IsBestWalk request.Filed IsOne second steps = ⊥
 IsBestWalk (request.Arrival from to asked hold) IsOne second steps = EndsEarliest IsOne steps × (end_of steps ≡ second)
 IsBestWalk (request.Departure from to asked queue) IsOne second steps = BeginsLatest IsOne steps × (begin_of steps ≡ second)
 
+-- one search
+pub record AnswersSearch (turn : Turn) : Type 0 where
+  -- a route is best
+  pub best : (name : List ℕ) → (second : ℕ) → (steps : List Step) → (labels : List LabelRow) → turn.told ≡ Route name second steps labels → IsBestWalk turn.sought.request (IsWalkFor turn.sought) second steps
+  -- no-route comes exactly when no feasible walk exists
+  pub no_route : TellsNoRoute turn.told ↔ ((steps : List Step) → IsWalkFor turn.sought steps → ⊥)
+
 -- one command in its turn
 pub record AnswersCommand (airport : Airport) (state : State) (line : List ℕ) (block : Block) (after : State) : Type 0 where
   -- the block is the reply that is due, or that memory ran out, which leaves the state
   pub answers : IsReply airport state line block after
-  -- a route is best
-  pub best : (name : List ℕ) → (second : ℕ) → (steps : List Step) → (labels : List LabelRow) → block ≡ Route name second steps labels
-      → (command : Command) × (sought : Sought) × (command_of line ≡ Some command) × (sought_of airport state command ≡ Some sought) × IsBestWalk sought.request (IsWalkFor sought) second steps
-  -- no-route comes exactly when no feasible walk exists, of the commands that seek one, are refused nothing and find memory
-  pub no_route : (command : Command) → command_of line ≡ Some command → first_refusal airport state command ≡ None
+  -- each of its searches is answered, in the state that those before it leave
+  pub searches : All AnswersSearch (turns_of airport state line block)
+  -- and each route, or that there is none, answers one of them
+  pub all_told : map (λ turn. turn.told) (turns_of airport state line block) ≡ told_in block
+  -- a command that seeks a walk, is refused nothing and finds memory has it searched for
+  pub searched : (command : Command) → command_of line ≡ Some command → first_refusal airport state command ≡ None
       → (sought : Sought) → sought_of airport state command ≡ Some sought → (block ≡ Refused refusal.Memory → ⊥)
-      → (TellsNoRoute block ↔ ((steps : List Step) → IsWalkFor sought steps → ⊥))
+      → turns_of airport state line block ≡ record { sought = sought; told = block } ∷ []
   -- no two aircraft hold conflicting segments at one moment
   pub clash_free : IsClashFree airport after
   -- the checker accepts the block

@@ -2,6 +2,7 @@ pub mod Lines
 pub mod Outcomes
 pub mod Due
 pub mod Endings
+pub mod Handed
 pub mod Headline
 pub mod Exit
 pub mod Halts

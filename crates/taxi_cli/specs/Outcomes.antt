@@ -11,7 +11,7 @@ use Rattle.generated_run.specs.Summaries.{IsSummary, six_lines}
 use Rattle.transcripts.specs.Runs.{InTurn, IsRun, transcript}
 use Rattle.transcript_check.specs.declared.failure.Failure.{Failure}
 use Rattle.transcript_check.specs.Checks.{IsRight, IsWrongAt, IsTrusted}
-use Rattle.program_words.specs.Asked.{FileNames, Traffic, Asked, Route, Check, Generate, Migrate, Import}
+use Rattle.program_words.specs.Verb.{FileNames, Traffic, Verb, Route, Check, Generate, Migrate, Import}
 use Rattle.program_files.specs.Inputs.{AreAccepted, AreToCheck}
 use Rattle.text_verbs.specs.Lines.{first_row_line, bad_start_line}
 use Rattle.text_verbs.specs.Texts.{IsMigrated, IsImported}
@@ -60,7 +60,7 @@ pub record IsToldTraffic (traffic : Traffic) (text : List ℕ) : Type 0 where
 -- ---- the outcomes of what is asked for
 
 -- the whole output, where all goes well
-abbrev pub IsDoneText : Option Files → Asked → List ℕ → Type 0
+abbrev pub IsDoneText : Option Files → Verb → List ℕ → Type 0
 IsDoneText told (Route names) text = IsTranscript told names text
 IsDoneText told (Check names transcript) text = IsConfirmation told names transcript text
 IsDoneText told (Generate traffic) text = IsToldTraffic traffic text
@@ -68,7 +68,7 @@ IsDoneText told (Migrate airport) text = IsMigrated told airport text
 IsDoneText told (Import names) text = IsImported told names (Ok text)
 
 -- the whole output, where a transcript is wrong
-abbrev pub IsWrongText : Option Files → Asked → List ℕ → Type 0
+abbrev pub IsWrongText : Option Files → Verb → List ℕ → Type 0
 IsWrongText told (Route names) text = ⊥
 IsWrongText told (Check names transcript) text = IsRefutation told names transcript text
 IsWrongText told (Generate traffic) text = ⊥
@@ -76,7 +76,7 @@ IsWrongText told (Migrate airport) text = ⊥
 IsWrongText told (Import names) text = ⊥
 
 -- the whole output, where the first record of a schedule is another than it must be, or else the second
-abbrev pub IsScheduleRefusedText : Option Files → Asked → List ℕ → Type 0
+abbrev pub IsScheduleRefusedText : Option Files → Verb → List ℕ → Type 0
 IsScheduleRefusedText told (Route names) text = ⊥
 IsScheduleRefusedText told (Check names transcript) text = ⊥
 IsScheduleRefusedText told (Generate traffic) text = ⊥

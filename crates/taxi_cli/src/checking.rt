@@ -1,10 +1,10 @@
 //! The verb `check`.
 ghost use Rattle.std.specs.Prelude.{◌≤◌, Some, length, IfOk};
 ghost use Rattle.taxi_text.specs.Lines.{commands_of};
-ghost use Rattle.program_words.specs.Asked.{Check};
+ghost use Rattle.program_words.specs.Verb.{Check};
 ghost use Rattle.program_files.specs.Inputs.{IsInOrder};
 ghost use Rattle.transcript_check.specs.Verdicts.{IsVerdict};
-ghost use Rattle.taxi_cli.specs.Endings.{Ends};
+ghost use Rattle.taxi_cli.specs.Endings.{Ends, call_of};
 
 use crate::last_line::{ok_line, wrong_line};
 use airport_file::Airport;
@@ -28,12 +28,7 @@ pub(crate) fn check<S: Shelf, K: Sink>(
     requires airport { S.knows shelf.old airport.now }
     requires commands { S.knows shelf.old commands.now }
     requires transcript { S.knows shelf.old transcript.now }
-    ensures ends { Ends (record {
-      files = S.files shelf.old;
-      reads = (S.faults shelf.old, S.faults shelf.new);
-      writes = (K.faults out.old, K.faults out.new);
-      taken = (K.written out.old, K.written out.new);
-    }) (Some (Check (record { airport = airport.now; commands = commands.now }) transcript.now)) result }
+    ensures ends { Ends (call_of S.files S.faults S.given K.faults K.written (shelf.old, shelf.new) (out.old, out.new)) (Some (Check (record { airport = airport.now; commands = commands.now }) transcript.now)) result }
     ensures order { IsInOrder (S.files shelf.old) (Some (Check (record { airport = airport.now; commands = commands.now }) transcript.now)) (S.tried shelf.old) (S.tried shelf.new) }
     ensures reads_later { S.faults shelf.old ≤ S.faults shelf.new }
     ensures writes_later { K.faults out.old ≤ K.faults out.new }

@@ -1,8 +1,8 @@
 //! The verb `generate`.
-ghost use Rattle.std.specs.Prelude.{◌≡◌, ◌≤◌, ℕ, Option, Some, IfOk};
+ghost use Rattle.std.specs.Prelude.{◌≡◌, ◌≤◌, ℕ, List, Option, Some, IfOk};
 ghost use Rattle.taxi_base.specs.State.{no_holder};
 ghost use Rattle.taxi_io.specs.Files.{Files};
-ghost use Rattle.program_words.specs.Asked.{Generate};
+ghost use Rattle.program_words.specs.Verb.{Generate};
 ghost use Rattle.traffic_generator.specs.Grid.{grid_airport};
 ghost use Rattle.generated_run.specs.Summaries.{IsSummary};
 ghost use Rattle.taxi_cli.specs.Endings.{Ends};
@@ -20,11 +20,12 @@ use taxi_io::Sink;
 /// Runs the commands of made traffic, has each reply checked, and writes the six lines of what came of it, as one piece. No
 /// file is read.
 pub(crate) fn generate<K: Sink>(alloc: Global, traffic: &Traffic, out: &mut K) -> Status
-    ensures ends { (files : Option Files) → (reads : ℕ × ℕ) → Ends (record {
+    ensures ends { (files : Option Files) → (reads : ℕ × ℕ) → (given : List (List ℕ)) → Ends (record {
       files = files;
       reads = reads;
       writes = (K.faults out.old, K.faults out.new);
       taken = (K.written out.old, K.written out.new);
+      given = given;
     }) (Some (Generate (record { number = traffic.now.number; side = traffic.now.side; flights = traffic.now.flights }))) result }
     ensures writes_later { K.faults out.old ≤ K.faults out.new }
 {

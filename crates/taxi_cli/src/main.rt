@@ -1,10 +1,15 @@
 //! The taxi router as a program: its words name files, and it writes to standard output.
 #![tactic(auto)]
 
-ghost use Rattle.std.specs.Prelude.{◌≡◌, map, string_bytes, IsErr, IfOk};
+ghost use Rattle.std.specs.Prelude.{◌≡◌, ℕ, List, IfErr};
+ghost use Rattle.std.specs.IoError.{error_kind};
 ghost use Rattle.std.specs.Process.{exit_status};
 ghost use Rattle.program_endings.specs.Exit.{number_of};
-ghost use Rattle.taxi_cli.specs.Exit.{MayExit};
+ghost use Rattle.program_words.specs.Verb.{IsNamed, asked_by};
+ghost use Rattle.program_words.specs.Given.{words_given};
+ghost use Rattle.taxi_cli.specs.Endings.{call_of};
+ghost use Rattle.taxi_cli.specs.Exit.{KeepsPromises};
+ghost use Rattle.taxi_cli.specs.Pace.{commands_left};
 
 mod checking;
 mod generating;
@@ -17,31 +22,34 @@ pub mod top;
 
 use program_endings::{Status, exit_code};
 use program_words::words_after_name;
+use std::alloc::Global;
+use std::env::Args;
+use std::io::ErrorKind;
 use std::process::ExitCode;
-use std::rt::Files;
 use std::{env, io};
-use taxi_base::Memory;
-use taxi_io::{FileShelf, OutputSink};
-use top::exit_of;
+use taxi_io::{FileShelf, OutputSink, Shelf, Sink};
+use top::taxi;
 
-// Makes the call with these words over the machine's files and standard output, and ends with the number of its status.
-fn call<R: Files + Input + Print + AllocGlobal>(
-    rt: &R,
-    words: Result<Vec<String>, Memory>,
+// Makes the call with the words that the machine gave, and ends with the number of its status. It keeps every promise of `taxi`.
+fn call<S: Shelf, K: Sink>(
+    alloc: Global,
+    given: io::Result<Args>,
+    shelf: &mut S,
+    out: &mut K,
 ) -> ExitCode
-    ensures words { IfOk words (λ given. MayExit (map string_bytes given.items) (exit_status result)) }
-    ensures memory { IsErr words → exit_status result ≡ number_of Status.Memory }
+    requires known { (name : List ℕ) → IsNamed (asked_by (words_given given)) name → S.knows shelf.old name }
+    ensures promises { (status : Status) × (exit_status result ≡ number_of status) × KeepsPromises (call_of S.files S.faults S.given K.faults K.written (shelf.old, shelf.new) (out.old, out.new)) (asked_by (words_given given))
+        (λ names. commands_left (S.files shelf.old) names (S.begun shelf.new) (S.rest shelf.new)) (S.tried shelf.old, S.tried shelf.new) (shelf.new ≡ shelf.old) status }
+    ensures memory { IfErr given (λ error. error_kind error ≡ ErrorKind.OutOfMemory → exit_status result ≡ number_of Status.Memory) }
 {
-    match words {
-        Ok(words) => {
-            let mut shelf = FileShelf::new(rt);
-            let mut out = OutputSink::new(io::writer(rt));
-            exit_of(rt.alloc(), words.as_slice(), &mut shelf, &mut out)
-        }
-        Err(Memory) => exit_code(Status::Memory),
+    match words_after_name(alloc, given) {
+        Ok(words) => exit_code(taxi(alloc, words.as_slice(), shelf, out)),
+        Err(_) => exit_code(Status::Memory),
     }
 }
 
 fn main(rt: HostRuntime) -> ExitCode {
-    call(&rt, words_after_name(rt.alloc(), env::args(&rt)))
+    let mut shelf = FileShelf::new(&rt);
+    let mut out = OutputSink::new(io::writer(&rt));
+    call(rt.alloc(), env::args(&rt), &mut shelf, &mut out)
 }

@@ -3,10 +3,11 @@ ghost use Rattle.std.specs.Prelude.{◌≡◌, ◌≤◌, ◌∷◌, [], true, S
 ghost use Rattle.taxi_io.specs.Counts.{Rose};
 ghost use Rattle.taxi_io.specs.Files.{BeganMore};
 ghost use Rattle.command_run.specs.Answered.{IsWholeRun, IsStopped};
-ghost use Rattle.program_words.specs.Asked.{Route};
+ghost use Rattle.program_words.specs.Verb.{Route};
 ghost use Rattle.program_files.specs.Inputs.{commands_limit, IsInOrder};
-ghost use Rattle.taxi_cli.specs.Endings.{Ends};
-ghost use Rattle.taxi_cli.specs.Pace.{HaveBegun, KeepsPace, KeepsPaceOnceBegun, commands_left};
+ghost use Rattle.taxi_cli.specs.Endings.{Ends, call_of};
+ghost use Rattle.taxi_cli.specs.Handed.{IsInPieces};
+ghost use Rattle.taxi_cli.specs.Pace.{HaveBegun, HaveBegunFirst, KeepsPace, EndsBeforeCommands, commands_left};
 ghost use Rattle.taxi_cli.specs.RunEnds.{HaltsWith, IsRunEnd};
 
 use airport_file::Airport;
@@ -14,7 +15,6 @@ use command_run::{RunRefused, run_commands};
 use program_endings::{Status, read_fault_line, too_large_line, write_last};
 use program_files::{COMMANDS_LIMIT, begin_commands, read_airport_file, write_stop};
 use std::alloc::Global;
-use std::mem::forget;
 use taxi_engine::Engine;
 use taxi_io::{Shelf, Sink};
 use transcripts::done_line;
@@ -29,27 +29,12 @@ pub(crate) fn route<S: Shelf, K: Sink>(
 ) -> Status
     requires airport { S.knows shelf.old airport.now }
     requires commands { S.knows shelf.old commands.now }
-    ensures ends { Ends (record {
-      files = S.files shelf.old;
-      reads = (S.faults shelf.old, S.faults shelf.new);
-      writes = (K.faults out.old, K.faults out.new);
-      taken = (K.written out.old, K.written out.new);
-    }) (Some (Route (record { airport = airport.now; commands = commands.now }))) result }
+    ensures ends { Ends (call_of S.files S.faults S.given K.faults K.written (shelf.old, shelf.new) (out.old, out.new)) (Some (Route (record { airport = airport.now; commands = commands.now }))) result }
     ensures order { IsInOrder (S.files shelf.old) (Some (Route (record { airport = airport.now; commands = commands.now }))) (S.tried shelf.old) (S.tried shelf.new) }
-    ensures pace { HaveBegun (record { airport = airport.now; commands = commands.now }) (S.tried shelf.old) (S.tried shelf.new) → KeepsPace (record {
-      files = S.files shelf.old;
-      reads = (S.faults shelf.old, S.faults shelf.new);
-      writes = (K.faults out.old, K.faults out.new);
-      taken = (K.written out.old, K.written out.new);
-    }) (record { airport = airport.now; commands = commands.now })
+    ensures pace { HaveBegun (record { airport = airport.now; commands = commands.now }) (S.tried shelf.old) (S.tried shelf.new) → KeepsPace (call_of S.files S.faults S.given K.faults K.written (shelf.old, shelf.new) (out.old, out.new)) (record { airport = airport.now; commands = commands.now })
         (commands_left (S.files shelf.old) (record { airport = airport.now; commands = commands.now }) (S.begun shelf.new) (S.rest shelf.new)) result }
-    ensures once_begun { KeepsPaceOnceBegun (record {
-      files = S.files shelf.old;
-      reads = (S.faults shelf.old, S.faults shelf.new);
-      writes = (K.faults out.old, K.faults out.new);
-      taken = (K.written out.old, K.written out.new);
-    }) (record { airport = airport.now; commands = commands.now })
-        (commands_left (S.files shelf.old) (record { airport = airport.now; commands = commands.now }) (S.begun shelf.new) (S.rest shelf.new)) result }
+    ensures first { HaveBegunFirst (record { airport = airport.now; commands = commands.now }) (S.tried shelf.old) (S.tried shelf.new) → EndsBeforeCommands (call_of S.files S.faults S.given K.faults K.written (shelf.old, shelf.new) (out.old, out.new)) (record { airport = airport.now; commands = commands.now }) result }
+    ensures handed { IsInPieces (call_of S.files S.faults S.given K.faults K.written (shelf.old, shelf.new) (out.old, out.new)) (record { airport = airport.now; commands = commands.now }) result }
     ensures reads_later { S.faults shelf.old ≤ S.faults shelf.new }
     ensures writes_later { K.faults out.old ≤ K.faults out.new }
 {
@@ -74,6 +59,7 @@ fn route_at<S: Shelf, K: Sink>(
       writes = (K.faults out.old, K.faults out.new);
       begun = S.begun shelf.new;
       left = S.rest shelf.new;
+      given = S.given shelf.new;
       taken = (K.written out.old, K.written out.new);
     }) airport commands.now result }
     ensures tried { BeganMore (S.tried shelf.old) (S.tried shelf.new) (commands.now ∷ []) }
@@ -98,7 +84,7 @@ fn run_engine<S: Shelf, K: Sink>(
 ) -> Result<u64, RunRefused>
     requires { IsTrue (S.begun shelf.old) }
     ensures whole { IfOk result (IsWholeRun airport commands_limit (S.rest shelf.old, S.rest shelf.new) (K.written out.old, K.written out.new)) }
-    ensures stopped { IfErr result (IsStopped airport commands_limit (S.rest shelf.old, S.rest shelf.new) (K.written out.old, K.written out.new)) }
+    ensures stopped { IfErr result (IsStopped airport commands_limit (S.rest shelf.old, S.rest shelf.new) (S.given shelf.old, S.given shelf.new) (K.written out.old, K.written out.new)) }
     ensures read_fault { IsErrOf result RunRefused.ReadFault → Rose (S.faults shelf.old) (S.faults shelf.new) }
     ensures write_fault { IsErrOf result RunRefused.WriteFault → Rose (K.faults out.old) (K.faults out.new) }
     ensures begun { S.begun shelf.new ≡ true }
@@ -108,10 +94,7 @@ fn run_engine<S: Shelf, K: Sink>(
     ensures files { S.files shelf.new ≡ S.files shelf.old }
 {
     let mut engine = Engine::new(alloc, airport)?;
-    let answered = run_commands(alloc, &mut engine, shelf, COMMANDS_LIMIT, out);
-    // A program makes one run and ends. Going through all windows to give each back would take longer than many a command.
-    forget(engine);
-    answered
+    run_commands(alloc, &mut engine, shelf, COMMANDS_LIMIT, out)
 }
 
 // Writes the line that says why a run ends before the end of its file, and gives the status that goes with it.

@@ -4,7 +4,7 @@ ghost use Rattle.taxi_base.specs.Airport.{Airport};
 ghost use Rattle.taxi_text.specs.Lines.{commands_of};
 ghost use Rattle.taxi_io.specs.SteadyFiles.{HasFile};
 ghost use Rattle.taxi_io.specs.Written.{Grew};
-ghost use Rattle.program_words.specs.Asked.{FileNames, Route, IsNamed, asked_by};
+ghost use Rattle.program_words.specs.Verb.{FileNames, Route, IsNamed, asked_by};
 ghost use Rattle.program_files.specs.Inputs.{AreAccepted};
 ghost use Rattle.taxi_cli.specs.Headline.{IsWholeAnswer};
 
@@ -25,7 +25,7 @@ pub fn taxi_over_steady_files(
     ensures ends { (names : FileNames) → asked_by (map string_bytes words.now) ≡ Some (Route names) → (airport : Airport) → (commands : List ℕ) →
         AreAccepted (Some shelf.old.files) names airport commands → (result ≡ Status.Done) ⊎ (result ≡ Status.Memory) }
     ensures done { (names : FileNames) → asked_by (map string_bytes words.now) ≡ Some (Route names) → result ≡ Status.Done →
-        (text : List ℕ) × IsWholeAnswer (Some shelf.old.files) names text × Grew (Some out.old.written) (Some out.new.written) text }
+        (text : List ℕ) × IsWholeAnswer (Some shelf.old.files) names text × Grew (record { bytes = Some out.old.written; pieces = out.old.pieces }) (record { bytes = Some out.new.written; pieces = out.new.pieces }) text }
 {
     taxi(alloc, words, shelf, out)
 }

@@ -1,23 +1,21 @@
 //! The call that the program makes.
 ghost use Rattle.std.specs.Prelude.{◌≡◌, ◌⊎◌, ◌≤◌, ℕ, List, map, string_bytes, Some, None};
-ghost use Rattle.std.specs.Process.{exit_status};
 ghost use Rattle.taxi_io.specs.Counts.{Rose};
 ghost use Rattle.taxi_io.specs.Files.{Files};
-ghost use Rattle.program_words.specs.Asked.{FileNames, Traffic, Route, Check, Generate, Migrate, Import, IsNamed, asked_by};
+ghost use Rattle.program_words.specs.Verb.{FileNames, Traffic, Route, Check, Generate, Migrate, Import, IsNamed, asked_by};
 ghost use Rattle.program_files.specs.Inputs.{IsInOrder};
 ghost use Rattle.taxi_cli.specs.Due.{IsDueOf};
-ghost use Rattle.taxi_cli.specs.Endings.{Ends};
-ghost use Rattle.taxi_cli.specs.Exit.{ExitsWith};
+ghost use Rattle.taxi_cli.specs.Endings.{Ends, call_of};
+ghost use Rattle.taxi_cli.specs.Handed.{IsInPieces};
 ghost use Rattle.taxi_cli.specs.Headline.{Headline};
-ghost use Rattle.taxi_cli.specs.Pace.{HaveBegun, KeepsPace, KeepsPaceOnceBegun, commands_left};
+ghost use Rattle.taxi_cli.specs.Pace.{HaveBegun, HaveBegunFirst, KeepsPace, EndsBeforeCommands, commands_left};
 
 use crate::checking::check;
 use crate::generating::generate;
 use crate::routing::route;
-use program_endings::{Status, exit_code, write_last};
-use program_words::{Asked, asked_by, usage_line};
+use program_endings::{Status, write_last};
+use program_words::{Verb, asked_by, usage_line};
 use std::alloc::Global;
-use std::process::ExitCode;
 use taxi_io::{Shelf, Sink};
 use text_verbs::{import, migrate};
 
@@ -31,12 +29,7 @@ pub fn taxi<S: Shelf, K: Sink>(
 ) -> Status
     requires known { (name : List ℕ) → IsNamed (asked_by (map string_bytes words.now)) name → S.knows shelf.old name }
 
-    ensures ends { Ends (record {
-      files = S.files shelf.old;
-      reads = (S.faults shelf.old, S.faults shelf.new);
-      writes = (K.faults out.old, K.faults out.new);
-      taken = (K.written out.old, K.written out.new);
-    }) (asked_by (map string_bytes words.now)) result }
+    ensures ends { Ends (call_of S.files S.faults S.given K.faults K.written (shelf.old, shelf.new) (out.old, out.new)) (asked_by (map string_bytes words.now)) result }
 
     // `Usage` comes exactly where the words are of no form, but for a line that can't be written. Nothing is read then.
     ensures usage { asked_by (map string_bytes words.now) ≡ None →
@@ -49,12 +42,7 @@ pub fn taxi<S: Shelf, K: Sink>(
         IsDueOf files (asked_by (map string_bytes words.now)) result ⊎ (result ≡ Status.Memory) }
 
     // With `route` it keeps the headline.
-    ensures headline { (names : FileNames) → asked_by (map string_bytes words.now) ≡ Some (Route names) → Headline (record {
-      files = S.files shelf.old;
-      reads = (S.faults shelf.old, S.faults shelf.new);
-      writes = (K.faults out.old, K.faults out.new);
-      taken = (K.written out.old, K.written out.new);
-    }) names result }
+    ensures headline { (names : FileNames) → asked_by (map string_bytes words.now) ≡ Some (Route names) → Headline (call_of S.files S.faults S.given K.faults K.written (shelf.old, shelf.new) (out.old, out.new)) names result }
 
     // With `generate` no file is begun, and where no write fails it ends with `Done`, but for want of memory.
     ensures made { (traffic : Traffic) → asked_by (map string_bytes words.now) ≡ Some (Generate traffic) →
@@ -62,55 +50,31 @@ pub fn taxi<S: Shelf, K: Sink>(
 
     // It answers each command before it takes more of the command file.
     ensures pace { (names : FileNames) → asked_by (map string_bytes words.now) ≡ Some (Route names) →
-        HaveBegun names (S.tried shelf.old) (S.tried shelf.new) → KeepsPace (record {
-          files = S.files shelf.old;
-          reads = (S.faults shelf.old, S.faults shelf.new);
-          writes = (K.faults out.old, K.faults out.new);
-          taken = (K.written out.old, K.written out.new);
-        }) names (commands_left (S.files shelf.old) names (S.begun shelf.new) (S.rest shelf.new)) result }
+        HaveBegun names (S.tried shelf.old) (S.tried shelf.new) → KeepsPace (call_of S.files S.faults S.given K.faults K.written (shelf.old, shelf.new) (out.old, out.new)) names (commands_left (S.files shelf.old) names (S.begun shelf.new) (S.rest shelf.new)) result }
 
-    // Where the names that were tried aren't told, it does so, or writes the last line alone, as before the command file is begun.
-    ensures once_begun { (names : FileNames) → asked_by (map string_bytes words.now) ≡ Some (Route names) → KeepsPaceOnceBegun (record {
-      files = S.files shelf.old;
-      reads = (S.faults shelf.old, S.faults shelf.new);
-      writes = (K.faults out.old, K.faults out.new);
-      taken = (K.written out.old, K.written out.new);
-    }) names (commands_left (S.files shelf.old) names (S.begun shelf.new) (S.rest shelf.new)) result }
+    // Until the command file is begun it answers no command.
+    ensures first { (names : FileNames) → asked_by (map string_bytes words.now) ≡ Some (Route names) →
+        HaveBegunFirst names (S.tried shelf.old) (S.tried shelf.new) → EndsBeforeCommands (call_of S.files S.faults S.given K.faults K.written (shelf.old, shelf.new) (out.old, out.new)) names result }
+
+    // It hands each block over as one piece.
+    ensures handed { (names : FileNames) → asked_by (map string_bytes words.now) ≡ Some (Route names) → IsInPieces (call_of S.files S.faults S.given K.faults K.written (shelf.old, shelf.new) (out.old, out.new)) names result }
 
     ensures order { IsInOrder (S.files shelf.old) (asked_by (map string_bytes words.now)) (S.tried shelf.old) (S.tried shelf.new) }
     ensures reads_later { S.faults shelf.old ≤ S.faults shelf.new }
     ensures writes_later { K.faults out.old ≤ K.faults out.new }
 {
     match asked_by(words) {
-        Some(Asked::Route { airport, commands }) => route(alloc, airport, commands, shelf, out),
+        Some(Verb::Route { airport, commands }) => route(alloc, airport, commands, shelf, out),
         Some(
-            Asked::Check {
+            Verb::Check {
                 airport,
                 commands,
                 transcript,
             },
         ) => check(alloc, airport, commands, transcript, shelf, out),
-        Some(Asked::Generate(traffic)) => generate(alloc, &traffic, out),
-        Some(Asked::Migrate { airport }) => migrate(alloc, airport, shelf, out),
-        Some(Asked::Import { airport, schedule }) => import(alloc, airport, schedule, shelf, out),
+        Some(Verb::Generate(traffic)) => generate(alloc, &traffic, out),
+        Some(Verb::Migrate { airport }) => migrate(alloc, airport, shelf, out),
+        Some(Verb::Import { airport, schedule }) => import(alloc, airport, schedule, shelf, out),
         None => write_last(out, usage_line(), Status::Usage),
     }
-}
-
-/// Does what the words ask for, and gives the number of the status with which it ends as the program's exit status.
-pub fn exit_of<S: Shelf, K: Sink>(
-    alloc: Global,
-    words: &[String],
-    shelf: &mut S,
-    out: &mut K,
-) -> ExitCode
-    requires known { (name : List ℕ) → IsNamed (asked_by (map string_bytes words.now)) name → S.knows shelf.old name }
-    ensures number { ExitsWith (record {
-      files = S.files shelf.old;
-      reads = (S.faults shelf.old, S.faults shelf.new);
-      writes = (K.faults out.old, K.faults out.new);
-      taken = (K.written out.old, K.written out.new);
-    }) (asked_by (map string_bytes words.now)) (exit_status result) }
-{
-    exit_code(taxi(alloc, words, shelf, out))
 }

@@ -18,19 +18,19 @@ use Rattle.taxi_engine.specs.Done.{IsDone, IsDoneOrMemory}
 
 -- a command that may want for memory is none of those that need none
 wants-needs : (airport : Airport) (state : State) (c : Command) → MayWantMemory airport state c → NeedsNoMemory (Some c) → ⊥
-wants-needs airport state (command.File flight class start steps) may needs = needs
-wants-needs airport state (command.Arrival flight class from to time hold) may needs = needs
-wants-needs airport state (command.Departure flight class from to time queue) may needs = needs
+wants-needs airport state (command.File filed) may needs = needs
+wants-needs airport state (command.Arrival asked) may needs = needs
+wants-needs airport state (command.Departure asked) may needs = needs
 wants-needs airport state (command.Cancel flight) may needs = may
 wants-needs airport state (command.Reroute flight time) may needs = needs
 wants-needs airport state (command.Divert flight time node) may needs = needs
 wants-needs airport state (command.Windows segment) may needs = needs
 wants-needs airport state (command.Occupancy segment) may needs = needs
 wants-needs airport state command.Timetable may needs = needs
-wants-needs airport state (command.Work name segment from until) may needs = needs
+wants-needs airport state (command.Work shut) may needs = needs
 wants-needs airport state (command.WorkDone name) may needs = may
-wants-needs airport state (command.ArrivalAny flight class from time hold stands) may needs = needs
-wants-needs airport state (command.DepartureAny flight class from time queue nodes) may needs = needs
+wants-needs airport state (command.ArrivalAny asked) may needs = needs
+wants-needs airport state (command.DepartureAny asked) may needs = needs
 
 module _ (old new : EngineState) (line : List ℕ) (well : IsWellFormed old.airport) (sound : IsSound old.airport old.state) (names : HaveNames old.state) where
   -- by what a reply says
@@ -74,19 +74,19 @@ module _ (old new : EngineState) (line : List ℕ) (well : IsWellFormed old.airp
   pub file-answers : IsSomeAnd (command_of line) EndsInList → IsDone (refused old.state refusal.Memory) old new → Answers old line new
   file-answers files done = go (command_of line) (λ i. command_of line) files where
     filing : (c : Command) → EndsInList c → MayWantMemory old.airport old.state c
-    filing (command.File flight class start steps) file = tt
-    filing (command.Arrival flight class from to time hold) file = absurd file
-    filing (command.Departure flight class from to time queue) file = absurd file
+    filing (command.File filed) file = tt
+    filing (command.Arrival asked) file = absurd file
+    filing (command.Departure asked) file = absurd file
     filing (command.Cancel flight) file = absurd file
     filing (command.Reroute flight time) file = absurd file
     filing (command.Divert flight time node) file = absurd file
     filing (command.Windows segment) file = absurd file
     filing (command.Occupancy segment) file = absurd file
     filing command.Timetable file = absurd file
-    filing (command.Work name segment from until) file = absurd file
+    filing (command.Work shut) file = absurd file
     filing (command.WorkDone name) file = absurd file
-    filing (command.ArrivalAny flight class from time hold stands) file = tt
-    filing (command.DepartureAny flight class from time queue nodes) file = tt
+    filing (command.ArrivalAny asked) file = tt
+    filing (command.DepartureAny asked) file = tt
 
     go : (o : Option Command) → command_of line ≡ o → IsSomeAnd o EndsInList → Answers old line new
     go None e files = absurd files

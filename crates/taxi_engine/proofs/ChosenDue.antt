@@ -1,5 +1,5 @@
 -- When a route to the best of several nodes is due, and what was chosen is told.
-use Rattle.std.proofs.Common.{◌≡◌, ℕ, List, None, refl, subst, inl, inr}
+use Rattle.std.proofs.Common.{◌≡◌, List, None, refl, subst, inl, inr}
 use Rattle.std.specs.Prelude.{All, IfOk, Result}
 use Rattle.taxi_base.specs.declared.collections.Memory.{Memory}
 use Rattle.taxi_base.specs.declared.numbers.Class.{Class}
@@ -12,6 +12,7 @@ use Rattle.taxi_base.specs.Windows.{Hold}
 use Rattle.taxi_base.specs.Walks.{conditions_among}
 use Rattle.taxi_base.specs.Faults.{conditions_in}
 use Rattle.taxi_base.proofs.WalkLaws.{conditions_among-bounded}
+use Rattle.taxi_text.specs.declared.command.AskedAny.{AskedAny}
 use Rattle.taxi_text.specs.declared.command.Command.{Command}
 use Rattle.taxi_text.specs.declared.command.Command.TheVariants as command
 use Rattle.certificate.specs.Printable.{HasArc}
@@ -20,51 +21,51 @@ use Rattle.certificate.specs.Refusals.{first_refusal}
 use Rattle.certificate.specs.CarriedOut.{chosen_reply}
 use Rattle.certificate.specs.Replies.{refused}
 use Rattle.certificate.proofs.FoundLaws.{labels_of_chosen, chosen-printable}
-use Rattle.command_refusals.specs.declared.choosing.AskedAny.{AskedAny}
+use Rattle.command_refusals.specs.declared.choosing.TripToAny.{TripToAny}
 use Rattle.taxi_engine.specs.Engine.{EngineState, MayWantMemory}
 use Rattle.command_refusals.specs.Accepted.{IsRefused}
 use Rattle.taxi_engine.specs.Done.{IsDone, IsDoneOrMemory}
-use Rattle.command_refusals.specs.Named.{AreAnyNamed}
+use Rattle.command_refusals.specs.Named.{IsTripOfAny}
 use Rattle.taxi_engine.specs.Choosing.{IsChosenTold}
 use Rattle.taxi_engine.proofs.DueLaws.{refusal-due}
 use Rattle.taxi_engine.proofs.RouteLaws.{printable-arcs}
 
-module _ (old new : EngineState) (flight class from : List ℕ) (names : List (List ℕ)) (asked : AskedAny) (named : AreAnyNamed old.airport class from names asked) (chosen : Result Chosen Memory) where
-  pub arrival_any-done : (time hold : ℕ) → first_refusal old.airport old.state (command.ArrivalAny flight class from time hold names) ≡ None
-      → IfOk chosen (AnswersChoice (conditions_in old.airport asked.class old.state) (arrival_any asked.from asked.nodes time hold))
-      → IsChosenTold flight asked.class (arrival_any asked.from asked.nodes time hold) chosen old new → IsDoneOrMemory (command.ArrivalAny flight class from time hold names) old new
-  arrival_any-done time hold none answers (inr memory) = inr (tt, memory)
-  arrival_any-done time hold none answers (inl told) =
-      let choice = arrival_any asked.from asked.nodes time hold in
+module _ (old new : EngineState) (asked : AskedAny) (trip : TripToAny) (named : IsTripOfAny old.airport asked trip) (chosen : Result Chosen Memory) where
+  pub arrival_any-done : first_refusal old.airport old.state (command.ArrivalAny asked) ≡ None
+      → IfOk chosen (AnswersChoice (conditions_in old.airport trip.class old.state) (arrival_any trip.from trip.nodes trip.time trip.slack))
+      → IsChosenTold asked.flight trip.class (arrival_any trip.from trip.nodes trip.time trip.slack) chosen old new → IsDoneOrMemory (command.ArrivalAny asked) old new
+  arrival_any-done none answers (inr memory) = inr (tt, memory)
+  arrival_any-done none answers (inl told) =
+      let choice = arrival_any trip.from trip.nodes trip.time trip.slack in
       inl (record {
-        reply = chosen_reply old.state flight asked.class choice told.0;
+        reply = chosen_reply old.state asked.flight trip.class choice told.0;
         due = rw none (record {
-          class = asked.class;
+          class = trip.class;
           choice = choice;
           class_known = named.class_known;
-          nodes_known = rw (named.from_known, named.nodes_known) refl;
+          nodes_known = rw (named.from_known, named.nodes_known, named.time, named.slack) refl;
           chosen = told.0;
-          answers = subst (λ r. IfOk r (AnswersChoice (conditions_in old.airport asked.class old.state) choice)) told.1 answers;
+          answers = subst (λ r. IfOk r (AnswersChoice (conditions_in old.airport trip.class old.state) choice)) told.1 answers;
           reply = (refl, refl);
         });
         done = told.2;
       })
 
-  pub departure_any-done : (time queue : ℕ) → first_refusal old.airport old.state (command.DepartureAny flight class from time queue names) ≡ None
-      → IfOk chosen (AnswersChoice (conditions_in old.airport asked.class old.state) (departure_any asked.from asked.nodes time queue))
-      → IsChosenTold flight asked.class (departure_any asked.from asked.nodes time queue) chosen old new → IsDoneOrMemory (command.DepartureAny flight class from time queue names) old new
-  departure_any-done time queue none answers (inr memory) = inr (tt, memory)
-  departure_any-done time queue none answers (inl told) =
-      let choice = departure_any asked.from asked.nodes time queue in
+  pub departure_any-done : first_refusal old.airport old.state (command.DepartureAny asked) ≡ None
+      → IfOk chosen (AnswersChoice (conditions_in old.airport trip.class old.state) (departure_any trip.from trip.nodes trip.time trip.slack))
+      → IsChosenTold asked.flight trip.class (departure_any trip.from trip.nodes trip.time trip.slack) chosen old new → IsDoneOrMemory (command.DepartureAny asked) old new
+  departure_any-done none answers (inr memory) = inr (tt, memory)
+  departure_any-done none answers (inl told) =
+      let choice = departure_any trip.from trip.nodes trip.time trip.slack in
       inl (record {
-        reply = chosen_reply old.state flight asked.class choice told.0;
+        reply = chosen_reply old.state asked.flight trip.class choice told.0;
         due = rw none (record {
-          class = asked.class;
+          class = trip.class;
           choice = choice;
           class_known = named.class_known;
-          nodes_known = rw (named.from_known, named.nodes_known) refl;
+          nodes_known = rw (named.from_known, named.nodes_known, named.time, named.slack) refl;
           chosen = told.0;
-          answers = subst (λ r. IfOk r (AnswersChoice (conditions_in old.airport asked.class old.state) choice)) told.1 answers;
+          answers = subst (λ r. IfOk r (AnswersChoice (conditions_in old.airport trip.class old.state) choice)) told.1 answers;
           reply = (refl, refl);
         });
         done = told.2;

@@ -7,13 +7,13 @@ use Rattle.taxi_base.specs.declared.answers.Request.{Request}
 use Rattle.taxi_base.specs.declared.answers.Request.TheVariants as request
 use Rattle.taxi_base.specs.declared.answers.Flight.{Flight}
 use Rattle.taxi_base.specs.declared.answers.Refusal.TheVariants as refusal
-use Rattle.taxi_base.specs.Airport.{Airport, node_named}
+use Rattle.taxi_base.specs.Airport.{Airport, node_named, is_stand, is_of_kind}
 use Rattle.taxi_base.specs.Walks.{begin_of, end_of}
 use Rattle.taxi_base.specs.State.{State, flight_named, with_route}
 use Rattle.taxi_base.specs.Again.{retargeted}
 use Rattle.taxi_text.specs.declared.command.Command.{Command}
 use Rattle.taxi_text.specs.declared.command.Command.TheVariants as command
-use Rattle.certificate.specs.Refusals.{is_stand, refused_if, first_of, not_routed, not_arrival, already_done, already_moving, first_refusal}
+use Rattle.certificate.specs.Refusals.{refused_if, first_of, not_routed, not_arrival, already_done, already_moving, first_refusal}
 use Rattle.certificate.specs.CarriedOut.{Reply, found_reply, IsCarriedOut}
 use Rattle.certificate.specs.Replies.{refused}
 use Rattle.reroute.specs.declared.refused.RerouteRefused.{RerouteRefused}
@@ -21,7 +21,6 @@ use Rattle.reroute.specs.declared.refused.RerouteRefused.TheVariants as reroute
 use Rattle.reroute.specs.Refused.{flight_refusal, again_refusal}
 use Rattle.taxi_engine.specs.Engine.{EngineState, MayWantMemory}
 use Rattle.taxi_engine.specs.Done.{IsDone, IsDoneOrMemory}
-use Rattle.command_refusals.specs.Named.{is_of_kind}
 use Rattle.taxi_engine.specs.Rerouted.{refusal_told, IsFoundAgainTold, IsToldAgain}
 use Rattle.taxi_engine.proofs.DueLaws.{refusal-due}
 

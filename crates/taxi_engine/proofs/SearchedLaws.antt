@@ -1,9 +1,9 @@
 -- A search in the windows of the ledger's store is one among the flights in force.
-use Rattle.std.proofs.Common.{◌≡◌, ◌∙◌, ◌≤◌, ℕ, None, ap}
+use Rattle.std.proofs.Common.{◌≡◌, ◌∙◌, ◌≤◌, None, ap}
 use Rattle.std.specs.Prelude.{All}
 use Rattle.taxi_base.specs.declared.numbers.Class.{Class}
-use Rattle.taxi_base.specs.Airport.{Airport, clearance_of}
-use Rattle.taxi_base.specs.Walks.{conditions_in_windows}
+use Rattle.taxi_base.specs.Airport.{Airport}
+use Rattle.taxi_base.specs.Walks.{conditions_of_class}
 use Rattle.taxi_base.specs.State.{holds_in}
 use Rattle.taxi_base.specs.Faults.{conditions_in}
 use Rattle.window_store.specs.Store.{Store}
@@ -17,9 +17,7 @@ module _ (airport : Airport) (book : Book) (fits : Fits airport book) (unlifted 
   pub windows-by : All (All (λ w. w.until ≤ airport.horizon)) (windows_of book.store)
   windows-by = among.windows-by airport (holds_in airport book.state) book.store fits.lists (all_stand airport book fits unlifted)
 
-  -- and the conditions in them, by the clearance and the store that were asked for, are those among the flights
-  pub conditions-found : (class : Class) (clearance : ℕ) (store : Store) → clearance ≡ clearance_of airport class → store ≡ book.store
-      → conditions_in_windows airport class clearance (windows_of store) ≡ conditions_in airport class book.state
-  conditions-found class clearance store cleared same =
-      ap (λ (g : ℕ). conditions_in_windows airport class g (windows_of store)) cleared ∙ ap (λ (s : Store). conditions_in_windows airport class (clearance_of airport class) (windows_of s)) same
-      ∙ among.conditions-among airport (holds_in airport book.state) book.store fits.lists (all_stand airport book fits unlifted) class
+  -- and the conditions in them, by the store that was asked for, are those among the flights
+  pub conditions-found : (class : Class) (store : Store) → store ≡ book.store → conditions_of_class airport class (windows_of store) ≡ conditions_in airport class book.state
+  conditions-found class store same =
+      ap (λ (s : Store). conditions_of_class airport class (windows_of s)) same ∙ among.conditions-among airport (holds_in airport book.state) book.store fits.lists (all_stand airport book fits unlifted) class

@@ -7,16 +7,16 @@ use Rattle.taxi_base.specs.declared.collections.Memory.{Memory}
 use Rattle.certificate.specs.Asked.{Choice, arrival_any, departure_any}
 use Rattle.certificate.specs.CarriedOut.{chosen_reply}
 use Rattle.certificate.specs.Replies.{refused}
-use Rattle.command_refusals.specs.declared.choosing.AskedAny.{AskedAny}
-use Rattle.taxi_engine.specs.declared.choosing.Wanted.{Wanted}
-use Rattle.taxi_engine.specs.declared.choosing.Wanted.TheVariants.{Arrival, Departure}
+use Rattle.command_refusals.specs.declared.choosing.TripToAny.{TripToAny}
+use Rattle.taxi_engine.specs.declared.choosing.Movement.{Movement}
+use Rattle.taxi_engine.specs.declared.choosing.Movement.TheVariants.{Arrival, Departure}
 use Rattle.taxi_engine.specs.Engine.{EngineState}
 use Rattle.taxi_engine.specs.Done.{IsDone}
 
 -- the choice that is asked for
-abbrev pub choice_of : AskedAny → Wanted → Choice
-choice_of asked (Arrival time hold) = arrival_any asked.from asked.nodes time hold
-choice_of asked (Departure time queue) = departure_any asked.from asked.nodes time queue
+abbrev pub choice_of : TripToAny → Movement → Choice
+choice_of trip Arrival = arrival_any trip.from trip.nodes trip.time trip.slack
+choice_of trip Departure = departure_any trip.from trip.nodes trip.time trip.slack
 
 -- what was chosen is told, and with a route its flight is in force
 abbrev pub IsChosenTold : List ℕ → Class → Choice → Result Chosen Memory → EngineState → EngineState → Type 0

@@ -1,20 +1,11 @@
 -- What a part of the engine has done for a line. No public clause cites these.
-use Rattle.std.specs.Prelude.{◌≡◌, ◌⊎◌, Bool, true, false}
+use Rattle.std.specs.Prelude.{◌≡◌, ◌⊎◌}
 use Rattle.taxi_base.specs.declared.answers.Refusal.TheVariants as refusal
 use Rattle.taxi_text.specs.declared.command.Command.{Command}
-use Rattle.taxi_text.specs.declared.command.Command.TheVariants.{Arrival, Departure, ArrivalAny, DepartureAny}
 use Rattle.certificate.specs.Texts.{block_text}
 use Rattle.certificate.specs.CarriedOut.{Reply}
 use Rattle.certificate.specs.Replies.{refused, IsDueTo}
 use Rattle.taxi_engine.specs.Engine.{EngineState, MayWantMemory}
-
--- whether a command routes a new flight by a search
-abbrev pub seeks_route : Command → Bool
-seeks_route (Arrival flight class from to time hold) = true
-seeks_route (Departure flight class from to time queue) = true
-seeks_route (ArrivalAny flight class from time hold stands) = true
-seeks_route (DepartureAny flight class from time queue nodes) = true
-seeks_route _ = false
 
 -- the reply is written, and the state is that afterwards
 abbrev pub IsDone : Reply → EngineState → EngineState → Type 0

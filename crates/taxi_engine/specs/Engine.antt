@@ -23,9 +23,9 @@ pub record EngineState : Type 0 where
 -- A command may want for memory: one that ends in a list, and one of any other form but `cancel` and `workdone` that is refused
 -- nothing.
 abbrev pub MayWantMemory : Airport → State → Command → Type 0
-MayWantMemory airport state (command.File flight class start steps) = ⊤
-MayWantMemory airport state (command.ArrivalAny flight class from time hold stands) = ⊤
-MayWantMemory airport state (command.DepartureAny flight class from time queue nodes) = ⊤
+MayWantMemory airport state (command.File filed) = ⊤
+MayWantMemory airport state (command.ArrivalAny asked) = ⊤
+MayWantMemory airport state (command.DepartureAny asked) = ⊤
 MayWantMemory airport state (command.Cancel flight) = ⊥
 MayWantMemory airport state (command.WorkDone name) = ⊥
 MayWantMemory airport state other = first_refusal airport state other ≡ None

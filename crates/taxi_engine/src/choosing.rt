@@ -11,120 +11,63 @@ ghost use Rattle.taxi_engine.specs.Choosing.{choice_of, IsChosenTold};
 
 use crate::Engine;
 use airport_file::Airport;
-use command_refusals::{AskedAny, asked_arrival_any, asked_departure_any};
+use backward_search::Departure;
+use command_refusals::{TripToAny, asked_arrival_any, asked_departure_any};
 use commitments::Ledger;
+use forward_search::Start;
 use place_cells::SearchRoom;
 use stand_choice::{choose_arrival, choose_departure};
 use std::alloc::Global;
-use taxi_base::{Chosen, Flight, Memory, Name, Node, Refusal, Request, Time};
+use taxi_base::{Chosen, Flight, Memory, Name, Node, Refusal, Request};
+use taxi_text::AskedAny;
 
-/// What is wanted of a choice: when an arrival may begin, or when a departure may end.
+/// Whether a choice is an arrival's or a departure's.
 #[derive(Clone, Copy)]
-pub(crate) enum Wanted {
-    Arrival { time: Time, hold: Time },
-    Departure { time: Time, queue: Time },
+pub(crate) enum Movement {
+    Arrival,
+    Departure,
 }
 
 // The request for one of the nodes.
-fn request_for(asked: &AskedAny, wanted: Wanted, to: Node) -> Request
-    ensures { result ≡ request_for (choice_of asked.now wanted) to }
+fn request_for(trip: &TripToAny, movement: Movement, to: Node) -> Request
+    ensures { result ≡ request_for (choice_of trip.now movement) to }
 {
-    let from = asked.from;
-    match wanted {
-        Wanted::Arrival { time, hold } => Request::Arrival {
-            from,
-            to,
-            time,
-            hold,
-        },
-        Wanted::Departure { time, queue } => Request::Departure {
-            from,
-            to,
-            time,
-            queue,
-        },
+    let one = trip.to_one(to);
+    match movement {
+        Movement::Arrival => one.arrival(),
+        Movement::Departure => one.departure(),
     }
 }
 
 impl Engine {
     /// Routes an arrival to the best of some stands, or refuses it.
-    pub(crate) fn route_arrival_any(
-        &mut self,
-        flight: &Name,
-        class: &Name,
-        from: &Name,
-        time: Time,
-        hold: Time,
-        stands: &[Name],
-    )
-        requires name { IsName flight.now }
-        requires time { IsShort time }
-        requires hold { IsShort hold }
-        ensures { IsDoneOrMemory (command.ArrivalAny flight.now class.now from.now time hold stands.now) self.old self.new }
+    pub(crate) fn route_arrival_any(&mut self, asked: &AskedAny)
+        requires name { IsName asked.now.flight }
+        requires time { IsShort asked.now.time }
+        requires slack { IsShort asked.now.slack }
+        ensures { IsDoneOrMemory (command.ArrivalAny asked.now) self.old self.new }
     {
-        let asked = asked_arrival_any(
-            self.alloc,
-            &self.airport,
-            &self.ledger,
-            flight,
-            class,
-            from,
-            stands,
-        );
-        match asked {
-            Ok(asked) => {
-                let chosen = find_arrival_any(
-                    self.alloc,
-                    &mut self.room,
-                    &self.airport,
-                    &self.ledger,
-                    &asked,
-                    time,
-                    hold,
-                );
-                let wanted = Wanted::Arrival { time, hold };
-                self.tell_chosen(flight, &asked, wanted, chosen);
+        match asked_arrival_any(self.alloc, &self.airport, &self.ledger, asked) {
+            Ok(trip) => {
+                let (airport, ledger) = (&self.airport, &self.ledger);
+                let chosen = find_arrival_any(self.alloc, &mut self.room, airport, ledger, &trip);
+                self.tell_chosen(&asked.flight, &trip, Movement::Arrival, chosen);
             }
             Err(why) => self.refuse(&why),
         }
     }
 
     /// Routes a departure to the best of some runway nodes, or refuses it.
-    pub(crate) fn route_departure_any(
-        &mut self,
-        flight: &Name,
-        class: &Name,
-        from: &Name,
-        time: Time,
-        queue: Time,
-        nodes: &[Name],
-    )
-        requires name { IsName flight.now }
-        requires time { IsShort time }
-        ensures { IsDoneOrMemory (command.DepartureAny flight.now class.now from.now time queue nodes.now) self.old self.new }
+    pub(crate) fn route_departure_any(&mut self, asked: &AskedAny)
+        requires name { IsName asked.now.flight }
+        requires time { IsShort asked.now.time }
+        ensures { IsDoneOrMemory (command.DepartureAny asked.now) self.old self.new }
     {
-        let asked = asked_departure_any(
-            self.alloc,
-            &self.airport,
-            &self.ledger,
-            flight,
-            class,
-            from,
-            nodes,
-        );
-        match asked {
-            Ok(asked) => {
-                let chosen = find_departure_any(
-                    self.alloc,
-                    &mut self.room,
-                    &self.airport,
-                    &self.ledger,
-                    &asked,
-                    time,
-                    queue,
-                );
-                let wanted = Wanted::Departure { time, queue };
-                self.tell_chosen(flight, &asked, wanted, chosen);
+        match asked_departure_any(self.alloc, &self.airport, &self.ledger, asked) {
+            Ok(trip) => {
+                let (airport, ledger) = (&self.airport, &self.ledger);
+                let chosen = find_departure_any(self.alloc, &mut self.room, airport, ledger, &trip);
+                self.tell_chosen(&asked.flight, &trip, Movement::Departure, chosen);
             }
             Err(why) => self.refuse(&why),
         }
@@ -134,14 +77,14 @@ impl Engine {
     fn tell_chosen(
         &mut self,
         flight: &Name,
-        asked: &AskedAny,
-        wanted: Wanted,
+        trip: &TripToAny,
+        movement: Movement,
         chosen: Result<Chosen, Memory>,
     )
         requires name { IsName flight.now }
         requires new { IsNew self.old.state flight.now }
-        requires answers { IfOk chosen (AnswersChoice (conditions_in self.old.airport asked.now.class self.old.state) (choice_of asked.now wanted)) }
-        ensures { IsChosenTold flight.now asked.now.class (choice_of asked.now wanted) chosen self.old self.new }
+        requires answers { IfOk chosen (AnswersChoice (conditions_in self.old.airport trip.now.class self.old.state) (choice_of trip.now movement)) }
+        ensures { IsChosenTold flight.now trip.now.class (choice_of trip.now movement) chosen self.old self.new }
     {
         // The airport keeps its rules, so each label is of one of its arcs.
         let _ = self.airport.horizon();
@@ -149,14 +92,14 @@ impl Engine {
             Ok(Chosen::Route { to, steps, labels }) => {
                 let flight = Flight {
                     name: *flight,
-                    class: asked.class,
-                    request: request_for(asked, wanted, to),
+                    class: trip.class,
+                    request: request_for(trip, movement, to),
                     steps,
                 };
                 self.take_route(flight, &labels);
             }
             Ok(Chosen::NoRoute { labels }) => self.tell_no_route(labels),
-            Err(Memory) => self.refuse(&Refusal::Memory),
+            Err(_memory) => self.refuse(&Refusal::Memory),
         }
     }
 }
@@ -167,33 +110,23 @@ fn find_arrival_any(
     room: &mut SearchRoom,
     airport: &Airport,
     ledger: &Ledger,
-    asked: &AskedAny,
-    time: Time,
-    hold: Time,
+    trip: &TripToAny,
 ) -> Result<Chosen, Memory>
     requires fits { Fits airport.now ledger.now }
     requires unlifted { ledger.now.lifted ≡ None }
-    requires nodes { All (λ n. n.0 < length airport.now.nodes) asked.now.nodes }
-    requires time { IsShort time }
-    requires hold { IsShort hold }
-    ensures { IfOk result (AnswersChoice (conditions_in airport.now asked.now.class ledger.now.state) (arrival_any asked.now.from asked.now.nodes time hold)) }
+    requires nodes { All (λ n. n.0 < length airport.now.nodes) trip.now.nodes }
+    requires time { IsShort trip.now.time }
+    requires slack { IsShort trip.now.slack }
+    ensures { IfOk result (AnswersChoice (conditions_in airport.now trip.now.class ledger.now.state) (arrival_any trip.now.from trip.now.nodes trip.now.time trip.now.slack)) }
 {
-    let clearance = airport.clearance(asked.class);
+    let start = Start::Node {
+        from: trip.from,
+        earliest: trip.time,
+        latest: trip.time + trip.slack,
+    };
     let store = ledger.store();
-    let nodes = asked.nodes.as_slice();
-    let latest = time + hold;
-    choose_arrival(
-        alloc,
-        room,
-        airport,
-        store,
-        asked.from,
-        nodes,
-        asked.class,
-        time,
-        latest,
-        clearance,
-    )
+    let nodes = trip.nodes.as_slice();
+    choose_arrival(alloc, room, airport, store, start, trip.class, nodes)
 }
 
 // Searches for a departure to one of some runway nodes among the holders in force.
@@ -202,30 +135,22 @@ fn find_departure_any(
     room: &mut SearchRoom,
     airport: &Airport,
     ledger: &Ledger,
-    asked: &AskedAny,
-    time: Time,
-    queue: Time,
+    trip: &TripToAny,
 ) -> Result<Chosen, Memory>
     requires fits { Fits airport.now ledger.now }
     requires unlifted { ledger.now.lifted ≡ None }
-    requires nodes { All (λ n. n.0 < length airport.now.nodes) asked.now.nodes }
-    requires time { IsShort time }
-    ensures { IfOk result (AnswersChoice (conditions_in airport.now asked.now.class ledger.now.state) (departure_any asked.now.from asked.now.nodes time queue)) }
+    requires nodes { All (λ n. n.0 < length airport.now.nodes) trip.now.nodes }
+    requires time { IsShort trip.now.time }
+    ensures { IfOk result (AnswersChoice (conditions_in airport.now trip.now.class ledger.now.state) (departure_any trip.now.from trip.now.nodes trip.now.time trip.now.slack)) }
 {
-    let earliest = time.saturating_sub(queue);
-    let clearance = airport.clearance(asked.class);
+    let earliest_out = trip.time.saturating_sub(trip.slack);
+    let departure = Departure {
+        class: trip.class,
+        from: trip.from,
+        earliest_out,
+        latest_out: trip.time,
+    };
     let store = ledger.store();
-    let nodes = asked.nodes.as_slice();
-    choose_departure(
-        alloc,
-        room,
-        airport,
-        store,
-        asked.from,
-        nodes,
-        asked.class,
-        earliest,
-        time,
-        clearance,
-    )
+    let nodes = trip.nodes.as_slice();
+    choose_departure(alloc, room, airport, store, departure, nodes)
 }

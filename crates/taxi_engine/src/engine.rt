@@ -1,11 +1,11 @@
 //! The engine.
-ghost use Rattle.std.specs.Prelude.{◌≡◌, true, [], None, IfOk};
+ghost use Rattle.std.specs.Prelude.{◌≡◌, [], None, IfOk};
 ghost use Rattle.taxi_base.specs.State.{no_holder, IsSound};
 ghost use Rattle.certificate.specs.Asked.{IsInGrammar};
 ghost use Rattle.certificate.specs.Replies.{refused};
 ghost use Rattle.commitments.specs.Book.{Fits};
 ghost use Rattle.taxi_engine.specs.Engine.{Answers};
-ghost use Rattle.taxi_engine.specs.Done.{seeks_route, IsDone, IsDoneOrMemory};
+ghost use Rattle.taxi_engine.specs.Done.{IsDone, IsDoneOrMemory};
 
 use crate::reply::ReplyText;
 use crate::texts::refused_text;
@@ -103,72 +103,19 @@ impl Engine {
         ensures { IsDoneOrMemory command.now self.old self.new }
     {
         match command {
-            Command::File {
-                flight,
-                class,
-                start,
-                steps,
-            } => self.file(flight, class, *start, steps.as_slice()),
+            Command::File(filed) => self.file(filed),
+            Command::Arrival(asked) => self.route_arrival(asked),
+            Command::Departure(asked) => self.route_departure(asked),
+            Command::ArrivalAny(asked) => self.route_arrival_any(asked),
+            Command::DepartureAny(asked) => self.route_departure_any(asked),
             Command::Cancel { flight } => self.cancel(flight),
             Command::Reroute { flight, time } => self.reroute(flight, *time),
             Command::Divert { flight, time, node } => self.divert(flight, *time, node),
-            Command::Work {
-                name,
-                segment,
-                from,
-                until,
-            } => self.shut(name, segment, *from, *until),
+            Command::Work(shut) => self.shut(shut),
             Command::WorkDone { name } => self.open_again(name),
             Command::Windows { segment } => self.tell_windows(segment),
             Command::Occupancy { segment } => self.tell_occupancy(segment),
             Command::Timetable => self.tell_timetable(),
-            Command::Arrival { .. }
-            | Command::Departure { .. }
-            | Command::ArrivalAny { .. }
-            | Command::DepartureAny { .. } => self.route(command),
-        }
-    }
-
-    // Routes a new flight by a search, or refuses it.
-    fn route(&mut self, command: &Command)
-        requires seeks { seeks_route command.now ≡ true }
-        requires grammar { IsInGrammar command.now }
-        ensures { IsDoneOrMemory command.now self.old self.new }
-    {
-        match command {
-            Command::Arrival {
-                flight,
-                class,
-                from,
-                to,
-                time,
-                hold,
-            } => self.route_arrival(flight, class, from, to, *time, *hold),
-            Command::Departure {
-                flight,
-                class,
-                from,
-                to,
-                time,
-                queue,
-            } => self.route_departure(flight, class, from, to, *time, *queue),
-            Command::ArrivalAny {
-                flight,
-                class,
-                from,
-                time,
-                hold,
-                stands,
-            } => self.route_arrival_any(flight, class, from, *time, *hold, stands.as_slice()),
-            Command::DepartureAny {
-                flight,
-                class,
-                from,
-                time,
-                queue,
-                nodes,
-            } => self.route_departure_any(flight, class, from, *time, *queue, nodes.as_slice()),
-            _ => unreachable!(),
         }
     }
 

@@ -7,27 +7,17 @@ ghost use Rattle.taxi_engine.specs.Done.{IsDoneOrMemory};
 use crate::Engine;
 use crate::texts::filed_text;
 use command_refusals::check_filed;
-use taxi_base::{Name, Time};
-use taxi_text::FiledStep;
+use taxi_text::Filed;
 
 impl Engine {
     /// Files a route given by hand, or refuses it.
-    pub(crate) fn file(&mut self, flight: &Name, class: &Name, start: Time, filed: &[FiledStep])
-        requires name { IsName flight.now }
-        requires few { length filed.now ≤ 256 }
-        requires some { 1 ≤ length filed.now }
-        ensures { IsDoneOrMemory (File flight.now class.now start filed.now) self.old self.new }
+    pub(crate) fn file(&mut self, filed: &Filed)
+        requires name { IsName filed.now.flight }
+        requires few { length filed.now.steps ≤ 256 }
+        requires some { 1 ≤ length filed.now.steps }
+        ensures { IsDoneOrMemory (File filed.now) self.old self.new }
     {
-        let checked = check_filed(
-            self.alloc,
-            &self.airport,
-            &mut self.ledger,
-            flight,
-            class,
-            start,
-            filed,
-        );
-        match checked {
+        match check_filed(self.alloc, &self.airport, &mut self.ledger, filed) {
             Ok(flight) => {
                 self.reply.set_short(filed_text(&self.airport, &flight));
                 self.ledger.commit(&self.airport, flight);

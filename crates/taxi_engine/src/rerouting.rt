@@ -10,8 +10,7 @@ ghost use Rattle.taxi_engine.specs.Routed.{IsToldOrMemory};
 ghost use Rattle.taxi_engine.specs.Rerouted.{refusal_told, request_to, IsOnAnother, IsToldAgain};
 
 use crate::Engine;
-use crate::routing::prepare_route;
-use command_refusals::is_stand;
+use crate::routing::prepare_route_again;
 use commitments::Ledger;
 use reroute::{RerouteRefused, again};
 use taxi_base::{Flight, Found, LabelRow, List, Name, Node, Refusal, Request, Step, Time};
@@ -32,7 +31,7 @@ impl Engine {
             self.refuse(&Refusal::UnknownNode);
             return;
         };
-        if !is_stand(&self.airport, node) {
+        if !self.airport.is_stand(node) {
             self.refuse(&Refusal::WrongKind);
             return;
         }
@@ -64,7 +63,7 @@ impl Engine {
     {
         let labels = labels.as_slice();
         let (airport, ledger, reply) = (&self.airport, &mut self.ledger, &mut self.reply);
-        if prepare_route(airport, ledger, reply, &flight, labels).is_err() {
+        if prepare_route_again(airport, ledger, reply, &flight, labels).is_err() {
             self.refuse(&Refusal::Memory);
             return;
         }
@@ -92,33 +91,9 @@ fn on_another_route(ledger: &Ledger, name: &Name, to: Option<Node>, steps: List<
 fn request_to(to: Option<Node>, request: Request) -> Request
     ensures { result ≡ request_to to request }
 {
-    let Some(to) = to else {
-        return request;
-    };
-    match request {
-        Request::Filed => Request::Filed,
-        Request::Arrival {
-            from,
-            time,
-            hold,
-            ..
-        } => Request::Arrival {
-            from,
-            to,
-            time,
-            hold,
-        },
-        Request::Departure {
-            from,
-            time,
-            queue,
-            ..
-        } => Request::Departure {
-            from,
-            to,
-            time,
-            queue,
-        },
+    match to {
+        Some(to) => request.retargeted(to),
+        None => request,
     }
 }
 

@@ -1,6 +1,6 @@
 //! A route that is searched for: it is told with its labels, and its flight goes in force.
 ghost use Rattle.std.specs.Prelude.{◌≡◌, ◌<◌, length, All, OnOk, IfOk, None};
-ghost use Rattle.taxi_base.specs.State.{with_flight};
+ghost use Rattle.taxi_base.specs.State.{holder_count, with_flight};
 ghost use Rattle.taxi_base.specs.Walks.{Meets};
 ghost use Rattle.taxi_base.specs.Faults.{conditions_in};
 ghost use Rattle.taxi_text.specs.declared.command.Command.TheVariants as command;
@@ -9,6 +9,7 @@ ghost use Rattle.certificate.specs.Texts.{block_text};
 ghost use Rattle.certificate.specs.Printable.{IsShort, IsName, HasArc};
 ghost use Rattle.certificate.specs.Asked.{AnswersRequest};
 ghost use Rattle.certificate.specs.CarriedOut.{second_of};
+ghost use Rattle.window_store.specs.Stands.{HasRoomFor};
 ghost use Rattle.commitments.specs.Book.{Fits, IsPrepared};
 ghost use Rattle.taxi_engine.specs.Done.{IsDoneOrMemory};
 ghost use Rattle.taxi_engine.specs.Routed.{IsNew, IsWalkOn, IsToldOrMemory, IsFoundTold};
@@ -17,86 +18,45 @@ use crate::Engine;
 use crate::reply::ReplyText;
 use crate::texts::second_of;
 use airport_file::Airport;
-use backward_search::depart;
+use backward_search::{Departure, depart};
 use certificate::Block;
-use command_refusals::{Asked, asked_arrival, asked_departure};
+use command_refusals::{Trip, asked_arrival, asked_departure};
 use commitments::Ledger;
 use forward_search::{Start, arrive};
 use place_cells::SearchRoom;
 use std::alloc::Global;
-use taxi_base::{Class, Flight, Found, LabelRow, List, Memory, Name, Refusal, Request, Time};
+use taxi_base::{Class, Flight, Found, LabelRow, List, Memory, Name, Refusal, Request};
+use taxi_text::Asked;
 
 impl Engine {
     /// Routes an arrival, or refuses it.
-    pub(crate) fn route_arrival(
-        &mut self,
-        flight: &Name,
-        class: &Name,
-        from: &Name,
-        to: &Name,
-        time: Time,
-        hold: Time,
-    )
-        requires name { IsName flight.now }
-        requires time { IsShort time }
-        requires hold { IsShort hold }
-        ensures { IsDoneOrMemory (command.Arrival flight.now class.now from.now to.now time hold) self.old self.new }
+    pub(crate) fn route_arrival(&mut self, asked: &Asked)
+        requires name { IsName asked.now.flight }
+        requires time { IsShort asked.now.time }
+        requires slack { IsShort asked.now.slack }
+        ensures { IsDoneOrMemory (command.Arrival asked.now) self.old self.new }
     {
-        match asked_arrival(&self.airport, &self.ledger, flight, class, from, to) {
-            Ok(asked) => {
-                let found = find_arrival(
-                    self.alloc,
-                    &mut self.room,
-                    &self.airport,
-                    &self.ledger,
-                    &asked,
-                    time,
-                    hold,
-                );
-                let request = Request::Arrival {
-                    from: asked.from,
-                    to: asked.to,
-                    time,
-                    hold,
-                };
-                self.tell_found(flight, asked.class, request, found);
+        match asked_arrival(&self.airport, &self.ledger, asked) {
+            Ok(trip) => {
+                let (airport, ledger) = (&self.airport, &self.ledger);
+                let found = find_arrival(self.alloc, &mut self.room, airport, ledger, &trip);
+                self.tell_found(&asked.flight, trip.class, trip.arrival(), found);
             }
             Err(why) => self.refuse(&why),
         }
     }
 
     /// Routes a departure, or refuses it.
-    pub(crate) fn route_departure(
-        &mut self,
-        flight: &Name,
-        class: &Name,
-        from: &Name,
-        to: &Name,
-        time: Time,
-        queue: Time,
-    )
-        requires name { IsName flight.now }
-        requires time { IsShort time }
-        ensures { IsDoneOrMemory (command.Departure flight.now class.now from.now to.now time queue) self.old self.new }
+    pub(crate) fn route_departure(&mut self, asked: &Asked)
+        requires name { IsName asked.now.flight }
+        requires time { IsShort asked.now.time }
+        ensures { IsDoneOrMemory (command.Departure asked.now) self.old self.new }
     {
-        match asked_departure(&self.airport, &self.ledger, flight, class, from, to) {
-            Ok(asked) => {
-                let found = find_departure(
-                    self.alloc,
-                    &mut self.room,
-                    &self.airport,
-                    &self.ledger,
-                    &asked,
-                    time,
-                    queue,
-                );
-                let request = Request::Departure {
-                    from: asked.from,
-                    to: asked.to,
-                    time,
-                    queue,
-                };
-                self.tell_found(flight, asked.class, request, found);
+        match asked_departure(&self.airport, &self.ledger, asked) {
+            Ok(trip) => {
+                let (airport, ledger) = (&self.airport, &self.ledger);
+                let found = find_departure(self.alloc, &mut self.room, airport, ledger, &trip);
+                self.tell_found(&asked.flight, trip.class, trip.departure(), found);
             }
             Err(why) => self.refuse(&why),
         }
@@ -128,7 +88,7 @@ impl Engine {
                 self.take_route(flight, &labels);
             }
             Ok(Found::NoRoute { labels }) => self.tell_no_route(labels),
-            Err(Memory) => self.refuse(&Refusal::Memory),
+            Err(_memory) => self.refuse(&Refusal::Memory),
         }
     }
 
@@ -167,59 +127,48 @@ fn find_arrival(
     room: &mut SearchRoom,
     airport: &Airport,
     ledger: &Ledger,
-    asked: &Asked,
-    time: Time,
-    hold: Time,
+    trip: &Trip,
 ) -> Result<Found, Memory>
     requires fits { Fits airport.now ledger.now }
     requires unlifted { ledger.now.lifted ≡ None }
-    requires time { IsShort time }
-    requires hold { IsShort hold }
-    ensures { IfOk result (AnswersRequest (conditions_in airport.now asked.now.class ledger.now.state) (Request.Arrival asked.now.from asked.now.to time hold)) }
+    requires time { IsShort trip.now.time }
+    requires slack { IsShort trip.now.slack }
+    ensures { IfOk result (AnswersRequest (conditions_in airport.now trip.now.class ledger.now.state) (Request.Arrival trip.now.from trip.now.to trip.now.time trip.now.slack)) }
 {
     let start = Start::Node {
-        from: asked.from,
-        earliest: time,
-        latest: time + hold,
+        from: trip.from,
+        earliest: trip.time,
+        latest: trip.time + trip.slack,
     };
-    let clearance = airport.clearance(asked.class);
-    arrive(
-        alloc,
-        room,
-        airport,
-        ledger.store(),
-        start,
-        asked.class,
-        asked.to,
-        clearance,
-    )
+    let store = ledger.store();
+    arrive(alloc, room, airport, store, start, trip.class, trip.to)
 }
 
-// Searches for a departure among the flights in force.
+// Searches for a departure among the holders in force.
 fn find_departure(
     alloc: Global,
     room: &mut SearchRoom,
     airport: &Airport,
     ledger: &Ledger,
-    asked: &Asked,
-    time: Time,
-    queue: Time,
+    trip: &Trip,
 ) -> Result<Found, Memory>
     requires fits { Fits airport.now ledger.now }
     requires unlifted { ledger.now.lifted ≡ None }
-    requires time { IsShort time }
-    ensures { IfOk result (AnswersRequest (conditions_in airport.now asked.now.class ledger.now.state) (Request.Departure asked.now.from asked.now.to time queue)) }
+    requires time { IsShort trip.now.time }
+    ensures { IfOk result (AnswersRequest (conditions_in airport.now trip.now.class ledger.now.state) (Request.Departure trip.now.from trip.now.to trip.now.time trip.now.slack)) }
 {
-    let earliest = time.saturating_sub(queue);
-    let clearance = airport.clearance(asked.class);
+    let earliest_out = trip.time.saturating_sub(trip.slack);
+    let departure = Departure {
+        class: trip.class,
+        from: trip.from,
+        earliest_out,
+        latest_out: trip.time,
+    };
     let store = ledger.store();
-    let Asked { class, from, to } = *asked;
-    depart(
-        alloc, room, airport, store, from, to, class, earliest, time, clearance,
-    )
+    depart(alloc, room, airport, store, departure, trip.to)
 }
 
-/// Makes room for a flight in the ledger, and writes its route as the reply.
+/// Makes room for a new flight in the ledger, and writes its route as the reply.
 pub(crate) fn prepare_route(
     airport: &Airport,
     ledger: &mut Ledger,
@@ -231,6 +180,7 @@ pub(crate) fn prepare_route(
     requires unlifted { ledger.old.lifted ≡ None }
     requires walk { IsWalkOn airport.now flight.now.steps }
     requires labels { All (λ label. HasArc airport.now label.arc) labels.now }
+    requires not_full { holder_count ledger.old.state < 4096 }
     ensures prepared { OnOk result (IsPrepared airport.now flight.now.steps ledger.new) }
     ensures text { OnOk result (reply.new ≡ block_text airport.now (block.Route flight.now.name (second_of flight.now.request flight.now.steps) flight.now.steps labels.now)) }
     ensures state { ledger.new.state ≡ ledger.old.state }
@@ -239,8 +189,46 @@ pub(crate) fn prepare_route(
 {
     // The airport keeps its rules, so a walk has few steps.
     let _ = airport.horizon();
+    ledger.prepare(airport, flight.steps.as_slice())?;
+    write_route(airport, reply, flight, labels)
+}
+
+/// Makes room for another route of a flight in force, and writes it as the reply.
+pub(crate) fn prepare_route_again(
+    airport: &Airport,
+    ledger: &mut Ledger,
+    reply: &mut ReplyText,
+    flight: &Flight,
+    labels: &[LabelRow],
+) -> Result<(), Memory>
+    requires fits { Fits airport.now ledger.old }
+    requires unlifted { ledger.old.lifted ≡ None }
+    requires walk { IsWalkOn airport.now flight.now.steps }
+    requires labels { All (λ label. HasArc airport.now label.arc) labels.now }
+    ensures room { OnOk result (HasRoomFor airport.now.conflicts flight.now.steps ledger.new.store) }
+    ensures text { OnOk result (reply.new ≡ block_text airport.now (block.Route flight.now.name (second_of flight.now.request flight.now.steps) flight.now.steps labels.now)) }
+    ensures state { ledger.new.state ≡ ledger.old.state }
+    ensures unlifted { ledger.new.lifted ≡ None }
+    ensures fits { Fits airport.now ledger.new }
+{
+    // The airport keeps its rules, so a walk has few steps.
+    let _ = airport.horizon();
+    ledger.prepare_again(airport, flight.steps.as_slice())?;
+    write_route(airport, reply, flight, labels)
+}
+
+// Writes the route of a flight with its labels as the reply.
+fn write_route(
+    airport: &Airport,
+    reply: &mut ReplyText,
+    flight: &Flight,
+    labels: &[LabelRow],
+) -> Result<(), Memory>
+    requires walk { IsWalkOn airport.now flight.now.steps }
+    requires labels { All (λ label. HasArc airport.now label.arc) labels.now }
+    ensures { OnOk result (reply.new ≡ block_text airport.now (block.Route flight.now.name (second_of flight.now.request flight.now.steps) flight.now.steps labels.now)) }
+{
     let steps = flight.steps.as_slice();
-    ledger.prepare(airport, steps)?;
     let second = second_of(&flight.request, steps);
     reply.print_route(airport, &flight.name, second, steps, labels)
 }

@@ -6,15 +6,16 @@ ghost use Rattle.taxi_engine.specs.Done.{IsDoneAsDue, IsDoneOrMemory};
 use crate::Engine;
 use crate::texts::{cancelled_text, shut_text};
 use command_refusals::check_work;
-use taxi_base::{Name, Refusal, Time};
+use taxi_base::{Name, Refusal};
+use taxi_text::Shut;
 
 impl Engine {
     /// Lets a work party shut a segment for a time, or refuses it.
-    pub(crate) fn shut(&mut self, name: &Name, segment: &Name, from: Time, until: Time)
-        requires { IsName name.now }
-        ensures { IsDoneOrMemory (Work name.now segment.now from until) self.old self.new }
+    pub(crate) fn shut(&mut self, shut: &Shut)
+        requires { IsName shut.now.name }
+        ensures { IsDoneOrMemory (Work shut.now) self.old self.new }
     {
-        match check_work(&self.airport, &mut self.ledger, name, segment, from, until) {
+        match check_work(&self.airport, &mut self.ledger, shut) {
             Ok(party) => {
                 self.reply.set_short(shut_text(&self.airport, &party));
                 self.ledger.place(&self.airport, party);

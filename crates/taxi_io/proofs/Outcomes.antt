@@ -13,6 +13,10 @@ pub on_err : {T E P : Type 0} (r : Result T E) → P → OnErr r P
 on_err (Ok x) p = tt
 on_err (Err e) p = p
 
+pub on_err_both : {T E P : Type 0} (Q : Type 0) (r : Result T E) → P → OnErr r Q → OnErr r (P × Q)
+on_err_both Q (Ok x) p q = tt
+on_err_both Q (Err e) p q = (p, q)
+
 pub if_ok : {T E : Type 0} {P : T → Type 0} (r : Result T E) → ((x : T) → P x) → IfOk r P
 if_ok (Ok x) p = p x
 if_ok (Err e) p = tt

@@ -1,5 +1,5 @@
 -- What are the files of a shelf, where it tells them, and what is left of the one that is begun?
-use Rattle.std.specs.Prelude.{◌≡◌, ◌<◌, ◌≤◌, ◌↔◌, ◌++◌, ℕ, List, length, drop, [], ◌∷◌, Option, Some, None, option_map, nat_eq, if◌then◌else◌}
+use Rattle.std.specs.Prelude.{◌≡◌, ◌<◌, ◌≤◌, ◌↔◌, ◌++◌, ℕ, List, length, drop, [], ◌∷◌, Option, Some, None, nat_eq, if◌then◌else◌}
 use lib.Pointwise.{pointwise}
 use Rattle.std.specs.Io.KnownBytes.{prepend_known}
 
@@ -43,9 +43,9 @@ IsAtEndOnly (Some bytes) n = (n ≡ 0) ↔ (bytes ≡ [])
 abbrev pub SameNames : (List ℕ → Type 0) → (List ℕ → Type 0) → Type 0
 SameNames old new = (name : List ℕ) → (old name ↔ new name)
 
--- the names that were given to `begin`, where they are told, have these more at their end
-abbrev pub BeganMore : Option (List (List ℕ)) → Option (List (List ℕ)) → List (List ℕ) → Type 0
-BeganMore old new names = new ≡ option_map (λ all. all ++ names) old
+-- the names that were given to `begin` have these more at their end
+abbrev pub BeganMore : List (List ℕ) → List (List ℕ) → List (List ℕ) → Type 0
+BeganMore old new names = new ≡ old ++ names
 
 -- where the files are told, so many bytes of the file of this name were taken, and the others are left
 abbrev pub TookFront : Option Files → List ℕ → Option (List ℕ) → ℕ → Type 0

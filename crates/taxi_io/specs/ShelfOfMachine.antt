@@ -15,6 +15,9 @@ pub record ShelfOfMachine : Type 0 where
   pub left : Option (List ℕ)
   -- how many calls answered an error
   pub faults : ℕ
+  -- the names that were given to `begin`, and the pieces that reads gave
+  pub tried : List (List ℕ)
+  pub given : List (List ℕ)
 
 abbrev pub source_of : {F I : Type 0} → Source F I → Begun
 source_of source.Nothing = Nothing

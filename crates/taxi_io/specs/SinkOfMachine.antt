@@ -6,3 +6,5 @@ pub record SinkOfMachine : Type 0 where
   pub held : Option (List ℕ)
   -- how many writes failed
   pub faults : ℕ
+  -- the pieces that were handed over
+  pub pieces : List (List ℕ)

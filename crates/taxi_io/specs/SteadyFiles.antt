@@ -8,6 +8,9 @@ pub record SteadyFiles : Type 0 where
   pub piece : ℕ
   -- what the begun file has left, if one is begun
   pub rest : Option (List ℕ)
+  -- the names that were given to `begin`, and the pieces that reads gave
+  pub tried : List (List ℕ)
+  pub given : List (List ℕ)
 
 -- the names that may be begun: those of the files
 abbrev pub HasFile : SteadyFiles → List ℕ → Type 0

@@ -6,3 +6,5 @@ pub record SteadyOutput : Type 0 where
   pub written : List ℕ
   -- the most bytes that one write takes
   pub piece : ℕ
+  -- the pieces that were handed over
+  pub pieces : List (List ℕ)

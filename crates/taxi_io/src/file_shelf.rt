@@ -1,11 +1,12 @@
 //! The machine's files, and standard input under the name `-`. Nothing is told of their bytes.
-ghost use Rattle.std.specs.Prelude.{◌≡◌, ◌≤◌, ◌<◌, length, is_ok, is_err, IfOk, OnOk, IsTrue};
+ghost use Rattle.std.specs.Prelude.{◌≡◌, ◌≤◌, ◌<◌, ◌++◌, ◌∷◌, [], length, take, is_ok, is_err, IfOk, OnOk, OnErr, IsTrue};
 ghost use Rattle.std.specs.Io.{ReadsAtMost};
 ghost use Rattle.std.specs.Io.KnownBytes.{ReadConsumes};
 ghost use Rattle.taxi_io.specs.Calls.{faults_after};
 ghost use Rattle.taxi_io.specs.Troubles.{answer_for};
 ghost use Rattle.taxi_io.specs.ShelfOfMachine.{Nothing, is_begun, source_of, left_in, source_named};
 
+use crate::history::History;
 use crate::shelf::Shelf;
 use crate::trouble::Trouble;
 use std::io::Read;
@@ -45,6 +46,8 @@ pub struct FileShelf<'a, R: Files + Input> {
     rt: &'a R,
     source: Source<R::File, R::Reader>,
     faults: u64,
+    tried: History,
+    given: History,
 }
 
 impl<'a, R: Files + Input> Model for FileShelf<'a, R> {
@@ -58,18 +61,22 @@ impl<'a, R: Files + Input> Model for FileShelf<'a, R> {
       begun = source_of s.source;
       left = left_in R.File.remaining R.Reader.remaining s.source;
       faults = s.faults;
+      tried = s.tried.items;
+      given = s.given.items;
     } };
 }
 
 impl<'a, R: Files + Input> FileShelf<'a, R> {
     /// A shelf with nothing begun.
     pub fn new(rt: &'a R) -> FileShelf<'a, R>
-        ensures { result ≡ record { begun = Nothing; left = None; faults = 0 } }
+        ensures { result ≡ record { begun = Nothing; left = None; faults = 0; tried = []; given = [] } }
     {
         FileShelf {
             rt,
             source: Source::Nothing,
             faults: 0,
+            tried: History::new(),
+            given: History::new(),
         }
     }
 
@@ -78,6 +85,8 @@ impl<'a, R: Files + Input> FileShelf<'a, R> {
         ensures answer { result ≡ answer_for outcome }
         ensures begun { self.new.begun ≡ self.old.begun }
         ensures left { self.new.left ≡ self.old.left }
+        ensures tried { self.new.tried ≡ self.old.tried }
+        ensures given { self.new.given ≡ self.old.given }
         ensures faults { self.new.faults ≡ faults_after (is_err outcome) self.old.faults }
         ensures later { self.old.faults ≤ self.new.faults }
     {
@@ -104,14 +113,19 @@ impl<'a, R: Files + Input> Shelf for FileShelf<'a, R> {
 
     ghost knows = { λ s name. Unit {0} };
 
-    ghost tried = { λ s. None };
+    ghost tried = { λ s. s.tried };
+
+    ghost given = { λ s. s.given };
 
     fn begin(&mut self, name: &str) -> Result<(), Trouble>
         ensures begun { is_begun self.new.begun ≡ is_ok result }
         ensures source { OnOk result (self.new.begun ≡ source_named name.now) }
+        ensures tried { self.new.tried ≡ self.old.tried ++ name.now ∷ [] }
+        ensures given { self.new.given ≡ self.old.given }
         ensures faults { self.new.faults ≡ faults_after (is_err result) self.old.faults }
         ensures later { self.old.faults ≤ self.new.faults }
     {
+        self.tried = self.tried.then(&name.as_bytes());
         self.source = Source::Nothing;
         if name == STANDARD_INPUT {
             self.source = Source::StandardInput(self.rt.reader());
@@ -130,10 +144,15 @@ impl<'a, R: Files + Input> Shelf for FileShelf<'a, R> {
         ensures source { self.new.begun ≡ self.old.begun }
         // What is known to be left loses what is given, nothing at an error, and 0 says that nothing is left.
         ensures left { ReadConsumes self.old.left self.new.left result buffer.new }
+        ensures tried { self.new.tried ≡ self.old.tried }
+        ensures given { IfOk result (λ n. self.new.given ≡ self.old.given ++ take n buffer.new ∷ []) }
+        ensures kept { OnErr result (self.new.given ≡ self.old.given) }
         ensures faults { self.new.faults ≡ faults_after (is_err result) self.old.faults }
         ensures later { self.old.faults ≤ self.new.faults }
     {
         let outcome = read_once(&mut self.source, buffer);
-        self.counted(outcome)
+        let count = self.counted(outcome)?;
+        self.given = self.given.then(&&buffer[..count]);
+        Ok(count)
     }
 }

@@ -3,6 +3,7 @@
 #![tactic(auto)]
 
 mod file_shelf;
+mod history;
 mod memory_shelf;
 mod memory_sink;
 mod output_sink;

@@ -1,9 +1,10 @@
 //! A shelf of files in memory.
-ghost use Rattle.std.specs.Prelude.{◌≡◌, ◌≤◌, ◌<◌, ◌+◌, ◌^◌, ◌++◌, ◌↔◌, [], min, length, take, drop, is_ok, is_some, IfOk, OnErr, IsErrOf, IsOkUnless, IsTrue, IsSome, IfSome, IfNone, option_map, slice_get};
+ghost use Rattle.std.specs.Prelude.{◌≡◌, ◌≤◌, ◌<◌, ◌+◌, ◌^◌, ◌++◌, ◌∷◌, ◌↔◌, [], min, length, take, drop, is_ok, is_some, IfOk, OnErr, IsErrOf, IsOkUnless, IsTrue, IsSome, IfSome, IfNone, option_map, slice_get};
 ghost use Rattle.taxi_io.specs.Files.{file_of};
 ghost use Rattle.taxi_io.specs.HeldFiles.{files_of, left_at};
 ghost use Rattle.taxi_io.specs.ShelfInMemory.{fails_next, begun_file, after_begin, bytes_left, after_read};
 
+use crate::history::History;
 use crate::planned_faults::PlannedFaults;
 use crate::shelf::Shelf;
 use crate::trouble::Trouble;
@@ -24,6 +25,8 @@ pub struct MemoryShelf {
     piece: usize,
     plan: PlannedFaults,
     begun: Option<Place>,
+    tried: History,
+    given: History,
 }
 
 impl Model for MemoryShelf {
@@ -41,6 +44,8 @@ impl Model for MemoryShelf {
       calls = s.plan.calls;
       faults = s.plan.faults;
       rest = left_of s.files.items s.begun;
+      tried = s.tried.items;
+      given = s.given.items;
     } };
 
     ghost invariant = { λ s. 1 ≤ s.piece };
@@ -58,6 +63,8 @@ impl MemoryShelf {
           calls = 0;
           faults = 0;
           rest = None;
+          tried = [];
+          given = [];
         } }
     {
         MemoryShelf {
@@ -65,6 +72,8 @@ impl MemoryShelf {
             piece,
             plan: PlannedFaults::new(failing),
             begun: None,
+            tried: History::new(),
+            given: History::new(),
         }
     }
 }
@@ -104,7 +113,7 @@ fn copy_front(bytes: &[u8], piece: usize, buffer: &mut [u8]) -> usize
 }
 
 impl Shelf for MemoryShelf {
-    ghost use Rattle.std.specs.Prelude.{Some, None, is_some};
+    ghost use Rattle.std.specs.Prelude.{Some, is_some};
 
     ghost files = { λ s. Some s.files };
 
@@ -116,7 +125,9 @@ impl Shelf for MemoryShelf {
 
     ghost knows = { λ s name. Unit {0} };
 
-    ghost tried = { λ s. None };
+    ghost tried = { λ s. s.tried };
+
+    ghost given = { λ s. s.given };
 
     fn begin(&mut self, name: &str) -> Result<(), Trouble>
         ensures state { self.new ≡ after_begin self.old name.now }
@@ -124,6 +135,7 @@ impl Shelf for MemoryShelf {
         ensures failed { IsOkUnless result Trouble.Failed }
         ensures later { self.old.faults ≤ self.new.faults }
     {
+        self.tried = self.tried.then(&name.as_bytes());
         self.begun = None;
         if self.plan.call_fails() {
             return Err(Trouble::Failed);
@@ -147,8 +159,8 @@ impl Shelf for MemoryShelf {
             n ≡ min self.old.piece (min (length buffer.old) (length (bytes_left self.old)))) }
         ensures some { IfOk result (λ n. n ≡ 0 → bytes_left self.old ≡ []) }
         ensures bytes { IfOk result (λ n. buffer.new ≡ take n (bytes_left self.old) ++ drop n buffer.old) }
-        ensures ok { IfOk result (λ n. self.new ≡ after_read self.old (drop n (bytes_left self.old))) }
-        ensures refused { OnErr result (self.new ≡ after_read self.old (bytes_left self.old)) }
+        ensures ok { IfOk result (λ n. self.new ≡ after_read self.old (drop n (bytes_left self.old)) (self.old.given ++ take n (bytes_left self.old) ∷ [])) }
+        ensures refused { OnErr result (self.new ≡ after_read self.old (bytes_left self.old) self.old.given) }
         ensures untouched { OnErr result (buffer.new ≡ buffer.old) }
         ensures listed { IsErrOf result Trouble.Failed ↔ IsTrue (fails_next self.old) }
         ensures failed { IsOkUnless result Trouble.Failed }
@@ -162,6 +174,7 @@ impl Shelf for MemoryShelf {
         };
         let rest = rest_at(self.files.as_slice(), place);
         let count = copy_front(rest, self.piece, buffer);
+        self.given = self.given.then(&&rest[..count]);
         self.begun = Some(Place {
             file: place.file,
             read: place.read + count,

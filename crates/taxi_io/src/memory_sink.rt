@@ -2,6 +2,7 @@
 ghost use Rattle.std.specs.Prelude.{◌≡◌, ◌≤◌, ◌<◌, ◌++◌, ◌↔◌, [], min, length, take, IfOk, OnErr, IsErrOf, IsTrue};
 ghost use Rattle.taxi_io.specs.SinkInMemory.{fails_next, after_write};
 
+use crate::history::History;
 use crate::planned_faults::PlannedFaults;
 use crate::sink::Sink;
 use crate::trouble::Trouble;
@@ -14,6 +15,7 @@ pub struct MemorySink {
     written: Vec<u8>,
     piece: usize,
     plan: PlannedFaults,
+    pieces: History,
 }
 
 impl Model for MemorySink {
@@ -28,6 +30,7 @@ impl Model for MemorySink {
       failing = s.plan.failing.items;
       calls = s.plan.calls;
       faults = s.plan.faults;
+      pieces = s.pieces.items;
     } };
 
     ghost invariant = { λ s. 1 ≤ s.piece };
@@ -43,12 +46,14 @@ impl MemorySink {
           failing = failing.items;
           calls = 0;
           faults = 0;
+          pieces = [];
         } }
     {
         MemorySink {
             written: Vec::new(alloc),
             piece,
             plan: PlannedFaults::new(failing),
+            pieces: History::new(),
         }
     }
 
@@ -63,7 +68,7 @@ impl MemorySink {
 impl Sink for MemorySink {
     ghost use Rattle.std.specs.Prelude.{Some};
 
-    ghost written = { λ s. Some s.written };
+    ghost written = { λ s. record { bytes = Some s.written; pieces = s.pieces } };
 
     ghost faults = { λ s. s.faults };
 
@@ -71,11 +76,12 @@ impl Sink for MemorySink {
         requires { 0 < length piece.now }
         ensures some { IfOk result (λ n. 0 < n) }
         ensures count { IfOk result (λ n. n ≡ min self.old.piece (length piece.now)) }
-        ensures ok { IfOk result (λ n. self.new ≡ after_write self.old (self.old.written ++ take n piece.now)) }
-        ensures refused { OnErr result (self.new ≡ after_write self.old self.old.written) }
+        ensures ok { IfOk result (λ n. self.new ≡ after_write self.old piece.now (self.old.written ++ take n piece.now)) }
+        ensures refused { OnErr result (self.new ≡ after_write self.old piece.now self.old.written) }
         ensures failed { IsErrOf result Trouble.Failed ↔ IsTrue (fails_next self.old) }
         ensures later { self.old.faults ≤ self.new.faults }
     {
+        self.pieces = self.pieces.then(&piece);
         if self.plan.call_fails() {
             return Err(Trouble::Failed);
         }

@@ -1,9 +1,10 @@
 //! A writer of the machine as a sink, as standard output is one. It tells nothing of the bytes that it took.
-ghost use Rattle.std.specs.Prelude.{◌≡◌, ◌≤◌, ◌<◌, length, take, is_err, IfOk};
+ghost use Rattle.std.specs.Prelude.{◌≡◌, ◌≤◌, ◌<◌, ◌++◌, ◌∷◌, [], length, take, is_err, IfOk};
 ghost use Rattle.std.specs.Io.KnownBytes.{Appends};
 ghost use Rattle.taxi_io.specs.Calls.{faults_after};
 ghost use Rattle.taxi_io.specs.Troubles.{settled};
 
+use crate::history::History;
 use crate::sink::Sink;
 use crate::trouble::Trouble;
 use std::io;
@@ -16,6 +17,7 @@ use std::marker::Model;
 pub struct OutputSink<W: Write + Drop> {
     out: W,
     faults: u64,
+    pieces: History,
 }
 
 impl<W: Write + Drop> Model for OutputSink<W> {
@@ -23,15 +25,19 @@ impl<W: Write + Drop> Model for OutputSink<W> {
 
     ghost Value = { SinkOfMachine };
 
-    ghost view = { λ s. record { held = W.contents s.out; faults = s.faults } };
+    ghost view = { λ s. record { held = W.contents s.out; faults = s.faults; pieces = s.pieces.items } };
 }
 
 impl<W: Write + Drop> OutputSink<W> {
     /// This writer, with no fault counted.
     pub fn new(out: W) -> OutputSink<W>
-        ensures { result ≡ record { held = W.contents out; faults = 0 } }
+        ensures { result ≡ record { held = W.contents out; faults = 0; pieces = [] } }
     {
-        OutputSink { out, faults: 0 }
+        OutputSink {
+            out,
+            faults: 0,
+            pieces: History::new(),
+        }
     }
 }
 
@@ -53,7 +59,7 @@ fn settled(written: io::Result<usize>, flushed: io::Result<()>) -> Result<usize,
 impl<W: Write + Drop> Sink for OutputSink<W> {
     ghost use Rattle.std.specs.Prelude.{None};
 
-    ghost written = { λ s. None };
+    ghost written = { λ s. record { bytes = None; pieces = s.pieces } };
 
     ghost faults = { λ s. s.faults };
 
@@ -62,9 +68,11 @@ impl<W: Write + Drop> Sink for OutputSink<W> {
         ensures bound { IfOk result (λ n. n ≤ length piece.now) }
         // What the writer is known to hold grows by what counts as written.
         ensures held { IfOk result (λ n. Appends self.old.held self.new.held (take n piece.now)) }
+        ensures handed { self.new.pieces ≡ self.old.pieces ++ piece.now ∷ [] }
         ensures faults { self.new.faults ≡ faults_after (is_err result) self.old.faults }
         ensures later { self.old.faults ≤ self.new.faults }
     {
+        self.pieces = self.pieces.then(&piece);
         let written = self.out.write(piece);
         let flushed = self.out.flush();
         let outcome = settled(written, flushed);

@@ -1,5 +1,5 @@
 //! Reading a file whole, or a piece of one that is begun.
-ghost use Rattle.std.specs.Prelude.{◌≡◌, ◌≤◌, ◌<◌, ◌+◌, ◌∷◌, [], ℕ, min, length, take, IfOk, OnOk, IsErrOf, IsTrue};
+ghost use Rattle.std.specs.Prelude.{◌≡◌, ◌≤◌, ◌<◌, ◌+◌, ◌++◌, ◌∷◌, [], ℕ, min, length, take, IfOk, OnOk, IsErrOf, IsTrue};
 ghost use Rattle.std.specs.Io.KnownBytes.{IsAtEnd};
 ghost use Rattle.taxi_io.specs.Counts.{Rose};
 ghost use Rattle.taxi_io.specs.Files.{IsFile, IsLonger, SameNames, BeganMore, TookFront, Gave, IsAtEndOnly, GaveByte};
@@ -66,6 +66,7 @@ pub fn read_piece<S: Shelf>(
 
     ensures too_large { IsErrOf result ReadRefused.TooLarge → (left ≡ 0) × GaveByte (S.rest shelf.old) (S.rest shelf.new) }
     ensures fault { IsErrOf result ReadRefused.Fault → Rose (S.faults shelf.old) (S.faults shelf.new) }
+    ensures given { IfOk result (λ n. S.given shelf.new ≡ S.given shelf.old ++ take n buffer.new ∷ []) }
     ensures kept { IsErrOf result ReadRefused.Fault → S.rest shelf.new ≡ S.rest shelf.old }
     ensures kept_too { IsErrOf result ReadRefused.Memory → S.rest shelf.new ≡ S.rest shelf.old }
 

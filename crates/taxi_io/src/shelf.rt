@@ -1,5 +1,5 @@
 //! Files that are begun by name and read a piece at a time.
-ghost use Rattle.std.specs.Prelude.{◌≡◌, ◌<◌, ◌≤◌, ◌∷◌, [], ℕ, List, Option, Bool, length, take, is_ok, IfOk, OnOk, OnErr, IsErrOf, IsTrue};
+ghost use Rattle.std.specs.Prelude.{◌≡◌, ◌<◌, ◌≤◌, ◌∷◌, ◌++◌, [], ℕ, List, Option, Bool, length, take, is_ok, IfOk, OnOk, OnErr, IsErrOf, IsTrue};
 ghost use Rattle.taxi_io.specs.Counts.{Rose};
 ghost use Rattle.taxi_io.specs.Files.{Files, Begins, Gave, IsAtEndOnly, SameNames, BeganMore};
 
@@ -22,8 +22,11 @@ pub trait Shelf {
     /// Whether a file of this name may be begun.
     ghost knows: { Self → List ℕ → Type 0 };
 
-    /// The names that were given to `begin` so far, in order, where they are told.
-    ghost tried: { Self → Option (List (List ℕ)) };
+    /// The names that were given to `begin` so far, in order.
+    ghost tried: { Self → List (List ℕ) };
+
+    /// The pieces that reads gave so far, in order; an empty one told the end of a file.
+    ghost given: { Self → List (List ℕ) };
 
     /// Begins a file at its first byte. A refusal leaves nothing begun.
     fn begin(&mut self, name: &str) -> Result<(), Trouble>
@@ -31,6 +34,7 @@ pub trait Shelf {
         ensures begun { begun self.new ≡ is_ok result }
         ensures whole { OnOk result (Begins (files self.old) name.now (rest self.new)) }
         ensures tried { BeganMore (tried self.old) (tried self.new) (name.now ∷ []) }
+        ensures given { given self.new ≡ given self.old }
         ensures failed { IsErrOf result Trouble.Failed → Rose (faults self.old) (faults self.new) }
         ensures later { faults self.old ≤ faults self.new }
         ensures files { files self.new ≡ files self.old }
@@ -44,7 +48,8 @@ pub trait Shelf {
         ensures bound { IfOk result (λ n. n ≤ length buffer.new) }
         ensures bytes { IfOk result (λ n. Gave (rest self.old) (rest self.new) (take n buffer.new)) }
         ensures end { IfOk result (IsAtEndOnly (rest self.old)) }
-        ensures kept { OnErr result (rest self.new ≡ rest self.old) }
+        ensures given { IfOk result (λ n. given self.new ≡ given self.old ++ take n buffer.new ∷ []) }
+        ensures kept { OnErr result ((rest self.new ≡ rest self.old) × (given self.new ≡ given self.old)) }
         ensures begun { IsTrue (begun self.new) }
         ensures tried { tried self.new ≡ tried self.old }
         ensures failed { IsErrOf result Trouble.Failed → Rose (faults self.old) (faults self.new) }

@@ -1,14 +1,14 @@
 //! Output that takes bytes a piece at a time.
-ghost use Rattle.std.specs.Prelude.{◌≡◌, ◌<◌, ◌≤◌, ℕ, List, Option, length, take, IfOk, OnErr, IsErrOf};
+ghost use Rattle.std.specs.Prelude.{◌≡◌, ◌<◌, ◌≤◌, ◌∷◌, ◌++◌, [], ℕ, length, take, IfOk, OnErr, IsErrOf};
 ghost use Rattle.taxi_io.specs.Counts.{Rose};
-ghost use Rattle.taxi_io.specs.Written.{Grew};
+ghost use Rattle.taxi_io.specs.Written.{Output, Grew};
 
 use crate::trouble::Trouble;
 
 /// What takes bytes in order.
 pub trait Sink {
-    /// The bytes taken so far, where they are told.
-    ghost written: { Self → Option (List ℕ) };
+    /// The bytes taken so far, where they are told, and the pieces that were handed over.
+    ghost written: { Self → Output };
 
     /// How often a call has failed.
     ghost faults: { Self → ℕ };
@@ -19,7 +19,8 @@ pub trait Sink {
         ensures some { IfOk result (λ n. 0 < n) }
         ensures bound { IfOk result (λ n. n ≤ length piece.now) }
         ensures grew { IfOk result (λ n. Grew (written self.old) (written self.new) (take n piece.now)) }
-        ensures kept { OnErr result (written self.new ≡ written self.old) }
+        ensures kept { OnErr result ((written self.new).bytes ≡ (written self.old).bytes) }
+        ensures handed { (written self.new).pieces ≡ (written self.old).pieces ++ piece.now ∷ [] }
         ensures failed { IsErrOf result Trouble.Failed → Rose (faults self.old) (faults self.new) }
         ensures later { faults self.old ≤ faults self.new };
 }

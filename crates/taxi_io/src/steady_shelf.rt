@@ -1,5 +1,5 @@
 //! A shelf of files in memory whose calls never fail.
-ghost use Rattle.std.specs.Prelude.{◌≡◌, ◌≤◌, ◌<◌, ◌++◌, [], min, length, take, drop, is_some, unwrap_or, IfOk, IsOk, IsTrue, IsSome};
+ghost use Rattle.std.specs.Prelude.{◌≡◌, ◌≤◌, ◌<◌, ◌++◌, ◌∷◌, [], min, length, take, drop, is_some, unwrap_or, IfOk, IsOk, IsTrue, IsSome};
 ghost use Rattle.taxi_io.specs.Files.{file_of};
 ghost use Rattle.taxi_io.specs.HeldFiles.{files_of};
 ghost use Rattle.taxi_io.specs.SteadyFiles.{HasFile};
@@ -22,7 +22,7 @@ impl Model for SteadyShelf {
 
     ghost Value = { SteadyFiles };
 
-    ghost view = { λ s. record { files = s.shelf.files; piece = s.shelf.piece; rest = s.shelf.rest } };
+    ghost view = { λ s. record { files = s.shelf.files; piece = s.shelf.piece; rest = s.shelf.rest; tried = s.shelf.tried; given = s.shelf.given } };
 
     ghost invariant = { λ s. s.shelf.failing ≡ [] };
 }
@@ -31,7 +31,7 @@ impl SteadyShelf {
     /// A shelf of these files, none of them begun.
     pub fn new(files: Vec<(String, Vec<u8>)>, piece: usize) -> SteadyShelf
         requires { 1 ≤ piece }
-        ensures { result ≡ record { files = files_of files.items; piece = piece; rest = None } }
+        ensures { result ≡ record { files = files_of files.items; piece = piece; rest = None; tried = []; given = [] } }
     {
         let none_failing = Vec::new(*files.allocator());
         SteadyShelf {
@@ -41,7 +41,7 @@ impl SteadyShelf {
 }
 
 impl Shelf for SteadyShelf {
-    ghost use Rattle.std.specs.Prelude.{Some, None, is_some};
+    ghost use Rattle.std.specs.Prelude.{Some, is_some};
 
     ghost files = { λ s. Some s.files };
 
@@ -53,12 +53,14 @@ impl Shelf for SteadyShelf {
 
     ghost knows = { HasFile };
 
-    ghost tried = { λ s. None };
+    ghost tried = { λ s. s.tried };
+
+    ghost given = { λ s. s.given };
 
     fn begin(&mut self, name: &str) -> Result<(), Trouble>
         requires { HasFile self.old name.now }
         ensures ok { IsOk result }
-        ensures state { self.new ≡ record self.old { rest = file_of self.old.files name.now } }
+        ensures state { self.new ≡ record self.old { rest = file_of self.old.files name.now; tried = self.old.tried ++ name.now ∷ [] } }
     {
         self.shelf.begin(name)
     }
@@ -71,7 +73,7 @@ impl Shelf for SteadyShelf {
             n ≡ min self.old.piece (min (length buffer.old) (length (unwrap_or self.old.rest [])))) }
         ensures some { IfOk result (λ n. n ≡ 0 → unwrap_or self.old.rest [] ≡ []) }
         ensures bytes { IfOk result (λ n. buffer.new ≡ take n (unwrap_or self.old.rest []) ++ drop n buffer.old) }
-        ensures state { IfOk result (λ n. self.new ≡ record self.old { rest = Some (drop n (unwrap_or self.old.rest [])) }) }
+        ensures state { IfOk result (λ n. self.new ≡ record self.old { rest = Some (drop n (unwrap_or self.old.rest [])); given = self.old.given ++ take n (unwrap_or self.old.rest []) ∷ [] }) }
     {
         self.shelf.read(buffer)
     }

@@ -1,5 +1,5 @@
 //! A sink that keeps what it takes, and whose writes never fail.
-ghost use Rattle.std.specs.Prelude.{◌≡◌, ◌≤◌, ◌<◌, ◌++◌, [], min, length, take, IfOk, OnErr, IsErrOf};
+ghost use Rattle.std.specs.Prelude.{◌≡◌, ◌≤◌, ◌<◌, ◌++◌, ◌∷◌, [], min, length, take, IfOk, OnErr, IsErrOf};
 
 use crate::memory_sink::MemorySink;
 use crate::sink::Sink;
@@ -20,7 +20,7 @@ impl Model for SteadySink {
 
     ghost Value = { SteadyOutput };
 
-    ghost view = { λ s. record { written = s.sink.written; piece = s.sink.piece } };
+    ghost view = { λ s. record { written = s.sink.written; piece = s.sink.piece; pieces = s.sink.pieces } };
 
     ghost invariant = { λ s. s.sink.failing ≡ [] };
 }
@@ -29,7 +29,7 @@ impl SteadySink {
     /// A sink that has taken nothing.
     pub fn new(alloc: Global, piece: usize) -> SteadySink
         requires { 1 ≤ piece }
-        ensures { result ≡ record { written = []; piece = piece } }
+        ensures { result ≡ record { written = []; piece = piece; pieces = [] } }
     {
         SteadySink {
             sink: MemorySink::new(alloc, piece, Vec::new(alloc)),
@@ -47,7 +47,7 @@ impl SteadySink {
 impl Sink for SteadySink {
     ghost use Rattle.std.specs.Prelude.{Some};
 
-    ghost written = { λ s. Some s.written };
+    ghost written = { λ s. record { bytes = Some s.written; pieces = s.pieces } };
 
     ghost faults = { λ s. 0 };
 
@@ -55,8 +55,8 @@ impl Sink for SteadySink {
         requires { 0 < length piece.now }
         ensures some { IfOk result (λ n. 0 < n) }
         ensures count { IfOk result (λ n. n ≡ min self.old.piece (length piece.now)) }
-        ensures ok { IfOk result (λ n. self.new ≡ record self.old { written = self.old.written ++ take n piece.now }) }
-        ensures refused { OnErr result (self.new ≡ self.old) }
+        ensures ok { IfOk result (λ n. self.new ≡ record self.old { written = self.old.written ++ take n piece.now; pieces = self.old.pieces ++ piece.now ∷ [] }) }
+        ensures refused { OnErr result (self.new ≡ record self.old { pieces = self.old.pieces ++ piece.now ∷ [] }) }
         ensures failed { ¬ IsErrOf result Trouble.Failed }
     {
         self.sink.write(piece)

@@ -1,8 +1,8 @@
 -- The grammar of commands: which command a line is, if it is one.
 use Rattle.std.specs.Prelude.{ℕ, Bool, ◌&&◌, ◌==◌, nat_lt, nat_le, drop, List, [], ◌∷◌, length, Option, Some, None, codes, bytes_eq, if◌then◌else◌, ⊤}
 use Rattle.taxi_text.specs.declared.command.FiledStep.{FiledStep}
-use Rattle.taxi_text.specs.declared.reader.Asked.{Asked}
-use Rattle.taxi_text.specs.declared.choice.AskedAny.{AskedAny}
+use Rattle.taxi_text.specs.declared.command.Asked.{Asked}
+use Rattle.taxi_text.specs.declared.command.AskedAny.{AskedAny}
 use Rattle.taxi_text.specs.declared.command.Command.{Command}
 use Rattle.taxi_text.specs.declared.command.Command.TheVariants.{File, Arrival, Departure, Cancel, Reroute, Divert, Windows, Occupancy, Timetable, Work, WorkDone, ArrivalAny, DepartureAny}
 use Rattle.taxi_text.specs.Words.{words_of}
@@ -40,10 +40,10 @@ asked_of = a_name (λ flight. a_name (λ class. a_name (λ from. a_name (λ to. 
     the_end (record { flight = flight; class = class; from = from; to = to; time = time; slack = slack })))))))
 
 abbrev pub arrival_of : List (List ℕ) → Option Command
-arrival_of words = asked_of words >>= (λ a. Some (Arrival a.flight a.class a.from a.to a.time a.slack))
+arrival_of words = asked_of words >>= (λ a. Some (Arrival a))
 
 abbrev pub departure_of : List (List ℕ) → Option Command
-departure_of words = asked_of words >>= (λ a. Some (Departure a.flight a.class a.from a.to a.time a.slack))
+departure_of words = asked_of words >>= (λ a. Some (Departure a))
 
 -- FLIGHT
 abbrev pub cancel_of : List (List ℕ) → Option Command
@@ -71,7 +71,7 @@ timetable_of = the_end Timetable
 
 -- NAME SEGMENT FROM UNTIL
 abbrev pub work_of : List (List ℕ) → Option Command
-work_of = a_name (λ name. a_name (λ segment. a_number (λ from. a_number (λ until. the_end (Work name segment from until)))))
+work_of = a_name (λ name. a_name (λ segment. a_number (λ from. a_number (λ until. the_end (Work (record { name = name; segment = segment; from = from; until = until }))))))
 
 -- NAME
 abbrev pub work_done_of : List (List ℕ) → Option Command
@@ -108,7 +108,7 @@ filed_steps_of words = steps_of words >>= route_of
 -- FLIGHT CLASS START, and the pairs
 abbrev pub file_of : List (List ℕ) → Option Command
 file_of = a_name (λ flight. a_name (λ class. a_number (λ start words.
-    filed_steps_of words >>= (λ steps. Some (File flight class start steps)))))
+    filed_steps_of words >>= (λ steps. Some (File (record { flight = flight; class = class; start = start; steps = steps }))))))
 
 -- the names of words
 abbrev pub names_of : List (List ℕ) → Option (List (List ℕ))
@@ -128,10 +128,10 @@ asked_any_of = a_name (λ flight. a_name (λ class. a_name (λ from. a_number (�
     choice_of words >>= (λ nodes. Some (record { flight = flight; class = class; from = from; time = time; slack = slack; nodes = nodes })))))))
 
 abbrev pub arrival_any_of : List (List ℕ) → Option Command
-arrival_any_of words = asked_any_of words >>= (λ a. Some (ArrivalAny a.flight a.class a.from a.time a.slack a.nodes))
+arrival_any_of words = asked_any_of words >>= (λ a. Some (ArrivalAny a))
 
 abbrev pub departure_any_of : List (List ℕ) → Option Command
-departure_any_of words = asked_any_of words >>= (λ a. Some (DepartureAny a.flight a.class a.from a.time a.slack a.nodes))
+departure_any_of words = asked_any_of words >>= (λ a. Some (DepartureAny a))
 
 -- ---- the line
 
@@ -165,7 +165,7 @@ command_of line = command_of_words (words_of line)
 
 -- a command of a form that ends in a list
 abbrev pub EndsInList : Command → Type 0
-EndsInList (File flight class start steps) = ⊤
-EndsInList (ArrivalAny flight class from time hold stands) = ⊤
-EndsInList (DepartureAny flight class from time queue nodes) = ⊤
+EndsInList (File filed) = ⊤
+EndsInList (ArrivalAny asked) = ⊤
+EndsInList (DepartureAny asked) = ⊤
 EndsInList _ = ⊥

@@ -4,25 +4,14 @@ ghost use Rattle.taxi_text.specs.Commands.{choice_of, asked_any_of, arrival_any_
 ghost use Rattle.taxi_text.specs.Reading.{IsReading};
 ghost use Rattle.taxi_text.specs.Words.{words_left};
 
-use crate::command::{Command, CommandRefused};
+use crate::command::{AskedAny, Command, CommandRefused};
 use crate::gathered::Gathered;
 use crate::reader::{next_name, next_number};
 use crate::word::WordSlices;
 use std::alloc::Global;
-use taxi_base::{List, Name, Time};
+use taxi_base::{List, Name};
 
 const MOST_NODES: usize = 16;
-
-// What is asked with a choice of nodes, with its hold or its queue as slack.
-#[derive(Drop)]
-pub(crate) struct AskedAny {
-    flight: Name,
-    class: Name,
-    from: Name,
-    time: Time,
-    slack: Time,
-    nodes: List<Name>,
-}
 
 pub(crate) fn read_arrival_any(
     alloc: Global,
@@ -31,14 +20,7 @@ pub(crate) fn read_arrival_any(
     ensures { IsReading (arrival_any_of (words_left words.old)) result }
 {
     let asked = read_asked_any(alloc, words)?;
-    Ok(Command::ArrivalAny {
-        flight: asked.flight,
-        class: asked.class,
-        from: asked.from,
-        time: asked.time,
-        hold: asked.slack,
-        stands: asked.nodes,
-    })
+    Ok(Command::ArrivalAny(asked))
 }
 
 pub(crate) fn read_departure_any(
@@ -48,14 +30,7 @@ pub(crate) fn read_departure_any(
     ensures { IsReading (departure_any_of (words_left words.old)) result }
 {
     let asked = read_asked_any(alloc, words)?;
-    Ok(Command::DepartureAny {
-        flight: asked.flight,
-        class: asked.class,
-        from: asked.from,
-        time: asked.time,
-        queue: asked.slack,
-        nodes: asked.nodes,
-    })
+    Ok(Command::DepartureAny(asked))
 }
 
 fn read_asked_any(alloc: Global, words: &mut WordSlices<'_>) -> Result<AskedAny, CommandRefused>

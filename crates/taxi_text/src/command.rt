@@ -10,32 +10,54 @@ pub struct FiledStep {
     pub leave: Time,
 }
 
+/// A flight's wish for a route from one node to another.
+#[derive(Clone, Copy, Debug, PartialEq, Eq)]
+pub struct Asked {
+    pub flight: Name,
+    pub class: Name,
+    pub from: Name,
+    pub to: Name,
+    pub time: Time,
+    /// The HOLD of an arrival, the QUEUE of a departure.
+    pub slack: Time,
+}
+
+/// A flight's wish for a route to any of 1 to 16 nodes, as they are written.
+#[derive(Drop)]
+pub struct AskedAny {
+    pub flight: Name,
+    pub class: Name,
+    pub from: Name,
+    pub time: Time,
+    /// The HOLD of an arrival, the QUEUE of a departure.
+    pub slack: Time,
+    pub nodes: List<Name>,
+}
+
+/// A route given by hand: 1 to 256 steps, the first of which is entered at `start`.
+#[derive(Drop)]
+pub struct Filed {
+    pub flight: Name,
+    pub class: Name,
+    pub start: Time,
+    pub steps: List<FiledStep>,
+}
+
+/// A work party's wish to shut a segment for `[from, until)`.
+#[derive(Clone, Copy, Debug, PartialEq, Eq)]
+pub struct Shut {
+    pub name: Name,
+    pub segment: Name,
+    pub from: Time,
+    pub until: Time,
+}
+
 /// What a line asks for. Names are as written: no airport is consulted.
 #[derive(Drop)]
 pub enum Command {
-    /// A route of 1 to 256 steps, the first of which is entered at `start`.
-    File {
-        flight: Name,
-        class: Name,
-        start: Time,
-        steps: List<FiledStep>,
-    },
-    Arrival {
-        flight: Name,
-        class: Name,
-        from: Name,
-        to: Name,
-        time: Time,
-        hold: Time,
-    },
-    Departure {
-        flight: Name,
-        class: Name,
-        from: Name,
-        to: Name,
-        time: Time,
-        queue: Time,
-    },
+    File(Filed),
+    Arrival(Asked),
+    Departure(Asked),
     Cancel {
         flight: Name,
     },
@@ -55,35 +77,15 @@ pub enum Command {
         segment: Name,
     },
     Timetable,
-    /// A work party shuts a segment for `[from, until)`.
-    Work {
-        name: Name,
-        segment: Name,
-        from: Time,
-        until: Time,
-    },
+    Work(Shut),
     /// The party is done.
     WorkDone {
         name: Name,
     },
-    /// An arrival that may be led to any of 1 to 16 stands.
-    ArrivalAny {
-        flight: Name,
-        class: Name,
-        from: Name,
-        time: Time,
-        hold: Time,
-        stands: List<Name>,
-    },
-    /// A departure that may be led to any of 1 to 16 nodes.
-    DepartureAny {
-        flight: Name,
-        class: Name,
-        from: Name,
-        time: Time,
-        queue: Time,
-        nodes: List<Name>,
-    },
+    /// An arrival that may be led to any of several stands.
+    ArrivalAny(AskedAny),
+    /// A departure that may be led to any of several runway nodes.
+    DepartureAny(AskedAny),
 }
 
 /// Why no command was read.

@@ -14,7 +14,7 @@ mod reader;
 mod texts;
 mod word;
 
-pub use command::{Command, CommandRefused, FiledStep};
+pub use command::{Asked, AskedAny, Command, CommandRefused, Filed, FiledStep, Shut};
 pub use fields::{read_arc_word, read_number};
 pub use laws::{arc_words_are_read_again, lines_come_in_turn, numbers_are_read_again};
 pub use line::{LineSlices, lines, skipped};

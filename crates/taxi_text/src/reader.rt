@@ -6,7 +6,7 @@ ghost use Rattle.taxi_text.specs.Reading.{IsReading};
 ghost use Rattle.taxi_text.specs.Words.{words_left};
 
 use crate::choice::{read_arrival_any, read_departure_any};
-use crate::command::{Command, CommandRefused};
+use crate::command::{Asked, Command, CommandRefused, Filed, Shut};
 use crate::fields::read_number;
 use crate::filed::read_steps;
 use crate::word::{WordSlices, words};
@@ -53,12 +53,12 @@ fn read_file(alloc: Global, words: &mut WordSlices<'_>) -> Result<Command, Comma
         return Err(CommandRefused::BadLine);
     };
     let steps = read_steps(alloc, words)?;
-    Ok(Command::File {
+    Ok(Command::File(Filed {
         flight,
         class,
         start,
         steps,
-    })
+    }))
 }
 
 fn read_unlisted(verb: &[u8], words: &mut WordSlices<'_>) -> Option<Command>
@@ -89,17 +89,6 @@ fn read_unlisted(verb: &[u8], words: &mut WordSlices<'_>) -> Option<Command>
     }
 }
 
-// What an arrival or a departure asks for, with its hold or its queue as slack.
-#[derive(Clone, Copy)]
-struct Asked {
-    flight: Name,
-    class: Name,
-    from: Name,
-    to: Name,
-    time: Time,
-    slack: Time,
-}
-
 fn read_asked(words: &mut WordSlices<'_>) -> Option<Asked>
     ensures { result ≡ asked_of (words_left words.old) }
 {
@@ -124,28 +113,14 @@ fn read_arrival(words: &mut WordSlices<'_>) -> Option<Command>
     ensures { result ≡ arrival_of (words_left words.old) }
 {
     let asked = read_asked(words)?;
-    Some(Command::Arrival {
-        flight: asked.flight,
-        class: asked.class,
-        from: asked.from,
-        to: asked.to,
-        time: asked.time,
-        hold: asked.slack,
-    })
+    Some(Command::Arrival(asked))
 }
 
 fn read_departure(words: &mut WordSlices<'_>) -> Option<Command>
     ensures { result ≡ departure_of (words_left words.old) }
 {
     let asked = read_asked(words)?;
-    Some(Command::Departure {
-        flight: asked.flight,
-        class: asked.class,
-        from: asked.from,
-        to: asked.to,
-        time: asked.time,
-        queue: asked.slack,
-    })
+    Some(Command::Departure(asked))
 }
 
 fn read_cancel(words: &mut WordSlices<'_>) -> Option<Command>
@@ -193,13 +168,13 @@ fn read_work(words: &mut WordSlices<'_>) -> Option<Command>
     let segment = next_name(words)?;
     let from = next_number(words)?;
     let until = next_number(words)?;
-    let work = Command::Work {
+    let shut = Shut {
         name,
         segment,
         from,
         until,
     };
-    at_end(words, work)
+    at_end(words, Command::Work(shut))
 }
 
 fn read_work_done(words: &mut WordSlices<'_>) -> Option<Command>

@@ -6,7 +6,7 @@ use Rattle.airport_text.specs.Canonical.{canonical_text}
 use Rattle.schedule_import.specs.declared.import.ScheduleRefused.{ScheduleRefused}
 use Rattle.schedule_import.specs.declared.import.ScheduleRefused.TheVariants.{FirstRow, BadStart}
 use Rattle.schedule_import.specs.Schedule.{import_of}
-use Rattle.program_words.specs.Asked.{FileNames}
+use Rattle.program_words.specs.Verb.{FileNames}
 use Rattle.program_endings.specs.declared.status.Status.{Status}
 use Rattle.program_endings.specs.declared.status.Status.TheVariants as status
 use Rattle.program_files.specs.Inputs.{IsJudged, AreAccepted}

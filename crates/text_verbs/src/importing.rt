@@ -1,6 +1,6 @@
 //! The verb `import`.
 ghost use Rattle.std.specs.Prelude.{◌≤◌, Some};
-ghost use Rattle.program_words.specs.Asked.{Import};
+ghost use Rattle.program_words.specs.Verb.{Import};
 ghost use Rattle.program_files.specs.Inputs.{IsInOrder};
 ghost use Rattle.program_files.specs.Stops.{IsReadEnd};
 ghost use Rattle.text_verbs.specs.Texts.{IsImportText};

@@ -1,6 +1,6 @@
 //! The verb `migrate`.
 ghost use Rattle.std.specs.Prelude.{◌≤◌, Some};
-ghost use Rattle.program_words.specs.Asked.{Migrate};
+ghost use Rattle.program_words.specs.Verb.{Migrate};
 ghost use Rattle.program_files.specs.Inputs.{IsInOrder};
 ghost use Rattle.program_files.specs.Stops.{IsReadEnd};
 ghost use Rattle.text_verbs.specs.Texts.{IsMigrateText};

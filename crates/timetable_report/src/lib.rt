@@ -2,11 +2,11 @@
 #![tactic(auto)]
 
 ghost use Rattle.std.specs.Prelude.{◌≡◌, ◌<◌, length, IfOk};
-ghost use Rattle.taxi_base.specs.Reports.{kind_of_request, flight_row, timetable_rows};
+ghost use Rattle.taxi_base.specs.Reports.{flight_row, timetable_rows};
 
 use commitments::Ledger;
 use std::alloc::Global;
-use taxi_base::{Flight, FlightKind, FlightRow, List, Memory, Request, begin_of, end_of};
+use taxi_base::{Flight, FlightRow, List, Memory, begin_of, end_of};
 
 /// One row for each flight in force, by rising names. The seconds are the first enter and the last leave of its route.
 pub fn timetable(alloc: Global, ledger: &Ledger) -> Result<List<FlightRow>, Memory>
@@ -26,19 +26,9 @@ fn row_of(flight: &Flight) -> FlightRow
     let steps = flight.steps.as_slice();
     FlightRow {
         flight: flight.name,
-        kind: kind_of(&flight.request),
+        kind: flight.request.kind(),
         class: flight.class,
         start: begin_of(steps),
         end: end_of(steps),
-    }
-}
-
-fn kind_of(request: &Request) -> FlightKind
-    ensures { result ≡ kind_of_request request.now }
-{
-    match request {
-        Request::Filed => FlightKind::Filed,
-        Request::Arrival { .. } => FlightKind::Arrival,
-        Request::Departure { .. } => FlightKind::Departure,
     }
 }

@@ -67,12 +67,12 @@ asked-read : (flight class from to time : List ℕ) (t : ℕ) → is_name flight
 asked-read flight class from to time t a b c d e = rw (a, b, c, d, e) refl
 
 arrival-read : (flight class from to time : List ℕ) (t : ℕ) → is_name flight ≡ true → is_name class ≡ true → is_name from ≡ true → is_name to ≡ true → number_of time ≡ Some t
-    → command_of_words (codes "arrival" ∷ flight ∷ class ∷ from ∷ to ∷ time ∷ codes "600" ∷ []) ≡ Some (Arrival flight class from to t 600)
-arrival-read flight class from to time t a b c d e = ap (λ asked. asked >>= (λ x. Some (Arrival x.flight x.class x.from x.to x.time x.slack))) (asked-read flight class from to time t a b c d e)
+    → command_of_words (codes "arrival" ∷ flight ∷ class ∷ from ∷ to ∷ time ∷ codes "600" ∷ []) ≡ Some (Arrival (record { flight = flight; class = class; from = from; to = to; time = t; slack = 600 }))
+arrival-read flight class from to time t a b c d e = ap (λ asked. asked >>= (λ x. Some (Arrival x))) (asked-read flight class from to time t a b c d e)
 
 departure-read : (flight class from to time : List ℕ) (t : ℕ) → is_name flight ≡ true → is_name class ≡ true → is_name from ≡ true → is_name to ≡ true → number_of time ≡ Some t
-    → command_of_words (codes "departure" ∷ flight ∷ class ∷ from ∷ to ∷ time ∷ codes "600" ∷ []) ≡ Some (Departure flight class from to t 600)
-departure-read flight class from to time t a b c d e = ap (λ asked. asked >>= (λ x. Some (Departure x.flight x.class x.from x.to x.time x.slack))) (asked-read flight class from to time t a b c d e)
+    → command_of_words (codes "departure" ∷ flight ∷ class ∷ from ∷ to ∷ time ∷ codes "600" ∷ []) ≡ Some (Departure (record { flight = flight; class = class; from = from; to = to; time = t; slack = 600 }))
+departure-read flight class from to time t a b c d e = ap (λ asked. asked >>= (λ x. Some (Departure x))) (asked-read flight class from to time t a b c d e)
 
 class-read : (f : Flight) → (is_name (class_word f) ≡ true) × (HasBlank (class_word f) ≡ false)
 class-read f = go f.medium refl

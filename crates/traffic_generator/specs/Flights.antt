@@ -2,6 +2,7 @@
 use Rattle.std.specs.Prelude.{ℕ, ◌+◌, ◌-◌, ◌*◌, ◌==◌, List, [], ◌∷◌, ◌++◌, map, codes, decimal, if◌then◌else◌}
 use Rattle.std.specs.List.{join_with_byte}
 use Rattle.std.specs.Str.{byte}
+use Rattle.taxi_text.specs.declared.command.Asked.{Asked}
 use Rattle.taxi_text.specs.declared.command.Command.{Command}
 use Rattle.taxi_text.specs.declared.command.Command.TheVariants.{Arrival, Departure}
 use Rattle.airport_file.specs.Plain.{text_of_lines}
@@ -44,12 +45,17 @@ command_words side number flight =
     then codes "arrival" ∷ flight_name number ∷ class_word flight ∷ runway_name flight ∷ stand_name side flight ∷ decimal flight.time ∷ codes "600" ∷ []
     else codes "departure" ∷ flight_name number ∷ class_word flight ∷ stand_name side flight ∷ runway_name flight ∷ decimal (flight.time + 3600) ∷ codes "600" ∷ []
 
+-- what a flight asks for between two nodes at a time
+abbrev pub asked_between : ℕ → Flight → List ℕ → List ℕ → ℕ → Asked
+asked_between number flight from to time =
+    record { flight = flight_name number; class = class_word flight; from = from; to = to; time = time; slack = 600 }
+
 -- the command that these words are
 abbrev pub asked_command : ℕ → ℕ → Flight → Command
 asked_command side number flight =
     if flight.arrives
-    then Arrival (flight_name number) (class_word flight) (runway_name flight) (stand_name side flight) flight.time 600
-    else Departure (flight_name number) (class_word flight) (stand_name side flight) (runway_name flight) (flight.time + 3600) 600
+    then Arrival (asked_between number flight (runway_name flight) (stand_name side flight) flight.time)
+    else Departure (asked_between number flight (stand_name side flight) (runway_name flight) (flight.time + 3600))
 
 abbrev pub words_of_flight : ℕ → ℕ → ℕ → Fields
 words_of_flight number side flight = command_words side flight (drawn_flight number side (draws_before side flight))

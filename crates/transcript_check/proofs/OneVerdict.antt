@@ -1,15 +1,13 @@
 -- A transcript is right or wrong, and not both; and it is wrong at one block, for one reason.
-use Rattle.std.proofs.Common.{◌≡◌, ◌+◌, ◌++◌, ◌∷◌, ◌∙◌, [], ℕ, List, length, All, inl, inr, refl, sym, ap, subst, append_assoc, arith}
-use Rattle.std.proofs.lemmas.Bool.{cases_lt}
+use Rattle.std.proofs.Common.{◌≡◌, ◌+◌, ◌++◌, ◌∷◌, ◌∙◌, [], ℕ, List, length, All, refl, sym, ap, subst, append_assoc, arith}
 use Rattle.std.proofs.lemmas.List.Elements.{All-head, All-tail}
 use Rattle.taxi_base.specs.Airport.{Airport, IsWellFormed}
 use Rattle.taxi_base.specs.State.{State, no_holder}
 use Rattle.certificate.specs.declared.block.Block.{Block}
-use Rattle.certificate.specs.declared.rule.Rule.{Rule as RuleOf}
-use Rattle.certificate.specs.declared.rule.Rule.TheVariants as rule
 use Rattle.certificate.specs.Texts.{block_text}
 use Rattle.certificate.specs.Printable.{IsPrintable}
-use Rattle.certificate.specs.Passes.{IsPassed, IsFirstBroken, turn_of}
+use Rattle.certificate.specs.Passes.{IsPassed, IsFirstBroken}
+use Rattle.certificate.proofs.TurnLaws.{first_broken-one, passed-unbroken}
 use Rattle.block_reader.specs.Read.{BeginsWith}
 use Rattle.block_reader.proofs.ReadLaws.{texts-differ, one-begins}
 use Rattle.transcript_check.specs.declared.failure.Failure.{Failure}
@@ -18,68 +16,17 @@ use Rattle.transcripts.proofs.OneAfter.{passed-one}
 use Rattle.transcripts.specs.Runs.{blocks_text, done_line}
 use Rattle.transcript_check.specs.Checks.{IsPassedRun, IsRight, IsWrongAt, BlockFails, EndFails, Fails}
 
--- ---- rules in their order
-
-turn-one : (a b : RuleOf) → turn_of a ≡ turn_of b → a ≡ b
-turn-one rule.Reply rule.Reply e = refl
-turn-one rule.Walk rule.Walk e = refl
-turn-one rule.Rows rule.Rows e = refl
-turn-one rule.Start rule.Start e = refl
-turn-one rule.Step rule.Step e = refl
-turn-one rule.Target rule.Target e = refl
-turn-one rule.Reply rule.Walk e = absurd (omega (arith, e))
-turn-one rule.Reply rule.Rows e = absurd (omega (arith, e))
-turn-one rule.Reply rule.Start e = absurd (omega (arith, e))
-turn-one rule.Reply rule.Step e = absurd (omega (arith, e))
-turn-one rule.Reply rule.Target e = absurd (omega (arith, e))
-turn-one rule.Walk rule.Reply e = absurd (omega (arith, e))
-turn-one rule.Walk rule.Rows e = absurd (omega (arith, e))
-turn-one rule.Walk rule.Start e = absurd (omega (arith, e))
-turn-one rule.Walk rule.Step e = absurd (omega (arith, e))
-turn-one rule.Walk rule.Target e = absurd (omega (arith, e))
-turn-one rule.Rows rule.Reply e = absurd (omega (arith, e))
-turn-one rule.Rows rule.Walk e = absurd (omega (arith, e))
-turn-one rule.Rows rule.Start e = absurd (omega (arith, e))
-turn-one rule.Rows rule.Step e = absurd (omega (arith, e))
-turn-one rule.Rows rule.Target e = absurd (omega (arith, e))
-turn-one rule.Start rule.Reply e = absurd (omega (arith, e))
-turn-one rule.Start rule.Walk e = absurd (omega (arith, e))
-turn-one rule.Start rule.Rows e = absurd (omega (arith, e))
-turn-one rule.Start rule.Step e = absurd (omega (arith, e))
-turn-one rule.Start rule.Target e = absurd (omega (arith, e))
-turn-one rule.Step rule.Reply e = absurd (omega (arith, e))
-turn-one rule.Step rule.Walk e = absurd (omega (arith, e))
-turn-one rule.Step rule.Rows e = absurd (omega (arith, e))
-turn-one rule.Step rule.Start e = absurd (omega (arith, e))
-turn-one rule.Step rule.Target e = absurd (omega (arith, e))
-turn-one rule.Target rule.Reply e = absurd (omega (arith, e))
-turn-one rule.Target rule.Walk e = absurd (omega (arith, e))
-turn-one rule.Target rule.Rows e = absurd (omega (arith, e))
-turn-one rule.Target rule.Start e = absurd (omega (arith, e))
-turn-one rule.Target rule.Step e = absurd (omega (arith, e))
-
 line-same : (x y : List ℕ) (xs ys : List (List ℕ)) → ◌≡◌ {A = List (List ℕ)} (x ∷ xs) (y ∷ ys) → (x ≡ y) × (xs ≡ ys)
 line-same x y xs ys e = (cc, cc)
 
 module _ (airport : Airport) (well : IsWellFormed airport) where
-  -- the first rule that a block breaks is one
-  broken-one : (state : State) (line : List ℕ) (block : Block) (a b : RuleOf) → IsFirstBroken airport state line block a → IsFirstBroken airport state line block b → a ≡ b
-  broken-one state line block a b first second =
-      elim (cases_lt (turn_of a) (turn_of b)) [
-        | inl sooner ↦ absurd (first.broken (second.before a sooner))
-        | inr later ↦ elim (cases_lt (turn_of b) (turn_of a)) [
-          | inl sooner ↦ absurd (second.broken (first.before b sooner))
-          | inr same ↦ turn-one a b (omega (arith, later, same))
-        ]
-      ]
-
   -- a block that passes does not fail
   passed-fails : (state after : State) (line : List ℕ) (block : Block) (rest : List ℕ) (why : Failure) → IsPassed airport state line block after
       → BeginsWith airport rest block → BlockFails airport state line rest why → ⊥
   passed-fails state after line block rest Form passed begins fails = fails block begins
   passed-fails state after line block rest (Rule r) passed begins fails =
       let same : fails.0 ≡ block = one-begins airport well rest fails.0 block fails.1 begins in
-      (subst (λ b. IsFirstBroken airport state line b r) same fails.2).broken (passed.keeps r)
+      passed-unbroken airport state line block after passed r (subst (λ b. IsFirstBroken airport state line b r) same fails.2)
 
   fails-one : (state : State) (line rest : List ℕ) (a b : Failure) → BlockFails airport state line rest a → BlockFails airport state line rest b → a ≡ b
   fails-one state line rest Form Form one two = refl
@@ -87,7 +34,7 @@ module _ (airport : Airport) (well : IsWellFormed airport) where
   fails-one state line rest (Rule r) Form one two = absurd (two one.0 one.1)
   fails-one state line rest (Rule r) (Rule q) one two =
       let same : one.0 ≡ two.0 = one-begins airport well rest one.0 two.0 one.1 two.1 in
-      ap Rule (broken-one state line two.0 r q (subst (λ b. IsFirstBroken airport state line b r) same one.2) two.2)
+      ap Rule (first_broken-one airport state line two.0 r q (subst (λ b. IsFirstBroken airport state line b r) same one.2) two.2)
 
   -- the text of a block and what follows
   behind : (block : Block) (blocks : List Block) (tail : List ℕ) → blocks_text airport (block ∷ blocks) ++ tail ≡ block_text airport block ++ (blocks_text airport blocks ++ tail)

@@ -1,23 +1,22 @@
 -- What does the check of a transcript find? No public clause cites this file.
-use Rattle.std.specs.Prelude.{◌≡◌, ℕ, List, length}
+use Rattle.std.specs.Prelude.{◌≡◌, ℕ, List, length, Result, Ok, Err}
 use Rattle.taxi_base.specs.Airport.{Airport}
 use Rattle.taxi_base.specs.State.{State, no_holder}
 use Rattle.certificate.specs.declared.block.Block.{Block}
 use Rattle.certificate.specs.Texts.{block_text}
 use Rattle.certificate.specs.Passes.{IsPassed}
 use Rattle.block_reader.specs.Read.{BeginsWith}
-use Rattle.transcript_check.specs.declared.checking.BlockVerdict.{BlockVerdict}
-use Rattle.transcript_check.specs.declared.checking.BlockVerdict.TheVariants.{Passed, Failed}
+use Rattle.transcript_check.specs.declared.failure.Failure.{Failure}
 use Rattle.transcript_check.specs.declared.checking.Verdict.{Verdict}
 use Rattle.transcript_check.specs.declared.checking.Verdict.TheVariants.{Right, Wrong}
 use Rattle.transcripts.specs.Runs.{InTurn}
 use Rattle.transcript_check.specs.Checks.{IsRight, IsWrongAt, IsTrusted, BlockFails}
 
 -- a block that passes, with the length of its text, or why the block that is due fails
-abbrev pub IsBlockVerdict : Airport → State → List ℕ → List ℕ → State → BlockVerdict → Type 0
-IsBlockVerdict airport old line rest new (Passed count) =
+abbrev pub IsBlockVerdict : Airport → State → List ℕ → List ℕ → State → Result ℕ Failure → Type 0
+IsBlockVerdict airport old line rest new (Ok count) =
     (block : Block) × BeginsWith airport rest block × (count ≡ length (block_text airport block)) × IsPassed airport old line block new
-IsBlockVerdict airport old line rest new (Failed why) = BlockFails airport old line rest why
+IsBlockVerdict airport old line rest new (Err why) = BlockFails airport old line rest why
 
 abbrev pub IsVerdict : Airport → List (List ℕ) → List ℕ → Verdict → Type 0
 IsVerdict airport commands text (Right count) =

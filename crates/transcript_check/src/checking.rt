@@ -22,14 +22,6 @@ pub enum Verdict {
     Wrong { number: u64, why: Failure },
 }
 
-/// What the check of the block that is due finds.
-#[derive(Clone, Copy, Debug, Drop)]
-pub(crate) enum BlockVerdict {
-    /// A block passes whose text has so many bytes.
-    Passed { length: usize },
-    Failed { why: Failure },
-}
-
 /// Has a checker, to whom no flight is in force, check the block of each command where it is due, and sees that the last
 /// line stands behind them.
 pub fn check_transcript<C: BlockChecker>(
@@ -51,8 +43,8 @@ pub fn check_transcript<C: BlockChecker>(
     for line in lines(commands) {
         if !skipped(line) {
             match check_block(alloc, airport, checker, line, rest)? {
-                BlockVerdict::Passed { length } => rest = &rest[length..],
-                BlockVerdict::Failed { why } => {
+                Ok(length) => rest = &rest[length..],
+                Err(why) => {
                     return Ok(Verdict::Wrong {
                         number: count + 1,
                         why,
@@ -71,30 +63,26 @@ pub fn check_transcript<C: BlockChecker>(
     })
 }
 
-// Reads the block that is due for a line, and has it checked.
+// Reads the block that is due for a line, and has it checked: how many bytes its text has where it passes, and else why it fails.
 fn check_block<C: BlockChecker>(
     alloc: Global,
     airport: &Airport,
     checker: &mut C,
     line: &[u8],
     rest: &[u8],
-) -> Result<BlockVerdict, Memory>
+) -> Result<Result<usize, Failure>, Memory>
     requires same { C.airport checker.old ≡ airport.now }
     ensures verdict { IfOk result (IsBlockVerdict airport.now (C.state checker.old) line.now rest.now (C.state checker.new)) }
     ensures airport { C.airport checker.new ≡ airport.now }
 {
     let (block, length) = match read_block(alloc, airport, rest) {
         Ok(read) => read,
-        Err(BlockRefused::NotABlock) => {
-            return Ok(BlockVerdict::Failed { why: Failure::Form });
-        }
-        Err(BlockRefused::Memory) => return Err(Memory),
+        Err(BlockRefused::NotABlock) => return Ok(Err(Failure::Form)),
+        Err(BlockRefused::Memory) => return Err(Memory::told()),
     };
-    match checker.check_next(line, &block) {
-        Ok(()) => Ok(BlockVerdict::Passed { length }),
-        Err(CheckRefused::Wrong { rule }) => Ok(BlockVerdict::Failed {
-            why: Failure::Rule(rule),
-        }),
-        Err(CheckRefused::Memory) => Err(Memory),
+    match checker.check_next(line, block) {
+        Ok(()) => Ok(Ok(length)),
+        Err(CheckRefused::Wrong { rule }) => Ok(Err(Failure::Rule(rule))),
+        Err(CheckRefused::Memory) => Err(Memory::told()),
     }
 }

@@ -16,7 +16,7 @@ pub trait BlockChecker {
     ghost state: { Self → State };
 
     /// Checks the block that answers a line. Where it passes the state is that afterwards; else it stays as it was.
-    fn check_next(&mut self, line: &[u8], block: &Block) -> Result<(), CheckRefused>
+    fn check_next(&mut self, line: &[u8], block: Block) -> Result<(), CheckRefused>
         ensures airport { airport self.new ≡ airport self.old }
-        ensures checked { ChecksIn (airport self.old) line.now block.now (state self.old) result (state self.new) };
+        ensures checked { ChecksIn (airport self.old) line.now block (state self.old) result (state self.new) };
 }

@@ -1,5 +1,6 @@
 //! Why a block does not pass.
 use certificate::Rule;
+use taxi_base::Memory;
 
 /// Why a block does not pass.
 #[derive(Clone, Copy, Debug, Drop)]
@@ -7,4 +8,15 @@ pub enum CheckRefused {
     /// The first rule that the block breaks.
     Wrong { rule: Rule },
     Memory,
+}
+
+impl From<Memory> for CheckRefused {
+    ghost use Rattle.std.specs.Prelude.{◌≡◌};
+    ghost use Rattle.transcripts.specs.declared.refused.CheckRefused.TheVariants as refused;
+
+    ghost from_gives = { λ _ e. e ≡ refused.Memory };
+
+    fn from(_memory: Memory) -> CheckRefused {
+        CheckRefused::Memory
+    }
 }

@@ -12,10 +12,11 @@ use std::alloc::Global;
 use std::marker::Model;
 use taxi_base::{Memory, Span, Time};
 
-// Room for so many windows more is made at once, so that a row rarely grows.
+// A row has room for so many windows more than there are nodes, so that it rarely grows.
 const AT_ONCE: usize = 16;
 
-/// A segment's free windows, also in a row, and the number of spans for which it is held.
+/// A segment's free windows, also in a row, and the number of spans for which it is held. The row has room for the windows of all nodes,
+/// and for few more.
 #[derive(Drop)]
 pub(crate) struct SegmentWindows {
     intervals: IntervalList,
@@ -33,7 +34,8 @@ impl Model for SegmentWindows {
     ghost view = { λ l. record { intervals = l.intervals; held = l.held } };
 
     ghost invariant = { λ l. IsNormal l.intervals × (length l.intervals.windows + length l.intervals.spare < 2 ^ 64)
-        × (l.row.items ≡ spans_of l.intervals.windows) × (length l.intervals.windows + length l.intervals.spare ≤ vec_capacity l.row) };
+        × (l.row.items ≡ spans_of l.intervals.windows) × (length l.intervals.windows + length l.intervals.spare ≤ vec_capacity l.row)
+        × (vec_capacity l.row ≤ length l.intervals.windows + length l.intervals.spare + 16) };
 }
 
 impl SegmentWindows {
@@ -87,6 +89,7 @@ impl SegmentWindows {
     pub(crate) fn make_room(&mut self, ids: &mut Ids, wanted: usize) -> Result<(), Memory>
         requires below { All (λ id. id < ids.old.next) (owned self.old.intervals) }
         requires fits { ids.old.next + wanted < 2 ^ 64 }
+        requires few { wanted ≤ 2 ^ 33 }
         ensures windows { self.new.intervals.windows ≡ self.old.intervals.windows }
         ensures held { self.new.held ≡ self.old.held }
         ensures spare { self.new.intervals.spare ≡ drawn ids.old.next (ids.new.next - ids.old.next) ++ self.old.intervals.spare }
@@ -95,11 +98,28 @@ impl SegmentWindows {
         ensures ok { OnOk result (nodes self.new ≡ max wanted (nodes self.old)) }
         ensures err { OnErr result (nodes self.new ≤ max wanted (nodes self.old)) }
     {
-        let lacking = wanted.saturating_sub(self.intervals.len());
-        if self.row.capacity() < wanted {
-            self.row.reserve(lacking.max(AT_ONCE))?;
+        while self.intervals.len() + self.intervals.spare() < wanted {
+            self.make_node(ids)?;
         }
-        self.intervals.reserve(ids, lacking)
+        Ok(())
+    }
+
+    // Makes a spare node, and room for its window in the row.
+    fn make_node(&mut self, ids: &mut Ids) -> Result<(), Memory>
+        requires below { All (λ id. id < ids.old.next) (owned self.old.intervals) }
+        requires fits { ids.old.next + 1 < 2 ^ 64 }
+        requires few { nodes self.old < 2 ^ 33 }
+        ensures windows { self.new.intervals.windows ≡ self.old.intervals.windows }
+        ensures held { self.new.held ≡ self.old.held }
+        ensures ok { OnOk result ((ids.new.next ≡ ids.old.next + 1) × (self.new.intervals.spare ≡ ids.old.next ∷ self.old.intervals.spare)) }
+        ensures err { OnErr result ((ids.new.next ≡ ids.old.next) × (self.new.intervals.spare ≡ self.old.intervals.spare)) }
+        ensures below { All (λ id. id < ids.new.next) (owned self.new.intervals) }
+    {
+        let spare = self.intervals.spare();
+        if self.row.capacity() == self.intervals.len() + spare {
+            self.row.reserve_exact(spare + AT_ONCE)?;
+        }
+        self.intervals.draw(ids)
     }
 
     /// Raises the number by one, and lowers it, while room is made for spans to come.

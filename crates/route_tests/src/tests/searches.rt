@@ -4,7 +4,7 @@ use super::small_airport;
 use crate::free_windows;
 use airport_file::Airport;
 use airport_tests::{read_text, small_text};
-use backward_search::{depart, depart_to_one_of};
+use backward_search::{Departure, depart, depart_to_one_of};
 use forward_search::{Start, arrive_to_one_of};
 use place_cells::SearchRoom;
 use std::alloc::Global;
@@ -14,6 +14,14 @@ use taxi_engine::Engine;
 
 // A second runway, R2, over K.
 const SECOND_RUNWAY: &[u8] = b"node,R2,runway\nsegment,E,K,R2,both\nseconds,E,M,40\n";
+
+// Class M leaves S2 and is out at 200.
+const FROM_S2: Departure = Departure {
+    class: Class(0),
+    from: Node(4),
+    earliest_out: 200,
+    latest_out: 200,
+};
 
 // From R at 100 to S2 or S1.
 fn arrival(alloc: Global, airport: &Airport) -> Result<Found, Memory> {
@@ -32,11 +40,10 @@ fn arrival(alloc: Global, airport: &Airport) -> Result<Found, Memory> {
         start,
         Class(0),
         &[Node(4), Node(3)],
-        0,
     )
 }
 
-// From S2 to R or R2, out at 200.
+// To R or R2.
 fn departure(alloc: Global, airport: &Airport) -> Result<Found, Memory> {
     let store = free_windows(alloc, airport)?;
     let mut room = SearchRoom::new(alloc)?;
@@ -45,12 +52,8 @@ fn departure(alloc: Global, airport: &Airport) -> Result<Found, Memory> {
         &mut room,
         airport,
         &store,
-        Node(4),
+        FROM_S2,
         &[Node(0), Node(5)],
-        Class(0),
-        200,
-        200,
-        0,
     )
 }
 
@@ -120,23 +123,12 @@ fn engine_with_holds(alloc: Global) -> Option<Engine> {
     Some(engine)
 }
 
-// From S2 to R, out at 200.
+// To R.
 fn departure_among(alloc: Global, engine: &Engine) -> Result<Found, Memory> {
     let mut room = SearchRoom::new(alloc)?;
     let airport = engine.airport();
     let ledger = engine.ledger();
-    depart(
-        alloc,
-        &mut room,
-        airport,
-        ledger.store(),
-        Node(4),
-        Node(0),
-        Class(0),
-        200,
-        200,
-        10,
-    )
+    depart(alloc, &mut room, airport, ledger.store(), FROM_S2, Node(0))
 }
 
 #[test]

@@ -185,10 +185,11 @@ fn refused_airports(rt: HostRuntime) -> Result<(), Fail> {
     Ok(())
 }
 
-// As many flights as may be in force, each on the same segment after the one before, and one more.
-fn one_flight_too_many(alloc: Global) -> Result<Vec<u8>, Memory> {
+// As many flights as may be in force, each on the same segment after the one before. The last one is routed anew twice, and then one
+// more asks.
+fn commands_of_a_full_house(alloc: Global) -> Result<Vec<u8>, Memory> {
     let mut commands = Vec::new(alloc);
-    for i in 0..4096u64 {
+    for i in 0..4095u64 {
         push_bytes(&mut commands, b"file F")?;
         push_number(&mut commands, i)?;
         push_bytes(&mut commands, b" M ")?;
@@ -197,8 +198,32 @@ fn one_flight_too_many(alloc: Global) -> Result<Vec<u8>, Memory> {
         push_number(&mut commands, 30 * i + 30)?;
         push_bytes(&mut commands, b"\n")?;
     }
-    push_bytes(&mut commands, b"file G M 0 A+ 30\n")?;
+    push_bytes(&mut commands, b"arrival Z M R S1 200000 3600\n")?;
+    push_bytes(&mut commands, b"reroute Z 100000\ndivert Z 100000 S2\n")?;
+    push_bytes(&mut commands, b"file G M 300000 A+ 300030\n")?;
     Ok(commands)
+}
+
+// What the last flight and the one that is too many are told.
+fn end_of_a_full_house() -> &'static [u8] {
+    b"filed F4094 122820 122850\n\
+      route Z 200050 2 1\n\
+      step A+ 200000 200030\n\
+      step B+ 200030 200050\n\
+      label A+ 122850 604800 200030\n\
+      route Z 200050 2 1\n\
+      step A+ 200000 200030\n\
+      step B+ 200030 200050\n\
+      label A+ 122850 604800 200030\n\
+      route Z 200070 3 3\n\
+      step A+ 200000 200030\n\
+      step C+ 200030 200055\n\
+      step D+ 200055 200070\n\
+      label A+ 122850 604800 200030\n\
+      label B+ 0 604800 200050\n\
+      label C+ 122850 604800 200055\n\
+      refused full\n\
+      done 4099\n"
 }
 
 #[test]
@@ -206,7 +231,7 @@ fn as_many_flights_as_may_be_in_force(rt: HostRuntime) -> Result<(), Fail> {
     let alloc = rt.alloc();
     let words = words_of(alloc, ROUTE)?;
     let airport = airport_of(alloc, LONG, b"")?;
-    let commands = one_flight_too_many(alloc)?;
+    let commands = commands_of_a_full_house(alloc)?;
     let files = [airport.as_slice(), commands.as_slice()];
     let mut shelf = shelf_of(alloc, files.as_slice(), 4096, [].as_slice())?;
     let mut out = sink_of(alloc, 4096, [].as_slice())?;
@@ -216,9 +241,6 @@ fn as_many_flights_as_may_be_in_force(rt: HostRuntime) -> Result<(), Fail> {
         out.written()
             .starts_with(b"filed F0 0 30\nfiled F1 30 60\n")
     );
-    assert!(rt;
-        out.written()
-            .ends_with(b"filed F4095 122850 122880\nrefused full\ndone 4097\n")
-    );
+    assert!(rt; out.written().ends_with(end_of_a_full_house()));
     Ok(())
 }

@@ -54,29 +54,25 @@ const BAD_LINES: [&[u8]; 15] = [
 // The first word of a command, its numbers, and how many steps or nodes it lists.
 fn form_of(command: &Command) -> (&'static str, Time, Time, usize) {
     match command {
-        Command::File { start, steps, .. } => ("file", *start, 0, steps.as_slice().len()),
-        Command::Arrival { time, hold, .. } => ("arrival", *time, *hold, 0),
-        Command::Departure { time, queue, .. } => ("departure", *time, *queue, 0),
+        Command::File(filed) => ("file", filed.start, 0, filed.steps.as_slice().len()),
+        Command::Arrival(asked) => ("arrival", asked.time, asked.slack, 0),
+        Command::Departure(asked) => ("departure", asked.time, asked.slack, 0),
         Command::Cancel { .. } => ("cancel", 0, 0, 0),
         Command::Reroute { time, .. } => ("reroute", *time, 0, 0),
         Command::Divert { time, .. } => ("divert", *time, 0, 0),
         Command::Windows { .. } => ("windows", 0, 0, 0),
         Command::Occupancy { .. } => ("occupancy", 0, 0, 0),
         Command::Timetable => ("timetable", 0, 0, 0),
-        Command::Work { from, until, .. } => ("work", *from, *until, 0),
+        Command::Work(shut) => ("work", shut.from, shut.until, 0),
         Command::WorkDone { .. } => ("workdone", 0, 0, 0),
-        Command::ArrivalAny {
-            time,
-            hold,
-            stands,
-            ..
-        } => ("arrival-any", *time, *hold, stands.as_slice().len()),
-        Command::DepartureAny {
-            time,
-            queue,
-            nodes,
-            ..
-        } => ("departure-any", *time, *queue, nodes.as_slice().len()),
+        Command::ArrivalAny(asked) => {
+            let listed = asked.nodes.as_slice().len();
+            ("arrival-any", asked.time, asked.slack, listed)
+        }
+        Command::DepartureAny(asked) => {
+            let listed = asked.nodes.as_slice().len();
+            ("departure-any", asked.time, asked.slack, listed)
+        }
     }
 }
 

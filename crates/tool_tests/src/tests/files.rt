@@ -146,20 +146,22 @@ fn files_that_the_machine_refuses(rt: HostRuntime) -> Result<(), Fail> {
     Ok(())
 }
 
-// A writer that takes so many bytes at most. Where it is full its flushes fail.
+// A writer that takes so many bytes at most. Where it is full, a flush fails that comes after a write.
 #[derive(Drop)]
 struct Tape {
     most: usize,
     full: bool,
+    waiting: bool,
 }
 
 impl Write for Tape {
     fn write(&mut self, bytes: &[u8]) -> io::Result<usize> {
+        self.waiting = true;
         Ok(self.most.min(bytes.len()))
     }
 
     fn flush(&mut self) -> io::Result<()> {
-        if self.full {
+        if self.full && self.waiting {
             Err(io::Error::from(io::ErrorKind::StorageFull))
         } else {
             Ok(())
@@ -175,7 +177,12 @@ fn writes_that_are_short_or_not_flushed(rt: HostRuntime) -> Result<(), Fail> {
         (0, false, Err(Trouble::Failed)),
         (9, true, Err(Trouble::Failed)),
     ] {
-        let mut sink = OutputSink::new(Tape { most, full });
+        let waiting = false;
+        let mut sink = OutputSink::new(Tape {
+            most,
+            full,
+            waiting,
+        });
         assert!(rt; sink.write(BYTES) == answer, "of {most} bytes at most");
     }
     Ok(())

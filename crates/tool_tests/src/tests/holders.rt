@@ -6,6 +6,8 @@ use std::alloc::Global;
 use std::test::Fail;
 use taxi_base::{Arc, Class, Flight, List, Memory, Name, Party, Request, Segment, Step};
 
+const MOST_FLIGHTS: usize = 4_096;
+
 // A flight of a name that makes one step.
 fn flight(alloc: Global, name: Name) -> Result<Flight, Memory>
     ensures name { IfOk result (λ flight. flight.name ≡ name) }
@@ -29,6 +31,9 @@ fn file(alloc: Global, flights: &mut FlightList, name: &[u8]) -> Result<(), Fail
     let name = Name::read(name).ok_or("it is a name")?;
     if flights.flight(&name).is_some() {
         return Err(Fail::from("no flight has the name"));
+    }
+    if flights.count() >= MOST_FLIGHTS {
+        return Err(Fail::from("there are fewer flights than may be"));
     }
     flights.prepare()?;
     flights.insert(flight(alloc, name)?);

@@ -37,7 +37,7 @@ check_again-requires-clause-sought c =
     let target = c.in-Some.target in
     let named = sym c.node_named.ensures ∙ c.in-Some.is in
     let none = sym c.divert_refused.ensures ∙ c.in_default-divert_refused.is in
-    rw c.retargeted-request.ensures
+    rw c.retargeted.ensures
     (retargeted-sought airport f.request target (go_on-named airport name state.flights f found c.requires.ready.can_go_on) (routed-first f _ none) (arrival-second f _ none))
 
 pub check_again-requires-clause-meant : goal.check_again-requires-clause-meant
@@ -49,7 +49,7 @@ check_again-requires-clause-meant c =
     let found = sym c.flight.ensures ∙ copied-flight c.flight.result c.in-Some-flight.flight c.in-Some-flight.is in
     let target = c.in-Some.target in
     let named = sym c.node_named.ensures ∙ c.in-Some.is in
-    rw c.retargeted-request.ensures (other-meant airport state c.requires.ready.is_sound name f found c.args.time target)
+    rw c.retargeted.ensures (other-meant airport state c.requires.ready.is_sound name f found c.args.time target)
 
 pub returns-clause-judged : goal.returns-clause-judged
 returns-clause-judged c =
@@ -62,6 +62,6 @@ returns-clause-judged c =
     let named = sym c.node_named.ensures ∙ c.in-Some.is in
     let none = sym c.divert_refused.ensures ∙ c.in_default-divert_refused.is in
     let stand = sym c.is_stand.ensures ∙ c.if-not-is_stand.false in
-    told-judged airport state (command.Divert name c.args.time c.args.node.now) c.args.block.now (divert-none airport state c.requires.ready.is_sound name f found c.args.time c.args.node.now target named stand none)
+    told-judged airport state (command.Divert name c.args.time c.args.node.now) c.args.block (divert-none airport state c.requires.ready.is_sound name f found c.args.time c.args.node.now target named stand none)
     (sought_again airport state name c.args.time true f (retargeted f.request target)) (divert-sought airport state c.requires.ready.is_sound name f found c.args.time c.args.node.now target named)
-    c.check_again.result (state_of c.check_again.new.held) (rw c.retargeted-request.ensures at (c.check_again.ensures.told f found))
+    c.check_again.result (state_of c.check_again.new.held) (rw c.retargeted.ensures at (c.check_again.ensures.told f found))

@@ -47,6 +47,6 @@ returns-clause-judged c =
     let f = c.in-Some.flight.now in
     let found = sym c.flight.ensures ∙ copied-flight c.flight.result c.in-Some.flight c.in-Some.is in
     let none = sym c.reroute_refused.ensures ∙ c.in_default-reroute_refused.is in
-    told-judged airport state (command.Reroute name c.args.time) c.args.block.now (reroute-none airport state c.requires.ready.is_sound name f found c.args.time none)
+    told-judged airport state (command.Reroute name c.args.time) c.args.block (reroute-none airport state c.requires.ready.is_sound name f found c.args.time none)
     (sought_again airport state name c.args.time false f f.request) (reroute-sought airport state c.requires.ready.is_sound name f found c.args.time)
     c.check_again.result (state_of c.check_again.new.held) (c.check_again.ensures.told f found)

@@ -1,6 +1,5 @@
-use Rattle.std.proofs.Common.{◌∷◌, get_or, refl}
+use Rattle.std.proofs.Common.{get_or, refl}
 use Rattle.taxi_base.proofs.AirportLaws.{node_named-exists}
-use Rattle.taxi_base.specs.declared.answers.Request.TheVariants as request
 use Rattle.taxi_text.specs.declared.command.Command.TheVariants as command
 use Rattle.certificate.specs.Asked.{arrival_any}
 use Rattle.certificate.specs.Sought.{sought_any}
@@ -13,30 +12,30 @@ pub returns-in-Named-clause-judged : goal.returns-in-Named-clause-judged
 returns-in-Named-clause-judged c =
     let airport = c.args.airport.now in
     let state = state_of c.args.held.now in
-    let new = c.args.new.now in
+    let asked = c.args.asked.now in
     let nodes = c.in-Named.nodes in
-    let known = rw c.in-Named.is at c.in_ok-named.ensures in
-    let some = some-named airport new.nodes.now nodes known.2 c.requires.some in
-    let choice = arrival_any c.in-Named.from nodes new.time new.slack in
+    let known = rw c.in-Named.is at c.in_ok-class.ensures in
+    let some = some-named airport asked.nodes nodes known.2 c.requires.some in
+    let choice = arrival_any c.in-Named.from nodes asked.time asked.slack in
     let node = get_or nodes 0 no_node in
-    let told = rw c.as_slice-nodes.ensures at c.check_new_any.ensures.told in
-    told-judged airport state (command.ArrivalAny new.name.now new.class.now new.from.now new.time new.slack new.nodes.now) c.args.block.now known.3
-    (sought_any airport state new.name.now c.in-Named.class choice node (others_of nodes)) (rw (known.0, known.1, known.2) (choice-sought airport state new.name.now c.in-Named.class choice no_node some))
-    c.check_new_any.result (state_of c.check_new_any.new.held) (told choice node (others_of nodes) refl (first-others nodes no_node some))
+    let told = rw c.as_slice-nodes.ensures at c.check_new_to_any.ensures.told in
+    told-judged airport state (command.ArrivalAny asked) c.args.block known.3
+    (sought_any airport state asked.flight c.in-Named.class choice node (others_of nodes)) (rw (known.0, known.1, known.2) (choice-sought airport state asked.flight c.in-Named.class choice no_node some))
+    c.check_new_to_any.result (state_of c.check_new_to_any.new.held) (told choice node (others_of nodes) refl (first-others nodes no_node some))
 
 pub bounds-nodes-0 : goal.bounds-nodes-0
 bounds-nodes-0 c =
-    let known = rw c.in-Named.is at c.in_ok-named.ensures in
-    rw c.as_slice-nodes.ensures (some-named c.args.airport.now c.args.new.now.nodes.now c.in-Named.nodes known.2 c.requires.some)
+    let known = rw c.in-Named.is at c.in_ok-class.ensures in
+    rw c.as_slice-nodes.ensures (some-named c.args.airport.now c.args.asked.now.nodes c.in-Named.nodes known.2 c.requires.some)
 
-pub check_new_any-requires-clause-sought : goal.check_new_any-requires-clause-sought
-check_new_any-requires-clause-sought c node there =
-    let known = rw c.in-Named.is at c.in_ok-named.ensures in
-    (node_named-exists c.args.airport.now c.args.new.now.from.now c.in-Named.from known.1, (c.requires.time, c.requires.hold))
+pub check_new_to_any-requires-clause-sought : goal.check_new_to_any-requires-clause-sought
+check_new_to_any-requires-clause-sought c node there =
+    let known = rw c.in-Named.is at c.in_ok-class.ensures in
+    (node_named-exists c.args.airport.now c.args.asked.now.from c.in-Named.from known.1, (c.requires.time, c.requires.hold))
 
-pub check_new_any-requires-clause-choice : goal.check_new_any-requires-clause-choice
-check_new_any-requires-clause-choice c =
+pub check_new_to_any-requires-clause-choice : goal.check_new_to_any-requires-clause-choice
+check_new_to_any-requires-clause-choice c =
     let nodes = c.in-Named.nodes in
-    let known = rw c.in-Named.is at c.in_ok-named.ensures in
-    let some = some-named c.args.airport.now c.args.new.now.nodes.now nodes known.2 c.requires.some in
-    rw c.as_slice-nodes.ensures (arrival_any c.in-Named.from nodes c.args.new.now.time c.args.new.now.slack, get_or nodes 0 no_node, others_of nodes, refl, first-others nodes no_node some)
+    let known = rw c.in-Named.is at c.in_ok-class.ensures in
+    let some = some-named c.args.airport.now c.args.asked.now.nodes nodes known.2 c.requires.some in
+    rw c.as_slice-nodes.ensures (arrival_any c.in-Named.from nodes c.args.asked.now.time c.args.asked.now.slack, get_or nodes 0 no_node, others_of nodes, refl, first-others nodes no_node some)

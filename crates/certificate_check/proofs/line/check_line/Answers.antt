@@ -7,21 +7,20 @@ use Rattle.checked_state.specs.Flights.{state_of}
 use Rattle.certificate_check.proofs.PassedLaws.{memory-passes, bad-checks, judged-checks}
 use Rattle.certificate_check.proofs.line.check_line.Goals as goal
 
-pub judge-judged-requires-clause-grammar : goal.judge-judged-requires-clause-grammar
-judge-judged-requires-clause-grammar c = subst (λ o. IfSome o IsInGrammar) c.in-Ok.ensures.ok (command_of-in_grammar c.args.line.now)
+pub judge-requires-clause-grammar : goal.judge-requires-clause-grammar
+judge-requires-clause-grammar c = subst (λ o. IfSome o IsInGrammar) c.in-Ok.ensures.ok (command_of-in_grammar c.args.line.now)
 
 pub returns-then-may_want_memory-clause-checks : goal.returns-then-may_want_memory-clause-checks
 returns-then-may_want_memory-clause-checks c =
     let stands = says-yes _ c.if-may_want_memory.true c.may_want_memory.ensures in
-    memory-passes c.args.airport.now (state_of c.args.held.now) c.horizon.ensures.rules c.requires.is_sound c.args.line.now c.args.block.now (λ h. stands.0 (rw c.in-Ok.ensures.ok at h)) stands.1
+    memory-passes c.args.airport.now (state_of c.args.held.now) c.horizon.ensures.rules c.requires.is_sound c.args.line.now c.args.block (λ h. stands.0 (rw c.in-Ok.ensures.ok at h)) stands.1
 
-pub returns-else-may_want_memory-clause-checks : goal.returns-else-may_want_memory-clause-checks
-returns-else-may_want_memory-clause-checks c =
-    rw c.answer_of.ensures
-    (judged-checks c.args.airport.now (state_of c.args.held.now) c.horizon.ensures.rules c.requires.is_sound c.args.line.now c.args.block.now c.in-Ok.command c.in-Ok.ensures.ok
-    (says-no _ c.if-may_want_memory.false c.may_want_memory.ensures) c.judge-judged.result (state_of c.judge-judged.new.held) c.judge-judged.ensures.judged)
+pub returns-in-Ok-clause-checks : goal.returns-in-Ok-clause-checks
+returns-in-Ok-clause-checks c =
+    judged-checks c.args.airport.now (state_of c.args.held.now) c.horizon.ensures.rules c.requires.is_sound c.args.line.now c.args.block c.in-Ok.command c.in-Ok.ensures.ok
+    (says-no _ c.if-may_want_memory.false c.may_want_memory.ensures) c.judge.result (state_of c.judge.new.held) c.judge.ensures.judged
 
 pub returns-in-Err-BadLine-clause-checks : goal.returns-in-Err-BadLine-clause-checks
 returns-in-Err-BadLine-clause-checks c =
-    bad-checks c.args.airport.now (state_of c.args.held.now) c.horizon.ensures.rules c.requires.is_sound c.args.line.now c.args.block.now
+    bad-checks c.args.airport.now (state_of c.args.held.now) c.horizon.ensures.rules c.requires.is_sound c.args.line.now c.args.block
     (c.read_command.ensures.bad_line.0 (c.in-Err-BadLine.is ∙ ap Err c.in-Err-BadLine.field-0-is)) c.check_bad_line.result c.check_bad_line.ensures

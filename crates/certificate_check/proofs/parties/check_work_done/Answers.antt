@@ -7,6 +7,7 @@ use Rattle.checked_state.specs.Flights.{state_of}
 use Rattle.checked_state.proofs.FlightLaws.{copied-flight}
 use Rattle.due_refusals.proofs.HeldLaws.{differ-without_party}
 use Rattle.certificate_check.specs.Desk.{CanGoOn}
+use Rattle.certificate_check.proofs.JudgedLaws.{form-ok}
 use Rattle.certificate_check.proofs.PartyLaws.{opened, party-on, opened-sound, opened-judged}
 use Rattle.certificate_check.proofs.parties.check_work_done.Goals as goal
 
@@ -22,7 +23,7 @@ pub returns-clause-judged : goal.returns-clause-judged
 returns-clause-judged c =
     let found = sym c.party.ensures ∙ copied-flight c.party.result c.in-Some.party c.in-Some.is in
     opened-judged c.args.airport.now (state_of c.args.held.now) c.requires.is_sound c.args.name.now c.in-Some.party.now found c.args.block.now (state_of c.open.new.self)
-    (says-yes _ c.if-not-is_cancelled.false c.is_cancelled.ensures) c.open.ensures.state
+    (says-yes _ (form-ok c.is_cancelled.result c.in_ok-pass_if.field-0 (sym c.pass_if-2.ensures ∙ c.in_ok-pass_if.was)) c.is_cancelled.ensures) c.open.ensures.state
 
 pub returns-clause-ready : goal.returns-clause-ready
 returns-clause-ready c =

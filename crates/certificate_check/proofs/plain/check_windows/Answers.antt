@@ -40,6 +40,6 @@ returns-clause-judged c =
     let segment = c.in-Some.segment in
     let named = sym c.segment_named.ensures ∙ c.in-Some.is in
     let are = c.of.ensures _ _ (own-known airport state c.spans.result.now has c.make.new.self c.make.ensures.known) in
-    rw c.broken_unless-2.ensures
+    rw c.pass_if-2.ensures
     (windows-judged airport state c.args.name.now segment c.args.block.now c.of.result.now named
-    (windows-known airport state segment c.of.result.now (segment_named-exists airport c.args.name.now segment named) are) c.are_windows-kept.result c.are_windows-kept.ensures)
+    (windows-known airport state segment c.of.result.now (segment_named-exists airport c.args.name.now segment named) are) c.are_windows.result c.are_windows.ensures)

@@ -22,14 +22,14 @@ pub returns-then-not-walk-clause-walk : goal.returns-then-not-walk-clause-walk
 returns-then-not-walk-clause-walk g c =
     let conditions = conditions_among c.args.airport.now c.args.class (g.H.HoldsOf.held c.args.holds.now) in (
       λ e. absurd (false≢true e),
-      λ is. absurd (says-no _ c.if-not-walk.true c.in_ok-walk.ensures.walk (walk-asked conditions c.args.asked.now.request (way_of c.args.asked.now.way) c.args.steps.now is.0).0),
+      λ is. absurd (says-no _ c.if-not-walk.true c.in_ok-walk.ensures.walk (walk-asked conditions c.args.sought.now.request (way_of c.args.sought.now.way) c.args.steps.now is.0).0),
     )
 
 pub returns-then-not-goes_as_asked-clause-walk : goal.returns-then-not-goes_as_asked-clause-walk
 returns-then-not-goes_as_asked-clause-walk g c =
     let conditions = conditions_among c.args.airport.now c.args.class (g.H.HoldsOf.held c.args.holds.now) in (
       λ e. absurd (false≢true e),
-      λ is. absurd (says-no _ c.if-not-goes_as_asked.true c.goes_as_asked.ensures (walk-asked conditions c.args.asked.now.request (way_of c.args.asked.now.way) c.args.steps.now is.0).1),
+      λ is. absurd (says-no _ c.if-not-goes_as_asked.true c.goes_as_asked.ensures (walk-asked conditions c.args.sought.now.request (way_of c.args.sought.now.way) c.args.steps.now is.0).1),
     )
 
 pub returns-clause-walk : goal.returns-clause-walk
@@ -37,6 +37,6 @@ returns-clause-walk g c =
     let conditions = conditions_among c.args.airport.now c.args.class (g.H.HoldsOf.held c.args.holds.now) in
     let walk = says-yes _ c.if-not-walk.false c.in_ok-walk.ensures.walk in
     let goes = says-yes _ c.if-not-goes_as_asked.false c.goes_as_asked.ensures in (
-      λ e. (asked-walk conditions c.args.asked.now.request (way_of c.args.asked.now.way) c.args.steps.now walk goes c.requires.sought, sym c.second_at.ensures ∙ eqb-true _ _ e),
+      λ e. (asked-walk conditions c.args.sought.now.request (way_of c.args.sought.now.way) c.args.steps.now walk goes c.requires.sought, sym c.second_at.ensures ∙ eqb-true _ _ e),
       λ is. eq-eqb _ _ (c.second_at.ensures ∙ is.1),
     )

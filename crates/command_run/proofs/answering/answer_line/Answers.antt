@@ -8,3 +8,4 @@ returns-clause-answered g c =
     let holds : is_skipped c.args.line.now ≡ false = sym c.skipped.ensures ∙ c.if-skipped.false in
     line-answered _ _ _ _ c.answer.ensures.answered.block _ _ holds c.answer.ensures.answered.answered
     (rw (c.reply.ensures ∙ c.answer.ensures.answered.is_text) at c.in_ok-write_all.ensures.ok)
+    (rw (c.reply.ensures ∙ c.answer.ensures.answered.is_text) at c.in_ok-write_all.ensures.handed)

@@ -2,14 +2,14 @@ use Rattle.std.proofs.Common.{◌≡◌, ◌∙◌, ◌-◌, Err, length, take, 
 use Rattle.std.proofs.lemmas.List.{length-take}
 use Rattle.std.proofs.lemmas.Result.{err_from_is_err_and}
 use Rattle.command_run.specs.Answered.{IsStopped}
-use Rattle.command_run.proofs.SoFar.{nothing-so_far, so_far-fed, so_far-answered, so_far-count, so_far-stays, so_far-same, ended-left, last-answered, none-kept, first-cut, first-prompt, last-cut, last-prompt}
+use Rattle.command_run.proofs.SoFar.{nothing-so_far, so_far-fed, so_far-answered, so_far-count, so_far-stays, so_far-ended, taken-none, ended-left, last-answered, none-kept, first-cut, first-prompt, last-cut, last-prompt}
 use Rattle.command_run.proofs.Stops.{write-stops, read-stops}
 use Rattle.command_run.proofs.answering.run_commands.Goals as goal
 use Rattle.command_run.proofs.answering.run_commands.Goals.{in-Some-last_line+in_ok-count-2, in_default-last_line}
 
 pub loop-line-init : goal.loop-line-init
 loop-line-init g c = record {
-  so_far = rw c.new-reader.ensures (nothing-so_far _ _ _ _ _ c.requires.fresh);
+  so_far = rw c.new-reader.ensures (nothing-so_far _ _ _ _ _ _ c.requires.fresh);
   airport = refl;
   begun = search rules;
   tried = refl;
@@ -21,7 +21,7 @@ loop-line-init g c = record {
 
 pub overflow_add-count : goal.overflow_add-count
 overflow_add-count g c =
-    let some = so_far-count _ _ _ _ _ _ _ _ _ _ c.loop-line.invariant.so_far in
+    let some = so_far-count _ _ _ _ _ _ _ _ _ _ _ c.loop-line.invariant.so_far in
     let few = c.in_ok-count.ensures.few in
     let countable = c.requires.countable in
     omega (arith, some, few, countable)
@@ -33,7 +33,7 @@ loop-line-preserved-in-Some g c =
     let before = inv.writes_later in
     record {
       so_far = rw c.drop_first.ensures
-          (so_far-answered _ _ _ _ _ _ _ _ _ _ inv.so_far c.in-Some.line.now (sym c.in-Some.ensures) _ _ _ (rw inv.airport at c.in_ok-count.ensures.answered));
+          (so_far-answered _ _ _ _ _ _ _ _ _ _ _ inv.so_far c.in-Some.line.now (sym c.in-Some.ensures) _ _ _ (rw inv.airport at c.in_ok-count.ensures.answered));
       airport = c.answer_line.ensures.airport ∙ inv.airport;
       begun = inv.begun;
       tried = inv.tried;
@@ -50,26 +50,26 @@ returns-in_err-count-clause-stopped g c =
     let first = sym c.in-Some.ensures in
     let cut = rw c.loop-line.invariant.airport at c.in_err-count.ensures.cut in
     rw stopped.1
-    (subst (IsStopped (g.R.Router.airport c.args.router.now) c.args.limit (g.S.Shelf.rest c.args.shelf.now, g.S.Shelf.rest c.loop-line.shelf) (g.K.Sink.written c.args.out.now, g.K.Sink.written c.answer_line.new.out)) (sym stopped.2)
-    (write-stops _ _ _ _ c.in_err-count.field-0.0
-    (first-cut _ _ _ _ _ _ _ _ _ _ so_far c.in-Some.line.now first _ cut)
-    (first-prompt _ _ _ _ _ _ _ _ _ _ so_far c.in-Some.line.now first _ cut)))
+    (subst (IsStopped (g.R.Router.airport c.args.router.now) c.args.limit (g.S.Shelf.rest c.args.shelf.now, g.S.Shelf.rest c.loop-line.shelf) (g.S.Shelf.given c.args.shelf.now, g.S.Shelf.given c.loop-line.shelf) (g.K.Sink.written c.args.out.now, g.K.Sink.written c.answer_line.new.out)) (sym stopped.2)
+    (write-stops _ _ _ _ _ c.in_err-count.field-0.0
+    (first-cut _ _ _ _ _ _ _ _ _ _ _ so_far c.in-Some.line.now first _ cut)
+    (first-prompt _ _ _ _ _ _ _ _ _ _ _ so_far c.in-Some.line.now first _ cut)))
 
 pub returns-in_err-taken-clause-stopped : goal.returns-in_err-taken-clause-stopped
 returns-in_err-taken-clause-stopped g c =
     let so_far = c.loop-line.invariant.so_far in
     let stopped = err_from_is_err_and c.from_residual-in_err-taken.result c.from_residual-in_err-taken.ensures.1 in
     rw stopped.1
-    (subst (IsStopped (g.R.Router.airport c.args.router.now) c.args.limit (g.S.Shelf.rest c.args.shelf.now, g.S.Shelf.rest c.read_piece.new.shelf) (g.K.Sink.written c.args.out.now, g.K.Sink.written c.loop-line.out)) (sym stopped.2)
-    (read-stops _ _ _ _ _ _ _ _ _ _ _ so_far (sym c.in_default.ensures) c.in_err-taken.field-0.0
+    (subst (IsStopped (g.R.Router.airport c.args.router.now) c.args.limit (g.S.Shelf.rest c.args.shelf.now, g.S.Shelf.rest c.read_piece.new.shelf) (g.S.Shelf.given c.args.shelf.now, g.S.Shelf.given c.read_piece.new.shelf) (g.K.Sink.written c.args.out.now, g.K.Sink.written c.loop-line.out)) (sym stopped.2)
+    (read-stops _ _ _ _ _ _ _ _ _ _ _ _ _ so_far (sym c.in_default.ensures) c.in_err-taken.field-0.0
     (λ e. c.in_err-taken.ensures.too_large (ap Err e)) (λ e. c.in_err-taken.ensures.kept (ap Err e))))
 
 pub returns-in_err-feed-clause-stopped : goal.returns-in_err-feed-clause-stopped
 returns-in_err-feed-clause-stopped g c =
     let stopped = err_from_is_err_and c.from_residual-in_err-feed.result c.from_residual-in_err-feed.ensures.1 in
     rw stopped.1
-    (subst (IsStopped (g.R.Router.airport c.args.router.now) c.args.limit (g.S.Shelf.rest c.args.shelf.now, g.S.Shelf.rest c.read_piece.new.shelf) (g.K.Sink.written c.args.out.now, g.K.Sink.written c.loop-line.out)) (sym stopped.2)
-    (so_far-stays _ _ _ _ _ _ _ _ _ _ c.loop-line.invariant.so_far _))
+    (subst (IsStopped (g.R.Router.airport c.args.router.now) c.args.limit (g.S.Shelf.rest c.args.shelf.now, g.S.Shelf.rest c.read_piece.new.shelf) (g.S.Shelf.given c.args.shelf.now, g.S.Shelf.given c.read_piece.new.shelf) (g.K.Sink.written c.args.out.now, g.K.Sink.written c.loop-line.out)) (sym stopped.2)
+    (so_far-stays _ _ _ _ _ _ _ _ _ _ _ c.loop-line.invariant.so_far _))
 
 pub loop-line-preserved : goal.loop-line-preserved
 loop-line-preserved g c =
@@ -80,7 +80,7 @@ loop-line-preserved g c =
     let before = inv.reads_later in
     record {
       so_far = rw c.in_ok-feed.ensures.ok
-          (so_far-fed _ _ _ _ _ _ _ _ _ _ inv.so_far _ (take c.in_ok-taken.taken c.read_piece.new.buffer) _ (sym c.in_default.ensures) c.in_ok-taken.ensures.bytes
+          (so_far-fed _ _ _ _ _ _ _ _ _ _ _ inv.so_far _ _ (take c.in_ok-taken.taken c.read_piece.new.buffer) _ (sym c.in_default.ensures) c.in_ok-taken.ensures.bytes c.in_ok-taken.ensures.given
           (omega (arith, bound, long)) (omega (arith, bound, long)) (let all : length (take c.in_ok-taken.taken c.read_piece.new.buffer) ≡ c.in_ok-taken.taken = omega (arith, bound, long) in ap (λ n. c.loop-line.left - n) (sym all)));
       airport = inv.airport;
       begun = search rules;
@@ -95,19 +95,21 @@ pub returns-in_err-count-2-clause-stopped : goal.returns-in_err-count-2-clause-s
 returns-in_err-count-2-clause-stopped g c =
     let stopped = err_from_is_err_and c.from_residual-in_err-count-2.result c.from_residual-in_err-count-2.ensures.1 in
     let ended = ended-left _ _ _ _ c.if-taken-eq0.true c.in_ok-taken.ensures.end c.in_ok-taken.ensures.bytes in
-    let so_far = so_far-same _ _ _ _ _ _ _ _ _ _ ended.0 c.loop-line.invariant.so_far in
     let none = sym c.in_default.ensures in
+    let nothing = taken-none c.in_ok-taken.taken c.read_piece.new.buffer c.if-taken-eq0.true in
+    let told = so_far-ended _ _ _ _ _ _ _ _ _ _ _ _ _ ended.0 c.in_ok-taken.ensures.given nothing none c.loop-line.invariant.so_far in
+    let so_far = told.0 in
     let last = sym c.in-Some-last_line.ensures in
     let cut = rw c.loop-line.invariant.airport at c.in_err-count-2.ensures.cut in
     rw stopped.1
-    (subst (IsStopped (g.R.Router.airport c.args.router.now) c.args.limit (g.S.Shelf.rest c.args.shelf.now, g.S.Shelf.rest c.read_piece.new.shelf) (g.K.Sink.written c.args.out.now, g.K.Sink.written c.answer_line-in-Some-last_line.new.out)) (sym stopped.2)
-    (write-stops _ _ _ _ c.in_err-count-2.field-0.0
-    (last-cut _ _ _ _ _ _ _ _ _ _ so_far none c.in-Some-last_line.line.now last ended.1 _ cut)
-    (last-prompt _ _ _ _ _ _ _ _ _ _ so_far none c.in-Some-last_line.line.now last _ cut)))
+    (subst (IsStopped (g.R.Router.airport c.args.router.now) c.args.limit (g.S.Shelf.rest c.args.shelf.now, g.S.Shelf.rest c.read_piece.new.shelf) (g.S.Shelf.given c.args.shelf.now, g.S.Shelf.given c.read_piece.new.shelf) (g.K.Sink.written c.args.out.now, g.K.Sink.written c.answer_line-in-Some-last_line.new.out)) (sym stopped.2)
+    (write-stops _ _ _ _ _ c.in_err-count-2.field-0.0
+    (last-cut _ _ _ _ _ _ _ _ _ _ _ so_far none c.in-Some-last_line.line.now last ended.1 _ cut)
+    (last-prompt _ _ _ _ _ _ _ _ _ _ _ so_far none c.in-Some-last_line.line.now last told.1 _ cut)))
 
 pub overflow_add-count-in-Some-last_line : goal.overflow_add-count-in-Some-last_line
 overflow_add-count-in-Some-last_line g c =
-    let some = so_far-count _ _ _ _ _ _ _ _ _ _ c.loop-line.invariant.so_far in
+    let some = so_far-count _ _ _ _ _ _ _ _ _ _ _ c.loop-line.invariant.so_far in
     let few = c.in_ok-count-2.ensures.few in
     let countable = c.requires.countable in
     omega (arith, some, few, countable)
@@ -115,12 +117,14 @@ overflow_add-count-in-Some-last_line g c =
 pub returns-clause-whole : goal.returns-clause-whole
 returns-clause-whole g c =
     let ended = ended-left _ _ _ _ c.if-taken-eq0.true c.in_ok-taken.ensures.end c.in_ok-taken.ensures.bytes in
-    let so_far = so_far-same _ _ _ _ _ _ _ _ _ _ ended.0 c.loop-line.invariant.so_far in
     let none = sym c.in_default.ensures in
+    let nothing = taken-none c.in_ok-taken.taken c.read_piece.new.buffer c.if-taken-eq0.true in
+    let told = so_far-ended _ _ _ _ _ _ _ _ _ _ _ _ _ ended.0 c.in_ok-taken.ensures.given nothing none c.loop-line.invariant.so_far in
+    let so_far = told.0 in
     elim c.match-last_line.branch [
       | in-Some-last_line+in_ok-count-2 w ↦
           let answered = rw c.loop-line.invariant.airport at w.in_ok-count-2.ensures.answered in
-          rw (w.out-is, w.count-is) (last-answered _ _ _ _ _ _ _ _ _ _ so_far none w.in-Some-last_line.line.now _ _ _ (sym w.in-Some-last_line.ensures) ended.1 answered)
+          rw (w.out-is, w.count-is) (last-answered _ _ _ _ _ _ _ _ _ _ _ so_far none w.in-Some-last_line.line.now _ _ _ (sym w.in-Some-last_line.ensures) ended.1 answered)
       | in_default-last_line w ↦
-          rw (w.out-is, w.count-is) (none-kept _ _ _ _ _ _ _ _ _ _ so_far none (sym w.in_default-last_line.ensures) ended.1)
+          rw (w.out-is, w.count-is) (none-kept _ _ _ _ _ _ _ _ _ _ _ so_far none (sym w.in_default-last_line.ensures) ended.1)
     ]

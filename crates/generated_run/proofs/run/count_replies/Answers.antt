@@ -1,5 +1,6 @@
-use Rattle.std.proofs.Common.{◌≡◌, ◌∙◌, sym, ap, true, false, arith}
+use Rattle.std.proofs.Common.{◌≡◌, ◌∙◌, sym, ap, subst, true, false, arith}
 use Rattle.taxi_text.specs.Lines.{lines_of, lines_left, is_skipped}
+use Rattle.certificate.specs.Passes.{IsPassed}
 use Rattle.generated_run.proofs.Counted.{nothing-counted, counted-skipped, counted-answered, counted-few, counted-routes, counted-no_routes, counted-whole}
 use Rattle.generated_run.proofs.run.count_replies.Goals as goal
 
@@ -32,86 +33,23 @@ count-requires-clause-no_routes g c = counted-no_routes _ _ _ _ _ c.loop-line.in
 pub count-requires-clause-seconds : goal.count-requires-clause-seconds
 count-requires-clause-seconds g c = c.loop-line.invariant.so_far.seconds
 
-pub loop-line-preserved-in_ok-block : goal.loop-line-preserved-in_ok-block
-loop-line-preserved-in_ok-block g c =
-    let so_far = c.loop-line.invariant.so_far in
-    let kept : is_skipped c.in-Some.line.now ≡ false = sym c.skipped.ensures ∙ c.if-not-skipped.true in
-    record {
-      can = tt;
-      finite = tt;
-      router = c.answer_checked.ensures.router;
-      checker = c.answer_checked.ensures.checker;
-      same = c.in_ok-block.ensures.same;
-      so_far = counted-answered _ _ _ _ _ _ _ _ _ _ so_far c.in-Some.ensures.steps kept c.in_ok-block.ensures.answered c.in_ok-block.ensures.memory
-          (c.count.ensures.counted c.args.airport.now so_far.blocks so_far.counted) c.count.ensures.seconds;
-    }
+pub check_answer-requires-clause-passes : goal.check_answer-requires-clause-passes
+check_answer-requires-clause-passes g c =
+    let after = g.R.Router.state c.read_answer.new.router in
+    (after, subst (λ s. IsPassed c.args.airport.now s c.in-Some.line.now c.in_ok-block.block after) (sym c.loop-line.invariant.same) c.in_ok-block.ensures.passed)
 
-pub loop-line-preserved-in_ok-block-2 : goal.loop-line-preserved-in_ok-block-2
-loop-line-preserved-in_ok-block-2 g c =
-    let so_far = c.loop-line.invariant.so_far in
+pub loop-line-preserved-in-Continue-branch-2 : goal.loop-line-preserved-in-Continue-branch-2
+loop-line-preserved-in-Continue-branch-2 g c =
+    let inv = c.loop-line.invariant in
+    let so_far = inv.so_far in
     let kept : is_skipped c.in-Some.line.now ≡ false = sym c.skipped.ensures ∙ c.if-not-skipped.true in
+    let after = g.R.Router.state c.read_answer.new.router in
     record {
       can = tt;
       finite = tt;
-      router = c.answer_checked.ensures.router;
-      checker = c.answer_checked.ensures.checker;
-      same = c.in_ok-block.ensures.same;
-      so_far = counted-answered _ _ _ _ _ _ _ _ _ _ so_far c.in-Some.ensures.steps kept c.in_ok-block.ensures.answered c.in_ok-block.ensures.memory
-          (c.count.ensures.counted c.args.airport.now so_far.blocks so_far.counted) c.count.ensures.seconds;
-    }
-
-pub loop-line-preserved-in_ok-block-3 : goal.loop-line-preserved-in_ok-block-3
-loop-line-preserved-in_ok-block-3 g c =
-    let so_far = c.loop-line.invariant.so_far in
-    let kept : is_skipped c.in-Some.line.now ≡ false = sym c.skipped.ensures ∙ c.if-not-skipped.true in
-    record {
-      can = tt;
-      finite = tt;
-      router = c.answer_checked.ensures.router;
-      checker = c.answer_checked.ensures.checker;
-      same = c.in_ok-block.ensures.same;
-      so_far = counted-answered _ _ _ _ _ _ _ _ _ _ so_far c.in-Some.ensures.steps kept c.in_ok-block.ensures.answered c.in_ok-block.ensures.memory
-          (c.count.ensures.counted c.args.airport.now so_far.blocks so_far.counted) c.count.ensures.seconds;
-    }
-
-pub loop-line-preserved-in_ok-block-4 : goal.loop-line-preserved-in_ok-block-4
-loop-line-preserved-in_ok-block-4 g c =
-    let so_far = c.loop-line.invariant.so_far in
-    let kept : is_skipped c.in-Some.line.now ≡ false = sym c.skipped.ensures ∙ c.if-not-skipped.true in
-    record {
-      can = tt;
-      finite = tt;
-      router = c.answer_checked.ensures.router;
-      checker = c.answer_checked.ensures.checker;
-      same = c.in_ok-block.ensures.same;
-      so_far = counted-answered _ _ _ _ _ _ _ _ _ _ so_far c.in-Some.ensures.steps kept c.in_ok-block.ensures.answered c.in_ok-block.ensures.memory
-          (c.count.ensures.counted c.args.airport.now so_far.blocks so_far.counted) c.count.ensures.seconds;
-    }
-
-pub loop-line-preserved-in_ok-block-5 : goal.loop-line-preserved-in_ok-block-5
-loop-line-preserved-in_ok-block-5 g c =
-    let so_far = c.loop-line.invariant.so_far in
-    let kept : is_skipped c.in-Some.line.now ≡ false = sym c.skipped.ensures ∙ c.if-not-skipped.true in
-    record {
-      can = tt;
-      finite = tt;
-      router = c.answer_checked.ensures.router;
-      checker = c.answer_checked.ensures.checker;
-      same = c.in_ok-block.ensures.same;
-      so_far = counted-answered _ _ _ _ _ _ _ _ _ _ so_far c.in-Some.ensures.steps kept c.in_ok-block.ensures.answered c.in_ok-block.ensures.memory
-          (c.count.ensures.counted c.args.airport.now so_far.blocks so_far.counted) c.count.ensures.seconds;
-    }
-
-pub loop-line-preserved-in_ok-block-6 : goal.loop-line-preserved-in_ok-block-6
-loop-line-preserved-in_ok-block-6 g c =
-    let so_far = c.loop-line.invariant.so_far in
-    let kept : is_skipped c.in-Some.line.now ≡ false = sym c.skipped.ensures ∙ c.if-not-skipped.true in
-    record {
-      can = tt;
-      finite = tt;
-      router = c.answer_checked.ensures.router;
-      checker = c.answer_checked.ensures.checker;
-      same = c.in_ok-block.ensures.same;
+      router = c.read_answer.ensures.router;
+      checker = c.check_answer.ensures.checker;
+      same = c.in_ok-check_answer.ensures.follows after (subst (λ s. IsPassed c.args.airport.now s c.in-Some.line.now c.in_ok-block.block after) (sym inv.same) c.in_ok-block.ensures.passed);
       so_far = counted-answered _ _ _ _ _ _ _ _ _ _ so_far c.in-Some.ensures.steps kept c.in_ok-block.ensures.answered c.in_ok-block.ensures.memory
           (c.count.ensures.counted c.args.airport.now so_far.blocks so_far.counted) c.count.ensures.seconds;
     }

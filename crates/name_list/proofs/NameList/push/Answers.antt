@@ -3,7 +3,7 @@ use Rattle.std.proofs.Common.{rules}
 use Rattle.name_list.proofs.PlaceLaws.{ArePlaced-push}
 use Rattle.name_list.proofs.NameList.push.Goals as goal
 
-pub invariant_of-self-else-is_err : goal.invariant_of-self-else-is_err
-invariant_of-self-else-is_err c =
+pub invariant_of-self-in_default : goal.invariant_of-self-in_default
+invariant_of-self-in_default c =
     rw (c.in_ok-push.ensures.items)
     (ArePlaced-push c.self.inside.places c.insert.new.self c.self.inside.names.items c.args.name c.self.invariant (rw c.self.view_is c.requires.room) (rw c.self.view_is c.requires.fresh) c.number_of-number.ensures.name (search rules))

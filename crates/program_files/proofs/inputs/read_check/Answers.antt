@@ -1,7 +1,7 @@
 use Rattle.std.proofs.Common.{Err, [], ◌∷◌, inr, ap, subst, sym}
 use Rattle.std.proofs.lemmas.Result.{err_from_is_err_and}
 use Rattle.taxi_io.specs.Files.{IsLonger}
-use Rattle.program_words.specs.Asked.{FileNames, Check}
+use Rattle.program_words.specs.Verb.{FileNames, Check}
 use Rattle.program_files.specs.Inputs.{transcript_limit}
 use Rattle.program_files.specs.Stops.{IsCause}
 use Rattle.program_files.proofs.InputLaws.{transcript_cause, began-more}

@@ -6,7 +6,7 @@ use Rattle.taxi_base.specs.declared.numbers.Node.{Node}
 use Rattle.taxi_base.specs.declared.answers.Found.{Found}
 use Rattle.taxi_base.specs.declared.answers.Found.TheVariants.{Route, NoRoute}
 use Rattle.taxi_base.specs.Airport.{layout_of}
-use Rattle.taxi_base.specs.Walks.{Conditions, conditions_in_windows, IsRoute, end_of}
+use Rattle.taxi_base.specs.Walks.{Conditions, conditions_of_class, IsRoute, end_of}
 use Rattle.taxi_base.specs.Labels.{AnswersArrival}
 use Rattle.taxi_base.specs.Choices.{ReachesOneOf, AnswersArrivalToOneOf}
 use Rattle.walk_labels.specs.Requests.{BeginsBy}
@@ -23,8 +23,8 @@ use Rattle.stand_choice.proofs.arriving.+first_by_name.Goals as goal
 
 pub returns-then-is_empty-clause-first : goal.returns-then-is_empty-clause-first
 returns-then-is_empty-clause-first t c =
-    let k : Conditions = conditions_in_windows c.args.airport.now c.args.asked.class c.args.asked.clearance (windows_of c.args.store.now) in
-    let Begins = BeginsBy (layout_of c.args.airport.now) (beginning_of c.args.asked.start 0) in
+    let k : Conditions = conditions_of_class c.args.airport.now c.args.class (windows_of c.args.store.now) in
+    let Begins = BeginsBy (layout_of c.args.airport.now) (beginning_of c.args.start 0) in
     let before : List Node = c.in_ok-before.before.items in
     let long = eqb-true _ 0 (sym c.is_empty.ensures ∙ c.if-is_empty.true) in
     let none : before ≡ [] = empty before (omega (arith, long, c.in_ok-before.before.ok)) in
@@ -33,8 +33,8 @@ returns-then-is_empty-clause-first t c =
 
 pub returns-in_default-clause-first : goal.returns-in_default-clause-first
 returns-in_default-clause-first t c =
-    let k : Conditions = conditions_in_windows c.args.airport.now c.args.asked.class c.args.asked.clearance (windows_of c.args.store.now) in
-    let Begins = BeginsBy (layout_of c.args.airport.now) (beginning_of c.args.asked.start 0) in
+    let k : Conditions = conditions_of_class c.args.airport.now c.args.class (windows_of c.args.store.now) in
+    let Begins = BeginsBy (layout_of c.args.airport.now) (beginning_of c.args.start 0) in
     let before : List Node = c.in_ok-before.before.items in
     let any : AnswersArrivalToOneOf k Begins before (NoRoute c.in_default.field-0) =
     found-read k Begins c.deref.result.now before c.in_ok-found.found (NoRoute c.in_default.field-0) c.deref.ensures.value c.in_default.is (c.in_ok-found.ensures.any 0) in
@@ -42,8 +42,8 @@ returns-in_default-clause-first t c =
 
 pub end_of-requires-2 : goal.end_of-requires-2
 end_of-requires-2 t c =
-    let k : Conditions = conditions_in_windows c.args.airport.now c.args.asked.class c.args.asked.clearance (windows_of c.args.store.now) in
-    let Begins = BeginsBy (layout_of c.args.airport.now) (beginning_of c.args.asked.start 0) in
+    let k : Conditions = conditions_of_class c.args.airport.now c.args.class (windows_of c.args.store.now) in
+    let Begins = BeginsBy (layout_of c.args.airport.now) (beginning_of c.args.start 0) in
     let before : List Node = c.in_ok-before.before.items in
     let any : AnswersArrivalToOneOf k Begins before (Route c.in-Route.steps c.in-Route.labels) =
     found-read k Begins c.deref.result.now before c.in_ok-found.found (Route c.in-Route.steps c.in-Route.labels) c.deref.ensures.value c.in-Route.is (c.in_ok-found.ensures.any 0) in
@@ -51,8 +51,8 @@ end_of-requires-2 t c =
 
 pub returns-then-end_of-clause-first : goal.returns-then-end_of-clause-first
 returns-then-end_of-clause-first t c =
-    let k : Conditions = conditions_in_windows c.args.airport.now c.args.asked.class c.args.asked.clearance (windows_of c.args.store.now) in
-    let Begins = BeginsBy (layout_of c.args.airport.now) (beginning_of c.args.asked.start 0) in
+    let k : Conditions = conditions_of_class c.args.airport.now c.args.class (windows_of c.args.store.now) in
+    let Begins = BeginsBy (layout_of c.args.airport.now) (beginning_of c.args.start 0) in
     let before : List Node = c.in_ok-before.before.items in
     let any : AnswersArrivalToOneOf k Begins before (Route c.in-Route.steps c.in-Route.labels) =
     found-read k Begins c.deref.result.now before c.in_ok-found.found (Route c.in-Route.steps c.in-Route.labels) c.deref.ensures.value c.in-Route.is (c.in_ok-found.ensures.any 0) in
@@ -62,8 +62,8 @@ returns-then-end_of-clause-first t c =
 
 pub way_of-other-requires : goal.way_of-other-requires
 way_of-other-requires t c =
-    let k : Conditions = conditions_in_windows c.args.airport.now c.args.asked.class c.args.asked.clearance (windows_of c.args.store.now) in
-    let Begins = BeginsBy (layout_of c.args.airport.now) (beginning_of c.args.asked.start 0) in
+    let k : Conditions = conditions_of_class c.args.airport.now c.args.class (windows_of c.args.store.now) in
+    let Begins = BeginsBy (layout_of c.args.airport.now) (beginning_of c.args.start 0) in
     let before : List Node = c.in_ok-before.before.items in
     let any : AnswersArrivalToOneOf k Begins before (Route c.in-Route.steps c.in-Route.labels) =
     found-read k Begins c.deref.result.now before c.in_ok-found.found (Route c.in-Route.steps c.in-Route.labels) c.deref.ensures.value c.in-Route.is (c.in_ok-found.ensures.any 0) in
@@ -71,8 +71,8 @@ way_of-other-requires t c =
 
 pub first_by_name-requires : goal.first_by_name-requires
 first_by_name-requires t c =
-    let k : Conditions = conditions_in_windows c.args.airport.now c.args.asked.class c.args.asked.clearance (windows_of c.args.store.now) in
-    let Begins = BeginsBy (layout_of c.args.airport.now) (beginning_of c.args.asked.start 0) in
+    let k : Conditions = conditions_of_class c.args.airport.now c.args.class (windows_of c.args.store.now) in
+    let Begins = BeginsBy (layout_of c.args.airport.now) (beginning_of c.args.start 0) in
     let before : List Node = c.in_ok-before.before.items in
     let any : AnswersArrivalToOneOf k Begins before (Route c.in-Route.steps c.in-Route.labels) =
     found-read k Begins c.deref.result.now before c.in_ok-found.found (Route c.in-Route.steps c.in-Route.labels) c.deref.ensures.value c.in-Route.is (c.in_ok-found.ensures.any 0) in
@@ -107,8 +107,8 @@ first_by_name-requires t c =
 
 pub returns-clause-first : goal.returns-clause-first
 returns-clause-first t c =
-    let k : Conditions = conditions_in_windows c.args.airport.now c.args.asked.class c.args.asked.clearance (windows_of c.args.store.now) in
-    let Begins = BeginsBy (layout_of c.args.airport.now) (beginning_of c.args.asked.start 0) in
+    let k : Conditions = conditions_of_class c.args.airport.now c.args.class (windows_of c.args.store.now) in
+    let Begins = BeginsBy (layout_of c.args.airport.now) (beginning_of c.args.start 0) in
     let before : List Node = c.in_ok-before.before.items in
     let any : AnswersArrivalToOneOf k Begins before (Route c.in-Route.steps c.in-Route.labels) =
     found-read k Begins c.deref.result.now before c.in_ok-found.found (Route c.in-Route.steps c.in-Route.labels) c.deref.ensures.value c.in-Route.is (c.in_ok-found.ensures.any 0) in
@@ -125,8 +125,8 @@ returns-clause-first t c =
 
 pub returns-clause-as_early : goal.returns-clause-as_early
 returns-clause-as_early t c =
-    let k : Conditions = conditions_in_windows c.args.airport.now c.args.asked.class c.args.asked.clearance (windows_of c.args.store.now) in
-    let Begins = BeginsBy (layout_of c.args.airport.now) (beginning_of c.args.asked.start 0) in
+    let k : Conditions = conditions_of_class c.args.airport.now c.args.class (windows_of c.args.store.now) in
+    let Begins = BeginsBy (layout_of c.args.airport.now) (beginning_of c.args.start 0) in
     let before : List Node = c.in_ok-before.before.items in
     let any : AnswersArrivalToOneOf k Begins before (Route c.in-Route.steps c.in-Route.labels) =
     found-read k Begins c.deref.result.now before c.in_ok-found.found (Route c.in-Route.steps c.in-Route.labels) c.deref.ensures.value c.in-Route.is (c.in_ok-found.ensures.any 0) in

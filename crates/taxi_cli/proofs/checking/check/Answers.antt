@@ -1,6 +1,6 @@
 use Rattle.std.proofs.Common.{◌∙◌}
 use Rattle.taxi_text.specs.Lines.{commands_of}
-use Rattle.program_words.specs.Asked.{FileNames, Check}
+use Rattle.program_words.specs.Verb.{FileNames, Check}
 use Rattle.taxi_cli.specs.Endings.{Call}
 use Rattle.transcript_check.specs.Verdicts.{IsVerdict}
 use Rattle.taxi_cli.proofs.EndingLaws.{stop-ends, right-ends, wrong-ends}
@@ -13,6 +13,7 @@ returns-in-Right-clause-ends g c =
       reads = (g.S.Shelf.faults c.args.shelf.now, g.S.Shelf.faults c.read_check.new.shelf);
       writes = (g.K.Sink.faults c.args.out.now, g.K.Sink.faults c.write_last.new.out);
       taken = (g.K.Sink.written c.args.out.now, g.K.Sink.written c.write_last.new.out);
+      given = g.S.Shelf.given c.read_check.new.shelf;
     } in
     let names : FileNames = record { airport = c.args.airport.now; commands = c.args.commands.now } in
     let read = c.in-Ok.read in
@@ -28,6 +29,7 @@ returns-in-Ok-clause-ends g c =
       reads = (g.S.Shelf.faults c.args.shelf.now, g.S.Shelf.faults c.read_check.new.shelf);
       writes = (g.K.Sink.faults c.args.out.now, g.K.Sink.faults c.write_last-in-Wrong.new.out);
       taken = (g.K.Sink.written c.args.out.now, g.K.Sink.written c.write_last-in-Wrong.new.out);
+      given = g.S.Shelf.given c.read_check.new.shelf;
     } in
     let names : FileNames = record { airport = c.args.airport.now; commands = c.args.commands.now } in
     let read = c.in-Ok.read in
@@ -43,6 +45,7 @@ returns-clause-ends g c =
       reads = (g.S.Shelf.faults c.args.shelf.now, g.S.Shelf.faults c.read_check.new.shelf);
       writes = (g.K.Sink.faults c.args.out.now, g.K.Sink.faults c.write_stop.new.out);
       taken = (g.K.Sink.written c.args.out.now, g.K.Sink.written c.write_stop.new.out);
+      given = g.S.Shelf.given c.read_check.new.shelf;
     } in
     let names : FileNames = record { airport = c.args.airport.now; commands = c.args.commands.now } in
     stop-ends call (Check names c.args.transcript.now) c.in-Err.stop c.write_stop.result tt c.in-Err.ensures.stop c.write_stop.ensures.ends

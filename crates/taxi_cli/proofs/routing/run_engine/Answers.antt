@@ -12,17 +12,17 @@ pub returns-in_err-engine-clause-stopped : goal.returns-in_err-engine-clause-sto
 returns-in_err-engine-clause-stopped g c =
     let stopped = err_from_is_err_and c.from_residual.result c.from_residual.ensures.1 in
     rw stopped.1
-    (subst (IsStopped c.args.airport commands_limit (g.S.Shelf.rest c.args.shelf.now, g.S.Shelf.rest c.args.shelf.now) (g.K.Sink.written c.args.out.now, g.K.Sink.written c.args.out.now)) (sym stopped.2)
-    (so_far-stays _ _ _ _ _ _ _ _ _ _ (nothing-so_far c.args.airport commands_limit (g.S.Shelf.rest c.args.shelf.now) (g.K.Sink.written c.args.out.now) no_holder refl) _))
+    (subst (IsStopped c.args.airport commands_limit (g.S.Shelf.rest c.args.shelf.now, g.S.Shelf.rest c.args.shelf.now) (g.S.Shelf.given c.args.shelf.now, g.S.Shelf.given c.args.shelf.now) (g.K.Sink.written c.args.out.now, g.K.Sink.written c.args.out.now)) (sym stopped.2)
+    (so_far-stays _ _ _ _ _ _ _ _ _ _ _ (nothing-so_far c.args.airport commands_limit (g.S.Shelf.rest c.args.shelf.now) (g.S.Shelf.given c.args.shelf.now) (g.K.Sink.written c.args.out.now) no_holder refl) _))
 
 pub returns-clause-whole : goal.returns-clause-whole
 returns-clause-whole g c =
     let same = ap (λ (e : EngineState). e.airport) c.in_ok-engine.ensures in
-    subst (λ (a : Airport). IfOk c.run_commands-answered.result (IsWholeRun a commands_limit (g.S.Shelf.rest c.args.shelf.now, g.S.Shelf.rest c.run_commands-answered.new.shelf) (g.K.Sink.written c.args.out.now, g.K.Sink.written c.run_commands-answered.new.out)))
-    same c.run_commands-answered.ensures.whole
+    subst (λ (a : Airport). IfOk c.run_commands.result (IsWholeRun a commands_limit (g.S.Shelf.rest c.args.shelf.now, g.S.Shelf.rest c.run_commands.new.shelf) (g.K.Sink.written c.args.out.now, g.K.Sink.written c.run_commands.new.out)))
+    same c.run_commands.ensures.whole
 
 pub returns-clause-stopped : goal.returns-clause-stopped
 returns-clause-stopped g c =
     let same = ap (λ (e : EngineState). e.airport) c.in_ok-engine.ensures in
-    subst (λ (a : Airport). IfErr c.run_commands-answered.result (IsStopped a commands_limit (g.S.Shelf.rest c.args.shelf.now, g.S.Shelf.rest c.run_commands-answered.new.shelf) (g.K.Sink.written c.args.out.now, g.K.Sink.written c.run_commands-answered.new.out)))
-    same c.run_commands-answered.ensures.stopped
+    subst (λ (a : Airport). IfErr c.run_commands.result (IsStopped a commands_limit (g.S.Shelf.rest c.args.shelf.now, g.S.Shelf.rest c.run_commands.new.shelf) (g.S.Shelf.given c.args.shelf.now, g.S.Shelf.given c.run_commands.new.shelf) (g.K.Sink.written c.args.out.now, g.K.Sink.written c.run_commands.new.out)))
+    same c.run_commands.ensures.stopped

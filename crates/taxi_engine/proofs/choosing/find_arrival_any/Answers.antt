@@ -17,6 +17,7 @@ choose_arrival-requires-clause-nodes c = subst (λ (nodes : List Node). All (λ 
 
 pub returns : goal.returns
 returns c =
-    let same = conditions-found c.args.airport.now c.args.ledger.now c.requires.fits c.requires.unlifted c.args.asked.now.class c.clearance-clearance.result c.store-store.result.now c.clearance-clearance.ensures.clearance c.store-store.ensures in
-    subst (λ (nodes : List Node). IfOk c.choose_arrival.result (AnswersChoice (conditions_in c.args.airport.now c.args.asked.now.class c.args.ledger.now.state) (arrival_any c.args.asked.now.from nodes c.args.time c.args.hold))) c.as_slice-nodes.ensures
-    (subst (λ k. IfOk c.choose_arrival.result (AnswersChoice k (arrival_any c.args.asked.now.from c.as_slice-nodes.result.now c.args.time c.args.hold))) same c.choose_arrival.ensures)
+    let trip = c.args.trip.now in
+    let same = conditions-found c.args.airport.now c.args.ledger.now c.requires.fits c.requires.unlifted trip.class c.store-store.result.now c.store-store.ensures in
+    subst (λ (nodes : List Node). IfOk c.choose_arrival.result (AnswersChoice (conditions_in c.args.airport.now trip.class c.args.ledger.now.state) (arrival_any trip.from nodes trip.time trip.slack))) c.as_slice-nodes.ensures
+    (subst (λ k. IfOk c.choose_arrival.result (AnswersChoice k (arrival_any trip.from c.as_slice-nodes.result.now trip.time trip.slack))) same c.choose_arrival.ensures)

@@ -17,8 +17,9 @@ choose_departure-requires-clause-nodes c = subst (λ (nodes : List Node). All (�
 
 pub returns : goal.returns
 returns c =
-    let same = conditions-found c.args.airport.now c.args.ledger.now c.requires.fits c.requires.unlifted c.args.asked.now.class c.clearance-clearance.result c.store-store.result.now c.clearance-clearance.ensures.clearance c.store-store.ensures in
-    let k = conditions_in c.args.airport.now c.args.asked.now.class c.args.ledger.now.state in
-    subst (λ (earliest : ℕ). IfOk c.choose_departure.result (AnswersDepartureChoice k c.args.asked.now.from c.args.asked.now.nodes earliest c.args.time)) c.saturating_sub-earliest.ensures
-    (subst (λ (nodes : List Node). IfOk c.choose_departure.result (AnswersDepartureChoice k c.args.asked.now.from nodes c.saturating_sub-earliest.result c.args.time)) c.as_slice-nodes.ensures
-    (subst (λ k. IfOk c.choose_departure.result (AnswersDepartureChoice k c.args.asked.now.from c.as_slice-nodes.result.now c.saturating_sub-earliest.result c.args.time)) same c.choose_departure.ensures))
+    let trip = c.args.trip.now in
+    let same = conditions-found c.args.airport.now c.args.ledger.now c.requires.fits c.requires.unlifted trip.class c.store-store.result.now c.store-store.ensures in
+    let k = conditions_in c.args.airport.now trip.class c.args.ledger.now.state in
+    subst (λ (earliest : ℕ). IfOk c.choose_departure.result (AnswersDepartureChoice k trip.from trip.nodes earliest trip.time)) c.saturating_sub-earliest_out.ensures
+    (subst (λ (nodes : List Node). IfOk c.choose_departure.result (AnswersDepartureChoice k trip.from nodes c.saturating_sub-earliest_out.result trip.time)) c.as_slice-nodes.ensures
+    (subst (λ k. IfOk c.choose_departure.result (AnswersDepartureChoice k trip.from c.as_slice-nodes.result.now c.saturating_sub-earliest_out.result trip.time)) same c.choose_departure.ensures))

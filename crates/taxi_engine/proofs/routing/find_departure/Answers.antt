@@ -16,9 +16,8 @@ depart-requires-clause-horizon c =
 pub returns : goal.returns
 returns c =
     let airport = c.args.airport.now in
-    let class = c.args.asked.now.class in
-    let same = conditions-found airport c.args.ledger.now c.requires.fits c.requires.unlifted class c.clearance-clearance.result c.store-store.result.now
-    c.clearance-clearance.ensures.clearance c.store-store.ensures in
-    subst (λ (earliest : ℕ). IfOk c.depart.result (AnswersDeparture (conditions_in airport class c.args.ledger.now.state) c.args.asked.now.from (ReachesNodeWithin (layout_of airport) c.args.asked.now.to earliest c.args.time)))
-    c.saturating_sub-earliest.ensures
-    (subst (λ k. IfOk c.depart.result (AnswersDeparture k c.args.asked.now.from (ReachesNodeWithin (layout_of airport) c.args.asked.now.to c.saturating_sub-earliest.result c.args.time))) same c.depart.ensures)
+    let trip = c.args.trip.now in
+    let same = conditions-found airport c.args.ledger.now c.requires.fits c.requires.unlifted trip.class c.store-store.result.now c.store-store.ensures in
+    subst (λ (earliest : ℕ). IfOk c.depart.result (AnswersDeparture (conditions_in airport trip.class c.args.ledger.now.state) trip.from (ReachesNodeWithin (layout_of airport) trip.to earliest trip.time)))
+    c.saturating_sub-earliest_out.ensures
+    (subst (λ k. IfOk c.depart.result (AnswersDeparture k trip.from (ReachesNodeWithin (layout_of airport) trip.to c.saturating_sub-earliest_out.result trip.time))) same c.depart.ensures)

@@ -2,21 +2,13 @@ use Rattle.std.proofs.Common.{◌<◌, ◌^◌, length, List, sym, subst}
 use Rattle.std.specs.Prelude.{All}
 use Rattle.taxi_base.specs.declared.rows.Step.{Step}
 use Rattle.certificate.specs.Printable.{HasArc}
-use Rattle.taxi_engine.proofs.RouteLaws.{walk-arcs, walk-steps, steps-few}
+use Rattle.taxi_engine.proofs.RouteLaws.{walk-arcs, steps-few}
 use Rattle.taxi_engine.proofs.routing.prepare_route.Goals as goal
 
 pub prepare-requires-clause-arcs : goal.prepare-requires-clause-arcs
 prepare-requires-clause-arcs c =
-    subst (λ (steps : List Step). All (λ s. HasArc c.args.airport.now s.arc) steps) (sym c.as_slice-steps.ensures) (walk-arcs c.args.airport.now c.args.flight.now.steps c.requires.walk)
+    subst (λ (steps : List Step). All (λ s. HasArc c.args.airport.now s.arc) steps) (sym c.as_slice.ensures) (walk-arcs c.args.airport.now c.args.flight.now.steps c.requires.walk)
 
 pub prepare-requires-clause-few : goal.prepare-requires-clause-few
 prepare-requires-clause-few c =
-    subst (λ (steps : List Step). length steps < 2 ^ 32) (sym c.as_slice-steps.ensures) (steps-few c.args.airport.now c.args.flight.now.steps c.requires.walk c.horizon.ensures.rules)
-
-pub second_of-second-requires : goal.second_of-second-requires
-second_of-second-requires c =
-    subst (λ (steps : List Step). 0 < length steps) (sym c.as_slice-steps.ensures) (walk-steps c.args.airport.now c.args.flight.now.steps c.requires.walk)
-
-pub print_route-requires-clause-steps : goal.print_route-requires-clause-steps
-print_route-requires-clause-steps c =
-    subst (λ (steps : List Step). All (λ s. HasArc c.args.airport.now s.arc) steps) (sym c.as_slice-steps.ensures) (walk-arcs c.args.airport.now c.args.flight.now.steps c.requires.walk)
+    subst (λ (steps : List Step). length steps < 2 ^ 32) (sym c.as_slice.ensures) (steps-few c.args.airport.now c.args.flight.now.steps c.requires.walk c.horizon.ensures.rules)

@@ -36,13 +36,13 @@ overflow_add-result-2 g c =
 pub loop-line-preserved-then-not-skipped : goal.loop-line-preserved-then-not-skipped
 loop-line-preserved-then-not-skipped g c =
     let kept : is_skipped c.in-Some.line.now ≡ false = sym c.skipped.ensures ∙ c.if-not-skipped.true in
-    let passed = rw c.in-Passed.is at c.in_ok-length.ensures.verdict in
+    let passed = rw c.in-Ok.is at c.in_ok-length.ensures.verdict in
     record {
       can = tt;
       finite = tt;
       airport = c.check_block.ensures.airport;
-      so_far = checked-passed _ _ _ _ _ _ _ _ _ _ c.in-Passed.length _ passed.0 c.loop-line.invariant.so_far c.in-Some.ensures.steps kept
-          passed.1 passed.2 (rest-from c.in-Passed.length c.loop-line.rest.now) passed.3;
+      so_far = checked-passed _ _ _ _ _ _ _ _ _ _ c.in-Ok.length _ passed.0 c.loop-line.invariant.so_far c.in-Some.ensures.steps kept
+          passed.1 passed.2 (rest-from c.in-Ok.length c.loop-line.rest.now) passed.3;
     }
 
 pub loop-line-preserved : goal.loop-line-preserved
@@ -55,10 +55,10 @@ loop-line-preserved g c =
       so_far = checked-skipped _ _ _ _ _ _ _ _ _ c.loop-line.invariant.so_far c.in-Some.ensures.steps skipped;
     }
 
-pub returns-in-Failed : goal.returns-in-Failed
-returns-in-Failed g c =
+pub returns-in-Err : goal.returns-in-Err
+returns-in-Err g c =
     let kept : is_skipped c.in-Some.line.now ≡ false = sym c.skipped.ensures ∙ c.if-not-skipped.true in
-    checked-failed _ _ _ _ _ _ _ _ _ _ c.loop-line.invariant.so_far c.in-Some.ensures.steps kept (rw c.in-Failed.is at c.in_ok-length.ensures.verdict)
+    checked-failed _ _ _ _ _ _ _ _ _ _ c.loop-line.invariant.so_far c.in-Some.ensures.steps kept (rw c.in-Err.is at c.in_ok-length.ensures.verdict)
 
 pub returns-then-eq : goal.returns-then-eq
 returns-then-eq g c =

@@ -1,4 +1,4 @@
-use Rattle.std.proofs.Common.{◌∙◌, sym, ap, refl, Some, ◌≡◌, false}
+use Rattle.std.proofs.Common.{◌∙◌, sym, ap, refl, Some, ◌≡◌, false, rules}
 use Rattle.std.specs.Result.{is_err}
 use Rattle.csv.proofs.ReadFacts.{on-ok}
 use Rattle.airport_text.proofs.RecordLaws.{record-added}
@@ -7,5 +7,5 @@ use Rattle.airport_text.proofs.records.RecordWriter.write_row.Goals as goal
 pub returns : goal.returns
 returns c =
     let good : is_err c.write_byte_record.result ≡ false = sym c.is_err.ensures.value ∙ c.if-is_err.false in
-    record-added (λ v. Some v.items) c.self.inside.writer c.write_byte_record.new.self _ _ _ (c.self.invariant c.if-self.false) (ap Some c.self.view_is) refl
+    record-added (λ v. Some v.items) c.self.inside.writer c.write_byte_record.new.self _ _ _ (c.self.invariant (search rules)) (ap Some c.self.view_is) refl
     (on-ok _ good c.write_byte_record.ensures.bytes)

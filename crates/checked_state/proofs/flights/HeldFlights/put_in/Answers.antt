@@ -4,7 +4,7 @@ use Rattle.std.specs.List.{remove}
 use Rattle.taxi_base.specs.declared.answers.Flight.{Flight}
 use Rattle.taxi_base.specs.State.{State}
 use Rattle.held_spans.specs.Spans.{NamedHold, AreHeldBy}
-use Rattle.held_spans.proofs.LoopLaws.{done-ok, done-err}
+use Rattle.held_spans.proofs.LoopLaws.{done-ok}
 use Rattle.checked_state.specs.Flights.{flights_of, parties_of, state_of, named_in, flight_held}
 use Rattle.checked_state.proofs.MapLaws.{insert-here, length-insert, remove-insert}
 use Rattle.checked_state.proofs.PlaceLaws.{place-at, place-gone, with-at}
@@ -32,22 +32,22 @@ hold-held-requires c =
     record { on = rw (c.as_slice-steps.ensures, here) (steps-listed c.args.airport.now _ c.args.flight.steps c.requires.spans.lists c.requires.arcs) }
 
 -- where the spans find no memory the flight is taken out again
-pub returns-then-is_err-clause-err : goal.returns-then-is_err-clause-err
-returns-then-is_err-clause-err c =
+pub returns-in-Err-clause-err : goal.returns-in-Err-clause-err
+returns-in-Err-clause-err c =
     let old = flights_of c.args.self.now.flights in
     let place = c.unwrap_err-place.result in
     let gap = place-at (λ (f : Flight). f.name) old c.args.flight.name c.place_of.result (Err place) c.place_of.ensures c.unwrap_err-place.ensures in
     let back = c.remove.ensures.items ∙ ap (λ (all : List Flight). remove all place) c.in_ok-insert.ensures.ok ∙ remove-insert old place c.args.flight gap.gap in
     λ i. record { flights = back i; parties = parties_of c.args.self.now.parties }
 
-pub returns-then-is_err-clause-spans : goal.returns-then-is_err-clause-spans
-returns-then-is_err-clause-spans c =
+pub returns-in-Err-clause-spans : goal.returns-in-Err-clause-spans
+returns-in-Err-clause-spans c =
     let old = flights_of c.args.self.now.flights in
     let place = c.unwrap_err-place.result in
     let gap = place-at (λ (f : Flight). f.name) old c.args.flight.name c.place_of.result (Err place) c.place_of.ensures c.unwrap_err-place.ensures in
     let back = c.remove.ensures.items ∙ ap (λ (all : List Flight). remove all place) c.in_ok-insert.ensures.ok ∙ remove-insert old place c.args.flight gap.gap in
     let before : State = state_of c.args.self.now in
-    let kept = done-err c.hold-held.result _ c.hold-held.ensures.err (sym c.is_err.ensures.value ∙ c.if-is_err.true) (named_in c.args.airport.now before) c.requires.spans.holders in
+    let kept = c.in-Err.ensures.err (named_in c.args.airport.now before) c.requires.spans.holders in
     record {
       lists = c.hold-held.ensures.count ∙ c.requires.spans.lists;
       holders = subst (λ (flights : List Flight). AreHeldBy (named_in c.args.airport.now (record before { flights = flights })) c.hold-held.new.self) (sym back) kept;
@@ -71,7 +71,7 @@ returns-clause-spans c =
     let with = c.in_ok-insert.ensures.ok ∙ with-at (λ (f : Flight). f.name) c.args.flight old at place in
     let its = its-parts airport flight flight.name c.horizon.result c.clearance-clearance.result c.as_slice-steps.result.now refl c.horizon.ensures.horizon c.clearance-clearance.ensures.clearance c.as_slice-steps.ensures in
     let before : State = state_of c.args.self.now in
-    let held = done-ok c.hold-held.result _ c.hold-held.ensures.ok (sym c.is_err.ensures.value ∙ c.if-is_err.false) (named_in airport before) c.requires.spans.holders in
+    let held = done-ok c.hold-held.result _ c.hold-held.ensures.ok c.in_default.not-Err (named_in airport before) c.requires.spans.holders in
     record {
       lists = c.hold-held.ensures.count ∙ c.requires.spans.lists;
       holders = subst (λ (flights : List Flight). AreHeldBy (named_in airport (record before { flights = flights })) c.hold-held.new.self) (sym with)

@@ -3,7 +3,7 @@ use Rattle.std.specs.Prelude.{Ok}
 use Rattle.taxi_base.specs.declared.answers.Flight.{Flight}
 use Rattle.taxi_base.specs.State.{State, with_route, flight_named, without}
 use Rattle.held_spans.specs.Spans.{NamedHold, AreHeldBy}
-use Rattle.held_spans.proofs.LoopLaws.{done-ok, done-err}
+use Rattle.held_spans.proofs.LoopLaws.{done-ok}
 use Rattle.checked_state.specs.Flights.{flights_of, state_of, named_in}
 use Rattle.checked_state.proofs.PlaceLaws.{place-at, place-there, if-some}
 use Rattle.checked_state.proofs.FlightLaws.{its-parts, routed, route-state, route-spans, steps-listed}
@@ -34,7 +34,7 @@ returns-clause-spans c =
     let airport = c.args.airport.now in
     let its = its-parts airport (routed flight c.args.request c.args.steps) flight.name c.horizon.result c.clearance-clearance.result c.as_slice.result.now refl c.horizon.ensures.horizon
     c.clearance-clearance.ensures.clearance c.as_slice.ensures in
-    let held = done-ok c.hold-held.result _ c.hold-held.ensures.ok (sym c.is_err.ensures.value ∙ c.if-is_err.false) (named_in airport (without name (state_of c.args.self.now))) c.requires.spans.holders in
+    let held = done-ok c.hold-held.result _ c.hold-held.ensures.ok c.in_default.not-Err (named_in airport (without name (state_of c.args.self.now))) c.requires.spans.holders in
     record {
       lists = c.hold-held.ensures.count ∙ c.requires.spans.lists;
       holders = subst (λ (all : List Flight). AreHeldBy (named_in airport (record (state_of c.args.self.now) { flights = all })) c.hold-held.new.self) (sym (c.set_route.ensures flight c.at-flight.ensures))
@@ -46,5 +46,5 @@ pub lower-requires-clause-spans : goal.lower-requires-clause-spans
 lower-requires-clause-spans c =
     record {
       lists = c.hold-held.ensures.count ∙ c.requires.spans.lists;
-      holders = done-err c.hold-held.result _ c.hold-held.ensures.err (sym c.is_err.ensures.value ∙ c.if-is_err.true) (named_in c.args.airport.now (without c.args.name.now (state_of c.args.self.now))) c.requires.spans.holders;
+      holders = c.in-Err.ensures.err (named_in c.args.airport.now (without c.args.name.now (state_of c.args.self.now))) c.requires.spans.holders;
     }

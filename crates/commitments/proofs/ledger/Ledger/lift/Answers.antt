@@ -2,8 +2,8 @@ use Rattle.std.proofs.Common.{◌+◌, sym, subst, ap, ◌∙◌}
 use Rattle.std.specs.Prelude.{remove}
 use Rattle.taxi_base.specs.Windows.{holds_of}
 use Rattle.taxi_base.specs.State.{holds_in}
-use Rattle.window_store.specs.Stands.{route_holds}
-use Rattle.commitments.specs.Book.{Book, Fits, IsPrepared, route_of, routes_of}
+use Rattle.window_store.specs.Stands.{route_holds, HasRoomFor}
+use Rattle.commitments.specs.Book.{Book, Fits, route_of, routes_of}
 use Rattle.commitments.specs.Holders.{state_of}
 use Rattle.commitments.proofs.Routes.{flight-at, parties-over, route-left}
 use Rattle.commitments.proofs.SameHolds.{HasRoomFor-fewer}
@@ -37,19 +37,16 @@ returns-clause-prepared c steps prepared =
     let fits = subst (Fits airport) (sym c.self.view_is) c.requires.fits in
     let flights = ap (λ (b : Book). b.state.flights) c.self.view_is in
     let unlifted = ap (λ (b : Book). b.lifted) c.self.view_is ∙ c.requires.unlifted in
-    let before = subst (IsPrepared airport steps) (sym c.self.view_is) prepared in
+    let before = subst (λ (b : Book). HasRoomFor airport.conflicts steps b.store) (sym c.self.view_is) prepared in
     let at = rw c.unwrap-place.ensures at c.place.ensures in
     let found = some-there _ (rw flights c.requires.in_force) in
     let held = state_of c.self.inside.holders in
     let number = c.count.result + c.unwrap-place.result in
     let route = flight-at airport held c.count.result c.unwrap-place.result c.count.ensures.count found.0 (at.found ∙ found.1) in
-    record {
-      flight = before.flight;
-      windows = HasRoomFor-fewer airport.conflicts airport.horizon (holds_in airport held) (route_holds airport.horizon (remove (routes_of airport held) number))
-          (holds_of airport.horizon (route_of airport found.0).clearance found.0.steps) c.self.inside.held.store c.free_holder.new.held.store
-          (route-left airport held (parties-over airport held fits.feasible) number (route_of airport found.0) route)
-          (stands-unlifted airport _ fits unlifted) c.free_holder.ensures.stands c.free_holder.ensures.nodes steps before.windows;
-    }
+    HasRoomFor-fewer airport.conflicts airport.horizon (holds_in airport held) (route_holds airport.horizon (remove (routes_of airport held) number))
+    (holds_of airport.horizon (route_of airport found.0).clearance found.0.steps) c.self.inside.held.store c.free_holder.new.held.store
+    (route-left airport held (parties-over airport held fits.feasible) number (route_of airport found.0) route)
+    (stands-unlifted airport _ fits unlifted) c.free_holder.ensures.stands c.free_holder.ensures.nodes steps before
 
 pub invariant_of-self : goal.invariant_of-self
 invariant_of-self c =

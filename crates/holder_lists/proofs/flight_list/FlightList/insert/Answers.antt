@@ -2,6 +2,7 @@ use Rattle.std.proofs.Common.{◌≡◌, ◌∙◌, ap, sym, subst, true, length
 use Rattle.std.specs.Prelude.{Err}
 use Rattle.std.specs.Result.{is_ok}
 use Rattle.std.proofs.lemmas.List.{length-set}
+use Rattle.std.proofs.lemmas.List.Edits.{length-insert}
 use Rattle.taxi_base.specs.declared.answers.Flight.{Flight}
 use Rattle.taxi_base.specs.State.{flights_with}
 use Rattle.holder_lists.specs.Lists.{Listing}
@@ -43,6 +44,8 @@ invariant_of-self c =
       rw c.order_of-order.ensures.order numbered,
       omega (arith, long, room, k.capacity),
       omega (arith, bound, k.capacity),
+      omega (arith, k.len, c.self.invariant.4, length-insert c.self.inside.keys.items c.unwrap_err-place.result c.insert_reserved-key.result (omega (arith, length-keys c.self.inside.flights c.self.inside.keys.items c.self.invariant.0, gap.gap))),
+      omega (arith, k.capacity, c.self.invariant.5),
     )
 
 pub returns-clause-flights : goal.returns-clause-flights

@@ -1,5 +1,6 @@
 use Rattle.std.proofs.Common.{ℕ, ◌∙◌, sym, ap, subst, length, arith}
 use Rattle.std.specs.Prelude.{IsSome, remove, slice_get}
+use Rattle.std.proofs.lemmas.List.Edits.{length-remove}
 use Rattle.slab.specs.Slab.{get}
 use Rattle.holder_lists.specs.Lists.{Listing}
 use Rattle.holder_lists.proofs.Edits.{length-keys, has-flight, flight-at, cancelled}
@@ -32,6 +33,8 @@ invariant_of-self c =
       numbered-remove c.self.inside.flights c.remove.new.self c.self.inside.orders.items _ c.self.invariant.1 c.remove.ensures.updates,
       omega (arith, room, c.remove.ensures.capacity),
       omega (arith, bound, c.remove.ensures.capacity),
+      omega (arith, c.remove.ensures.len, c.self.invariant.4, length-remove c.self.inside.keys.items c.args.place (omega (arith, long, view, c.requires))),
+      omega (arith, c.remove.ensures.capacity, c.self.invariant.5),
     )
 
 pub returns-clause-flight : goal.returns-clause-flight

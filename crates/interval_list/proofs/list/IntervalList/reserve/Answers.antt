@@ -26,3 +26,16 @@ loop-self-preserved c =
       omega (arith, fewer, ap (λ (l : Intervals). length l.spare) made.1),
       c.draw.ensures.below,
     )
+
+pub draw-requires-clause-few : goal.draw-requires-clause-few
+draw-requires-clause-few c =
+    omega (
+      arith,
+      c.requires.few,
+      ap length c.loop-self.invariant.0,
+      c.loop-self-test.true,
+      c.len.ensures,
+      ap (λ (l : Intervals). length l.spare) c.self.view_is,
+      length-ids_of (windows_of c.self.inside.spares),
+      length-windows_of c.self.inside.spares,
+    )

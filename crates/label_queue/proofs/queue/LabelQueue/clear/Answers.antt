@@ -8,7 +8,7 @@ use Rattle.label_queue.proofs.queue.LabelQueue.clear.Goals as goal
 pub invariant_of-self : goal.invariant_of-self
 invariant_of-self c =
     let limit = c.self.inside.limit in
-    rw c.clear.ensures.items (no-heap, no_entries limit, omega (arith, c.clear.ensures.capacity, c.self.invariant.2), c.self.invariant.3)
+    rw c.clear.ensures.items (no-heap, no_entries limit, omega (arith, c.clear.ensures.capacity, c.self.invariant.2), c.self.invariant.3, c.self.invariant.4, tt)
 
 pub returns : goal.returns
 returns c =

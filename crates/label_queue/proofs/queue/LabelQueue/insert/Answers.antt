@@ -4,6 +4,7 @@ use Rattle.label_queue.specs.First.{entries_by}
 use Rattle.label_queue.specs.Entries.{keys_of}
 use Rattle.label_queue.specs.Keys.{key_of}
 use Rattle.label_queue.proofs.Changes.{label-in, first-heap, first-distinct}
+use Rattle.label_queue.proofs.Placing.{not_kept}
 use Rattle.label_queue.proofs.queue.LabelQueue.insert.Goals as goal
 use Rattle.label_queue.proofs.queue.LabelQueue.insert.Goals.{After-new}
 
@@ -31,4 +32,6 @@ invariant_of-self c =
       first-distinct limit first heap c.new.result (below at) is (none at) c.self.invariant.0 c.self.invariant.1,
       c.self.invariant.2,
       c.self.invariant.3,
+      c.self.invariant.4,
+      not_kept c.self.inside.keeps_places first _ c.self.inside.places.items heap _ is c.self.invariant.5,
     )

@@ -1,12 +1,10 @@
 use Rattle.std.proofs.Common.{◌≡◌, ◌∙◌, true, false, Some, None, sym, subst, inl}
 use Rattle.taxi_base.specs.declared.answers.Refusal.TheVariants as refusal
-use Rattle.taxi_base.specs.Airport.{node_named}
+use Rattle.taxi_base.specs.Airport.{node_named, is_stand, is_of_kind}
 use Rattle.taxi_base.proofs.AirportLaws.{node_named-exists}
 use Rattle.taxi_text.specs.declared.command.Command.TheVariants as command
-use Rattle.certificate.specs.Refusals.{is_stand}
 use Rattle.certificate.specs.Replies.{refused}
 use Rattle.taxi_engine.specs.Engine.{EngineState}
-use Rattle.command_refusals.specs.Named.{is_of_kind}
 use Rattle.taxi_engine.proofs.DueLaws.{refusal-due}
 use Rattle.taxi_engine.proofs.ReroutedDue.{divert-done, divert-unknown, divert-no_stand}
 use Rattle.taxi_engine.proofs.engine.Engine.divert.Goals as goal

@@ -36,7 +36,7 @@ returns-in-Ok c =
     let text = c.set_short.ensures ∙ c.filed_text.ensures in
     let after : c.commit.new.self.state ≡ with_flight flight state = c.commit.ensures.state ∙ ap (with_flight flight) c.in-Ok.ensures.state in
     subst
-    (λ (s : EngineState). IsDoneOrMemory (File c.args.flight.now c.args.class.now c.args.start c.args.filed.now) s (record { airport = airport; state = c.commit.new.self.state; reply = c.set_short.new.self }))
+    (λ (s : EngineState). IsDoneOrMemory (File c.args.filed.now) s (record { airport = airport; state = c.commit.new.self.state; reply = c.set_short.new.self }))
     c.self.view_is
     (inl (record {
       reply = record { block = Filed flight.name (begin_of flight.steps) (end_of flight.steps); after = with_flight flight state };
@@ -52,8 +52,8 @@ returns-in-Err c =
     let old : EngineState = record { airport = airport; state = state; reply = c.self.inside.reply } in
     let done : IsDone (refused state why) old c.refuse.new.self =
     c.refuse.ensures ∙ ap (λ (after : State). record { airport = airport; state = after; reply = block_text airport (Refused why) }) c.in-Err.ensures.state in
-    subst (λ (s : EngineState). IsDoneOrMemory (File c.args.flight.now c.args.class.now c.args.start c.args.filed.now) s c.refuse.new.self) c.self.view_is
+    subst (λ (s : EngineState). IsDoneOrMemory (File c.args.filed.now) s c.refuse.new.self) c.self.view_is
     (elim c.in-Err.ensures.err [
       | inl memory ↦ inr (tt, subst (λ r. IsDone (refused state r) old c.refuse.new.self) memory done)
-      | inr due ↦ inl (record { reply = refused state why; due = refusal-due airport state (File c.args.flight.now c.args.class.now c.args.start c.args.filed.now) why due; done = done })
+      | inr due ↦ inl (record { reply = refused state why; due = refusal-due airport state (File c.args.filed.now) why due; done = done })
     ])

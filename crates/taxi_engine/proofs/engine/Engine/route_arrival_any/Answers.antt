@@ -9,24 +9,22 @@ use Rattle.taxi_engine.proofs.ChosenDue.{arrival_any-done, refused-so}
 use Rattle.taxi_engine.proofs.engine.Engine.route_arrival_any.Goals as goal
 
 pub find_arrival_any-chosen-requires-clause-nodes : goal.find_arrival_any-chosen-requires-clause-nodes
-find_arrival_any-chosen-requires-clause-nodes c = (nodes_named-are c.self.inside.airport c.args.stands.now c.in-Ok.asked.nodes c.in-Ok.ensures.named.nodes_known).exist
+find_arrival_any-chosen-requires-clause-nodes c = (nodes_named-are c.self.inside.airport c.args.asked.now.nodes c.in-Ok.trip.nodes c.in-Ok.ensures.named.nodes_known).exist
 
 pub tell_chosen-requires-clause-new : goal.tell_chosen-requires-clause-new
 tell_chosen-requires-clause-new c =
-    let room = arrival_any-has_room c.self.inside.airport c.self.inside.ledger.state c.args.flight.now c.args.class.now c.args.from.now c.args.stands.now 0 0 c.in-Ok.ensures.ok in
+    let room = arrival_any-has_room c.self.inside.airport c.self.inside.ledger.state c.args.asked.now c.in-Ok.ensures.ok in
     record { absent = room.absent; few = room.room }
 
 pub returns-in-Ok : goal.returns-in-Ok
 returns-in-Ok c =
-    let asked = c.in-Ok.asked in
     let old : EngineState = record { airport = c.self.inside.airport; state = c.self.inside.ledger.state; reply = c.self.inside.reply } in
-    subst (λ (s : EngineState). IsDoneOrMemory (command.ArrivalAny c.args.flight.now c.args.class.now c.args.from.now c.args.time c.args.hold c.args.stands.now) s c.tell_chosen.new.self) c.self.view_is
-    (arrival_any-done old c.tell_chosen.new.self c.args.flight.now c.args.class.now c.args.from.now c.args.stands.now asked c.in-Ok.ensures.named c.find_arrival_any-chosen.result c.args.time c.args.hold
-    c.in-Ok.ensures.ok c.find_arrival_any-chosen.ensures c.tell_chosen.ensures)
+    subst (λ (s : EngineState). IsDoneOrMemory (command.ArrivalAny c.args.asked.now) s c.tell_chosen.new.self) c.self.view_is
+    (arrival_any-done old c.tell_chosen.new.self c.args.asked.now c.in-Ok.trip c.in-Ok.ensures.named c.find_arrival_any-chosen.result c.in-Ok.ensures.ok c.find_arrival_any-chosen.ensures c.tell_chosen.ensures)
 
 pub returns-in-Err : goal.returns-in-Err
 returns-in-Err c =
-    let asks = command.ArrivalAny c.args.flight.now c.args.class.now c.args.from.now c.args.time c.args.hold c.args.stands.now in
+    let asks = command.ArrivalAny c.args.asked.now in
     let why : IsRefused c.args.self.now.airport c.args.self.now.state asks c.in-Err.why =
     subst (λ (s : EngineState). IsRefused s.airport s.state asks c.in-Err.why) c.self.view_is c.in-Err.ensures.err in
     refused-so c.args.self.now c.refuse.new.self asks c.in-Err.why (λ _. tt) why c.refuse.ensures

@@ -4,22 +4,21 @@ use Rattle.certificate.specs.Refusals.{first_refusal}
 use Rattle.certificate.specs.Replies.{refused}
 use Rattle.taxi_engine.specs.Engine.{EngineState}
 use Rattle.taxi_engine.specs.Done.{IsDoneOrMemory}
+use Rattle.taxi_engine.specs.Routed.{IsFoundTold}
 use Rattle.taxi_engine.proofs.DueLaws.{refusal-due}
 use Rattle.taxi_engine.proofs.RoutedDue.{departure-done}
 use Rattle.taxi_engine.proofs.engine.Engine.route_departure.Goals as goal
 
 pub returns-in-Ok : goal.returns-in-Ok
 returns-in-Ok c =
-    let asked = c.in-Ok.asked in
     let old : EngineState = record { airport = c.self.inside.airport; state = c.self.inside.ledger.state; reply = c.self.inside.reply } in
-    subst (λ (s : EngineState). IsDoneOrMemory (command.Departure c.args.flight.now c.args.class.now c.args.from.now c.args.to.now c.args.time c.args.queue) s c.tell_found.new.self) c.self.view_is
-    (departure-done old c.tell_found.new.self c.args.flight.now c.args.class.now c.args.from.now c.args.to.now asked c.in-Ok.ensures.named c.find_departure-found.result c.args.time c.args.queue
-    c.in-Ok.ensures.ok c.find_departure-found.ensures
-    c.tell_found.ensures)
+    subst (λ (s : EngineState). IsDoneOrMemory (command.Departure c.args.asked.now) s c.tell_found.new.self) c.self.view_is
+    (departure-done old c.tell_found.new.self c.args.asked.now c.in-Ok.trip c.in-Ok.ensures.named c.find_departure-found.result c.in-Ok.ensures.ok c.find_departure-found.ensures
+    (subst (λ r. IsFoundTold c.args.asked.now.flight c.in-Ok.trip.class r c.find_departure-found.result old c.tell_found.new.self) c.departure.ensures c.tell_found.ensures))
 
 pub returns-in-Err : goal.returns-in-Err
 returns-in-Err c =
-    let asks = command.Departure c.args.flight.now c.args.class.now c.args.from.now c.args.to.now c.args.time c.args.queue in
+    let asks = command.Departure c.args.asked.now in
     let first : first_refusal c.args.self.now.airport c.args.self.now.state asks ≡ Some c.in-Err.why =
     subst (λ (s : EngineState). first_refusal s.airport s.state asks ≡ Some c.in-Err.why) c.self.view_is c.in-Err.ensures.err in
     inl (record {

@@ -32,7 +32,7 @@ returns-in-Ok c =
     let text = c.set_short.ensures ∙ c.shut_text.ensures in
     let after : c.place.new.self.state ≡ with_party party state = c.place.ensures.state ∙ ap (with_party party) c.in-Ok.ensures.state in
     subst
-    (λ (s : EngineState). IsDoneOrMemory (Work c.args.name.now c.args.segment.now c.args.from c.args.until) s (record { airport = airport; state = c.place.new.self.state; reply = c.set_short.new.self }))
+    (λ (s : EngineState). IsDoneOrMemory (Work c.args.shut.now) s (record { airport = airport; state = c.place.new.self.state; reply = c.set_short.new.self }))
     c.self.view_is
     (inl (record {
       reply = record { block = Filed party.name party.from party.until; after = with_party party state };
@@ -48,8 +48,8 @@ returns-in-Err c =
     let old : EngineState = record { airport = airport; state = state; reply = c.self.inside.reply } in
     let done : IsDone (refused state why) old c.refuse.new.self =
     c.refuse.ensures ∙ ap (λ (after : State). record { airport = airport; state = after; reply = block_text airport (Refused why) }) c.in-Err.ensures.state in
-    subst (λ (s : EngineState). IsDoneOrMemory (Work c.args.name.now c.args.segment.now c.args.from c.args.until) s c.refuse.new.self) c.self.view_is
+    subst (λ (s : EngineState). IsDoneOrMemory (Work c.args.shut.now) s c.refuse.new.self) c.self.view_is
     (elim c.in-Err.ensures.err [
       | inl memory ↦ inr (memory.1, subst (λ r. IsDone (refused state r) old c.refuse.new.self) memory.0 done)
-      | inr due ↦ inl (record { reply = refused state why; due = refusal-due airport state (Work c.args.name.now c.args.segment.now c.args.from c.args.until) why due; done = done })
+      | inr due ↦ inl (record { reply = refused state why; due = refusal-due airport state (Work c.args.shut.now) why due; done = done })
     ])

@@ -1,6 +1,6 @@
-use Rattle.std.proofs.Common.{◌∙◌, sym, ap, subst}
+use Rattle.std.proofs.Common.{◌∙◌, ◌<◌, sym, ap, subst}
 use Rattle.taxi_base.specs.Walks.{IsFeasibleWalk, Meets}
-use Rattle.taxi_base.specs.State.{State, with_flight, IsSound}
+use Rattle.taxi_base.specs.State.{State, holder_count, with_flight, IsSound}
 use Rattle.taxi_base.specs.Faults.{conditions_in}
 use Rattle.taxi_base.proofs.StateLaws.{IsSound-with_flight}
 use Rattle.taxi_base.proofs.WalkLaws.{Meets-IsFeasibleWalk}
@@ -16,6 +16,9 @@ prepare_route-requires-clause-walk c = record {
   here = sym (ap (λ (s : EngineState). s.airport) c.self.view_is);
   walk = Meets-IsFeasibleWalk _ c.args.flight.request c.args.flight.steps c.requires.met;
 }
+
+pub prepare_route-requires-clause-not_full : goal.prepare_route-requires-clause-not_full
+prepare_route-requires-clause-not_full c = subst (λ (s : EngineState). holder_count s.state < 4096) (sym c.self.view_is) c.requires.new.few
 
 pub commit-requires-clause-feasible : goal.commit-requires-clause-feasible
 commit-requires-clause-feasible c =

@@ -1,5 +1,5 @@
 use Rattle.std.proofs.Common.{refl}
-use Rattle.taxi_io.proofs.Outcomes.{if_ok, on_ok, on_err, failed-Rose}
+use Rattle.taxi_io.proofs.Outcomes.{if_ok, on_ok, on_err_both, failed-Rose}
 use Rattle.taxi_io.proofs.file_shelf.FileShelfShelf.TheImpl.Goals as goal
 
 pub begin-tells : goal.begin-tells
@@ -7,7 +7,8 @@ begin-tells g c =
     record {
       begun = c.ensures.begun;
       whole = on_ok c.result refl;
-      tried = refl;
+      tried = c.ensures.tried;
+      given = c.ensures.given;
       failed = failed-Rose c.result _ _ c.ensures.faults;
       later = c.ensures.later;
       files = refl;
@@ -20,9 +21,10 @@ read-tells g c =
       bound = c.ensures.bound;
       bytes = if_ok c.result (λ n. refl);
       end = if_ok c.result (λ n. tt);
-      kept = on_err c.result refl;
+      given = c.ensures.given;
+      kept = on_err_both _ c.result refl c.ensures.kept;
       begun = c.ensures.begun;
-      tried = refl;
+      tried = c.ensures.tried;
       failed = failed-Rose c.result _ _ c.ensures.faults;
       later = c.ensures.later;
       files = refl;

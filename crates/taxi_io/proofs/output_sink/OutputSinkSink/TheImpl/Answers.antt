@@ -9,6 +9,7 @@ write-tells g c =
       bound = c.ensures.bound;
       grew = if_ok c.result (λ n. refl);
       kept = on_err c.result refl;
+      handed = c.ensures.handed;
       failed = failed-Rose c.result _ _ c.ensures.faults;
       later = c.ensures.later;
     }

@@ -1,6 +1,0 @@
-use Rattle.std.proofs.Common.{◌∙◌, sym}
-use Rattle.taxi_base.proofs.AirportLaws.{node_named-exists}
-use Rattle.schedule_import.proofs.row.is_runway.Goals as goal
-
-pub kind-requires : goal.kind-requires
-kind-requires c = node_named-exists c.args.airport.now c.args.name.now c.in-Some.node (sym c.node_named.ensures ∙ c.in-Some.is)
