@@ -1,0 +1,133 @@
+"""The command line of tools/airport_from_xplane."""
+import argparse
+import sys
+
+from ground_network import output
+from ground_network.aircraft import classes_of
+from ground_network.drawing import FIRST, read_drawing
+from ground_network.making import Choices, make_airport
+from ground_network.pieces import Cutting
+from ground_network.problem import BAD_WORDS, NOTHING_TO_MAKE, UNREADABLE, UNWRITTEN, Problem, Report
+from ground_network.xplane import list_entries, read_airport
+
+NAME = "airport_from_xplane"
+
+
+class Words(argparse.ArgumentParser):
+    def error(self, message):
+        raise Problem(BAD_WORDS, f"{message}; see --help")
+
+
+def in_range(low, high, kind=float):
+    """A reader of a number within a range."""
+
+    def read(word):
+        value = kind(word)
+        if not low <= value <= high:
+            raise argparse.ArgumentTypeError(f"{word} is not from {low} to {high}")
+        return value
+
+    return read
+
+
+# The options that take a number: the word, where it is kept, the least and the most, what it is where it isn't told, what it means.
+NUMBERS = (
+    ("--span", "span", 0, 500, 36, "segments nearer to each other than this, or than the spans of their classes, conflict"),
+    ("--stub", "stub", 1, 1000, 40, "how far before a crossing an edge is cut"),
+    ("--piece", "piece", 20, 10_000, 250, "the longest piece of an edge that is cut"),
+    ("--cut-from", "cut_from", 20, 100_000, 120, "edges of this length or more are cut"),
+    ("--lead-in", "lead_in", 1, 5000, 250, "the longest lead-in to a stand"),
+    ("--sharp", "sharp", 0, 180, 140, "turns by more degrees than this are forbidden"),
+)
+CLASS = "NAME:speed=8:lead=3:clearance=8:size=C:kinds=jets+turboprops"
+ABOUT = """Writes the airport file for taxi out of the ground network of an airport of X-Plane or FlightGear (apt.dat, plain or
+.gz), or out of a drawing with metres. Standard error tells what was made and what was left out. docs/AIRPORTS.md says more."""
+STATUSES = """Status 0: written; 1: wrong words; 2: nothing can be made of it; 3: a file can't be read or is of another format;
+4: the output can't be written."""
+
+
+def words():
+    parser = Words(prog=NAME, description=ABOUT, epilog=STATUSES)
+    parser.add_argument("file", metavar="FILE", help="an apt.dat, or a drawing; - is standard input")
+    parser.add_argument("airport", metavar="ICAO", nargs="?", help="the airport's code, where the file has more than one")
+    parser.add_argument("--list", action="store_true", help="only list the airports that have a ground network")
+    parser.add_argument("--map", metavar="MAP", help="write a map in GeoJSON to this file")
+    parser.add_argument("--version", type=int, choices=(1, 2), default=1, help="of the airport file; 2 has clearances (default 1)")
+    parser.add_argument("--horizon", type=in_range(1, 604_800, int), default=86_400, metavar="SECONDS",
+                        help="the seconds of the day, 1 to 604800 (default 86400)")
+    parser.add_argument("--class", dest="classes", action="append", default=[], metavar=CLASS,
+                        help="a class in place of L, M and H, once or more; what isn't told is as for L, M or H, else as for M")
+    for word, place, low, high, default, meaning in NUMBERS:
+        unit = "DEGREES" if word == "--sharp" else "METRES"
+        told = f"{meaning}, {low} to {high} (default {default})"
+        parser.add_argument(word, dest=place, type=in_range(low, high), default=float(default), metavar=unit, help=told)
+    parser.add_argument("--keep-runway-edges", action="store_true", help="keep all edges along runways")
+    parser.add_argument("--dead-ends", action="store_true", help="make a stand of each dead end of the network that is none")
+    return parser
+
+
+def starts_as_drawing(path):
+    """Whether a file begins as a drawing does; what is looked at is still there to be read."""
+    try:
+        stream = sys.stdin.buffer if path == "-" else open(path, "rb")
+        start = stream.peek(32)[:32].removeprefix(b"\xef\xbb\xbf")
+        if path != "-":
+            stream.close()
+        return start.startswith(FIRST)
+    except OSError as error:
+        raise Problem(UNREADABLE, f"{path} can't be read: {error.strerror or error}") from error
+
+
+def read_source(told, report):
+    if starts_as_drawing(told.file):
+        with sys.stdin.buffer if told.file == "-" else open(told.file, "rb") as stream:
+            return read_drawing(told.file, stream.read(), report)
+    return read_airport(told.file, told.airport, report)
+
+
+def choices_of(told):
+    cutting = Cutting(told.cut_from, told.stub, told.piece)
+    classes = tuple(classes_of(told.classes))
+    return Choices(classes, cutting, told.lead_in, told.span, told.sharp, told.keep_runway_edges, told.dead_ends)
+
+
+def write(text, map_text, map_path):
+    """Writes the map where one is asked for, and then the airport."""
+    try:
+        if map_path:
+            with open(map_path, "w", encoding="ascii", newline="\n") as stream:
+                stream.write(map_text)
+        sys.stdout.write(text)
+        sys.stdout.flush()
+    except OSError as error:
+        raise Problem(UNWRITTEN, f"the output can't be written: {error.strerror or error}") from error
+
+
+def run(arguments, report):
+    told = words().parse_args(arguments)
+    if told.list:
+        write("".join(line + "\n" for line in list_entries(told.file)), "", None)
+        return
+    choices = choices_of(told)
+    source = read_source(told, report)
+    airport = make_airport(source, choices, report)
+    text = "".join(row + "\n" for row in output.rows(airport, told.version, told.horizon))
+    if len(text) > output.MOST_BYTES:
+        size = f"the airport file would have {len(text)} bytes of at most {output.MOST_BYTES}"
+        raise Problem(NOTHING_TO_MAKE, f"{size}; give fewer classes")
+    write(text, output.map_text(airport, source.projection) if told.map else "", told.map)
+
+
+def main(arguments):
+    """Runs on some words and gives the exit status."""
+    report = Report()
+    status = 0
+    try:
+        run(arguments, report)
+    except Problem as problem:
+        report.say(str(problem))
+        status = problem.status
+    for line in report.lines:
+        shown = "".join(sign if sign.isprintable() else "?" for sign in line)
+        print(f"{NAME}: {shown}", file=sys.stderr)
+    return status

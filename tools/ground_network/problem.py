@@ -1,0 +1,34 @@
+"""What ends a run, and what a run has to tell."""
+
+BAD_WORDS, NOTHING_TO_MAKE, UNREADABLE, UNWRITTEN = 1, 2, 3, 4
+
+
+class Problem(Exception):
+    """Ends a run with a message and an exit status."""
+
+    def __init__(self, status, message):
+        super().__init__(message)
+        self.status = status
+
+
+class Report:
+    """Lines for standard error, in the order in which they were told."""
+
+    def __init__(self):
+        self.lines = []
+
+    def say(self, text):
+        self.lines.append(text)
+
+    def warn(self, text):
+        self.lines.append(f"warning: {text}")
+
+    def left_out(self, what, names, why):
+        """Tells what was left out, by name; nothing where there is nothing."""
+        if names:
+            self.lines.append(f"left out, {what} ({len(names)}), {why}: {', '.join(names)}")
+
+    def left_count(self, what, count, why):
+        """Tells how much was left out where a name would say nothing."""
+        if count:
+            self.lines.append(f"left out, {what} ({count}), {why}")
