@@ -1,0 +1,178 @@
+// What is told of the flight or the command that is chosen.
+
+const WHY = {
+  arrival: "routed as an arrival",
+  departure: "routed as a departure",
+  "arrival-any": "routed to the best of several stands",
+  "departure-any": "routed to the best of several runway nodes",
+  filed: "filed by hand",
+  work: "a work party",
+  reroute: "rerouted",
+  divert: "led to another stand",
+  batch: "routed in a batch",
+  late: "late on its segment",
+};
+const ENDS = {
+  reroute: "until it was rerouted",
+  divert: "until it was diverted",
+  late: "until a flight was late",
+  cancelled: "until it was cancelled",
+  done: "until it was done",
+  dropped: "until it was dropped for a late flight",
+  "no-route": "until a late flight left it no route",
+};
+
+class Details {
+  constructor(view, clock) {
+    Object.assign(this, { view, clock });
+    this.box = byId("details");
+    view.listen(["selected", "command"], () => this.draw());
+    view.listen(["time", "plan"], () => this.markStep());
+    this.draw();
+  }
+
+  draw() {
+    const { view } = this;
+    this.rows = [];
+    const holder = view.selected && view.day.holders.get(view.selected);
+    if (holder) replaceChildren(this.box, ...this.ofHolder(holder));
+    else if (view.command) replaceChildren(this.box, ...this.ofCommand(view.command));
+    else replaceChildren(this.box, ...this.ofNothing());
+    this.box.classList.toggle("filled", Boolean(holder || view.command));
+    this.box.scrollTop = 0;
+    this.markStep();
+  }
+
+  ofNothing() {
+    const { day } = this.view;
+    const trouble = day.notes.length;
+    const waits = day.inForceAfter(day.commands.length).reduce((sum, stay) => sum + stay.waited, 0);
+    return [
+      element("h2", {}, "The day"),
+      this.facts([
+        ["commands", String(day.commands.length)],
+        ["flights and parties", String(day.holders.size)],
+        ["in force at the end", String(day.inForceAfter(day.commands.length).length)],
+        ["not as asked", trouble ? String(trouble) : "none"],
+        ["segments", String(day.segments.length)],
+        ["waits", waits ? span(waits) : "none"],
+      ]),
+      element("p", { class: "hint" }, "Choose a flight in the list, on the timeline or on the map."),
+    ];
+  }
+
+  facts(rows) {
+    return element("dl", {}, ...rows.flatMap(([term, text]) => [element("dt", {}, term), element("dd", {}, text)]));
+  }
+
+  ofHolder(holder) {
+    const { view } = this;
+    const stay = holder.newest;
+    const kind = { filed: "filed by hand", work: "work party" }[holder.kind] || holder.kind;
+    const heading = element("h2", {}, element("span", { class: `dot ${holder.kind}` }), ` ${holder.name}`);
+    const close = element("button", { type: "button", class: "close", "aria-label": "Close", onclick: () => view.select(null) }, "×");
+    const line = element("p", {}, [kind, view.day.className(holder.class), holder.fate].filter(Boolean).join(", "));
+    const show = stay && element("button", { type: "button", onclick: () => this.goTo(stay) }, "Show it on its way");
+    const versions = holder.stays.map((one, k) => this.version(one, k + 1, holder.stays.length)).reverse();
+    return [close, heading, line, show, ...versions, element("h3", {}, "Commands"), this.commands(holder.commands, holder.notes)];
+  }
+
+  goTo(stay) {
+    const { view } = this;
+    view.reveal(stay.begin, stay.finish);
+    const room = 40 * Math.max(1, stay.finish - stay.begin);
+    if (view.to - view.from > room) view.zoom(room / (view.to - view.from), (stay.begin + stay.finish) / 2);
+    view.moveTo(stay.begin);
+  }
+
+  // One version of a flight: what was asked, how long it takes, and each step.
+  version(stay, number, count) {
+    const title = `${count > 1 ? `Version ${number} of ${count}: ` : ""}${WHY[stay.why] || stay.why}, command ${stay.opened}`;
+    const ended = stay.closed === Infinity ? "" : `, ${ENDS[stay.end] || stay.end}, command ${stay.closed}`;
+    return element("details", { open: number === count }, element("summary", {}, title + ended), this.facts(this.versionFacts(stay)), this.steps(stay));
+  }
+
+  versionFacts(stay) {
+    const { clock, view } = this;
+    if (stay.kind === "work") return [["from", clock.text(stay.begin)], ["until", clock.text(stay.finish)]];
+    const facts = [["way", `${view.day.nodeName(stay.from)} to ${view.day.nodeName(stay.to)}`]];
+    if (stay.asked) facts.push(["asked", this.askedText(stay)]);
+    facts.push(["taxi time", span(stay.finish - stay.begin)]);
+    if (stay.waited) facts.push(["waits", span(stay.waited)]);
+    if (stay.held) facts.push([stay.kind === "departure" ? "early at the runway" : "held before it", `${span(stay.held[0])}${stay.held[1] ? ` for ${stay.held[1]}` : ""}`]);
+    return facts;
+  }
+
+  askedText(stay) {
+    const [time, limit] = stay.asked;
+    const text = this.clock.text(time);
+    if (stay.kind === "departure") return `at the runway at ${text}${limit ? `, or up to ${span(limit)} sooner` : ""}`;
+    return limit ? `from ${text}, or up to ${span(limit)} later` : `at ${text}`;
+  }
+
+  steps(stay) {
+    const head = ["segment", "to", "enter", "leave", "waits"].map((text) => element("th", { scope: "col" }, text));
+    const rows = stay.steps.map((step) => this.step(stay, step));
+    return element("table", {}, element("thead", {}, element("tr", {}, ...head)), element("tbody", {}, ...rows));
+  }
+
+  step(stay, step) {
+    const { clock, view } = this;
+    const wait = element("td", { class: step.wait ? "wait" : null }, step.wait ? span(step.wait) : "");
+    if (step.holder) wait.append(" for ", this.link(step.holder));
+    const row = element(
+      "tr",
+      {},
+      element("td", {}, view.day.arcName(step.arc)),
+      element("td", {}, view.day.nodeName(view.day.head(step.arc))),
+      element("td", { class: "time" }, clock.text(step.enter)),
+      element("td", { class: "time" }, clock.text(step.leave)),
+      wait,
+    );
+    this.rows.push({ row, stay, step });
+    return row;
+  }
+
+  link(name) {
+    return element("button", { type: "button", class: "link", onclick: () => this.view.select(name) }, name);
+  }
+
+  commands(numbers, notes) {
+    const { day } = this.view;
+    const troubled = new Set(notes.map((note) => note.command));
+    const items = numbers.map((k) => {
+      const command = day.commands[k - 1];
+      const open = element("button", { type: "button", class: "link", onclick: () => this.view.set({ command: k, selected: null }) }, String(k));
+      return element("li", { class: troubled.has(k) ? "trouble" : null }, open, " ", element("code", {}, command.text), element("br"), command.said);
+    });
+    return element("ul", { class: "history" }, ...items);
+  }
+
+  ofCommand(k) {
+    const { view, clock } = this;
+    const command = view.day.commands[k - 1];
+    const close = element("button", { type: "button", class: "close", "aria-label": "Close", onclick: () => view.set({ command: null }) }, "×");
+    const names = [...new Set(view.day.stays.filter((stay) => stay.opened === k || stay.closed === k).map((stay) => stay.name))];
+    for (const name of command.names) if (view.day.holders.has(name) && !names.includes(name)) names.push(name);
+    const facts = [["line of the file", String(command.line)], ["counts as told at", clock.text(command.told)]];
+    if (command.at !== undefined) facts.splice(1, 0, ["its own time", clock.text(command.at)]);
+    return [
+      close,
+      element("h2", {}, `Command ${k}`),
+      element("p", {}, element("code", {}, command.text)),
+      element("p", { class: `said ${command.reply}` }, command.said),
+      this.facts(facts),
+      names.length ? element("p", {}, "Speaks of ", ...names.flatMap((name, at) => [at ? ", " : "", this.link(name)])) : null,
+      element("button", { type: "button", onclick: () => view.set({ plan: k }) }, "Show the plan after this command"),
+    ];
+  }
+
+  // The step under way is marked.
+  markStep() {
+    const { view } = this;
+    const command = view.commandNow;
+    for (const { row, stay, step } of this.rows) {
+      row.classList.toggle("now", stay.inForceAfter(command) && step.enter <= view.time && view.time < step.leave);
+    }
+  }
+}

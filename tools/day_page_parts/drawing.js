@@ -1,0 +1,200 @@
+// Draws the timeline with a pen: on the screen, in print and for a picture.
+
+const LETTERS = { reroute: "R", divert: "D", late: "L", batch: "B", "arrival-any": "C", "departure-any": "C" };
+const AXIS = 22;
+const LANE = 18;
+
+// The rows of the timeline: one a flight or party, or one a segment that somebody holds.
+function timelineRows(view) {
+  const { day } = view;
+  const shown = (stay) => view.plan === null || stay.inForceAfter(view.plan);
+  if (view.rows === "flights") {
+    return view
+      .shownHolders()
+      .map((holder) => flightRow(holder, holder.stays.filter(shown)))
+      .filter((row) => view.plan === null || row.stays.length);
+  }
+  const passing = new Set(view.shownHolders());
+  const wanted = ({ stay }) => shown(stay) && passing.has(day.holders.get(stay.name));
+  return day.bySegment.map((items, segment) => ({ label: day.segments[segment][0], segment, items: items.filter(wanted) })).filter((row) => row.items.length);
+}
+
+// The row of a flight or a party, and the seconds in which it has something.
+function flightRow(holder, stays) {
+  const begins = stays.map((stay) => stay.begin).concat(holder.notes.map((note) => note.second));
+  return { label: holder.name, holder, stays, notes: holder.notes, begin: Math.min(...begins), end: Math.max(...begins, ...stays.map((stay) => stay.last)) };
+}
+
+class TimelineDrawing {
+  // The place is what of the picture the rows have: left and right edge, the seconds there, and the height of a row.
+  constructor(view, clock, colours, pen, place) {
+    Object.assign(this, { view, clock, colours, pen, place });
+    this.day = view.day;
+    this.scale = (place.right - place.left) / (place.to - place.from);
+  }
+
+  x(second) {
+    return this.place.left + (second - this.place.from) * this.scale;
+  }
+
+  // The part of a span of time that can be seen, as a left edge and a width; null if there is none.
+  part(begin, end) {
+    const left = Math.max(this.x(begin), this.place.left - 2);
+    const right = Math.min(this.x(end), this.place.right + 2);
+    return right > left ? [left, right - left] : null;
+  }
+
+  // The marks of the axis and the lines below them.
+  axis(top, bottom) {
+    const { pen, colours, place, clock } = this;
+    const apart = clock.apart(this.scale);
+    pen.line([[place.left, top + AXIS], [place.right, top + AXIS]], { stroke: colours.line });
+    for (let second = Math.ceil(place.from / apart) * apart; second <= place.to; second += apart) {
+      const x = this.x(second);
+      pen.line([[x, top + AXIS - 4], [x, bottom]], { stroke: colours.line });
+      const text = clock.mark(second, apart);
+      if (x + pen.width(text) / 2 < place.right + 6) pen.text(x, top + AXIS / 2 - 1, text, { fill: colours.faint, align: "center" });
+    }
+  }
+
+  // What was refused and what found no route, at its time.
+  lane(top) {
+    for (const note of this.view.day.notes) {
+      if (this.view.plan !== null && note.command > this.view.plan) continue;
+      if (this.part(note.second, note.second + 1)) this.note(this.x(note.second), top + LANE / 2, note);
+    }
+  }
+
+  note(x, y, note) {
+    const colour = noteColour(this.colours, note.tone);
+    const points = note.tone === "refused" ? [[x - 5, y - 4], [x + 5, y - 4], [x, y + 5]] : [[x, y - 6], [x + 5, y], [x, y + 6], [x - 5, y]];
+    this.pen.line(points, { fill: colour, stroke: this.colours.paper, closed: true });
+  }
+
+  // The label of a row, cut to the room that it has.
+  label(row, y) {
+    const { pen, place, colours } = this;
+    const chosen = row.holder && row.holder.name === this.view.selected;
+    const colour = row.holder && !row.stays.some((stay) => stay.closed === Infinity) ? colours.faint : colours.ink;
+    let text = row.label;
+    while (text.length > 1 && pen.width(text) > place.left - 14) text = text.slice(0, -1);
+    pen.text(place.left - 8, y + place.row / 2, text === row.label ? text : `${text.slice(0, -1)}…`, { fill: colour, align: "right", bold: chosen });
+  }
+
+  row(row, y) {
+    if (row.holder) this.flightRow(row, y);
+    else for (const item of row.items) this.segmentItem(item, y);
+  }
+
+  flightRow(row, y) {
+    for (const stay of row.stays) this.asked(stay, y);
+    for (const stay of row.stays) for (const step of stay.steps) this.ghost(stay, step, y);
+    for (const stay of row.stays) {
+      this.small(stay, y);
+      for (const step of stay.steps) this.bar(stay, step, y, this.day.segments[step.segment][0]);
+    }
+    this.badged = -Infinity;
+    for (const stay of row.stays) this.events(stay, y);
+    for (const note of row.notes) this.rowNote(row, note, y);
+  }
+
+  // A note in the row of its flight, unless the cross at the end of a stay tells the same.
+  rowNote(row, note, y) {
+    const told = row.stays.some((stay) => stay.closed === note.command);
+    if (told || (this.view.plan !== null && note.command > this.view.plan)) return;
+    if (this.part(note.second, note.second + 1)) this.note(this.x(note.second), y + this.place.row / 2, note);
+  }
+
+  segmentItem({ stay, step }, y) {
+    this.ghost(stay, step, y);
+    this.bar(stay, step, y, stay.name);
+  }
+
+  // A stay whose steps are too short to be seen at this scale is seen all the same.
+  small(stay, y) {
+    const seen = this.part(stay.begin, Math.min(stay.finish, this.untilOf(stay)));
+    if (!seen || seen[1] > 4 * stay.steps.length || stay.steps.some((step) => step.kept)) return;
+    this.pen.rect(seen[0], y + 3, Math.max(3, seen[1]), this.place.row - 7, { fill: this.colours[stay.kind], hatched: stay.kind === "work" });
+  }
+
+  // The second up to which a stay is in force, in what is shown.
+  untilOf(stay) {
+    return this.view.plan === null ? stay.until : Infinity;
+  }
+
+  // From when an arrival would have come, or up to when a departure might have gone.
+  asked(stay, y) {
+    if (!stay.asked || !stay.held || this.untilOf(stay) <= stay.begin) return;
+    const early = stay.kind === "departure";
+    const seen = early ? this.part(stay.finish, stay.asked[0]) : this.part(stay.asked[0], stay.begin);
+    if (!seen) return;
+    const middle = y + this.place.row / 2;
+    this.pen.line([[seen[0], middle], [seen[0] + seen[1], middle]], { stroke: this.colours.wait, width: 2, dash: [2, 4] });
+  }
+
+  // What was planned and came to nothing: it was cancelled, or another route took its place.
+  ghost(stay, step, y) {
+    const until = this.untilOf(stay);
+    if (until >= step.leave || step.kept) return;
+    const seen = this.part(Math.max(step.enter, until), step.leave);
+    if (seen) this.pen.rect(seen[0], y + 4, seen[1], this.place.row - 9, { fill: this.colours[stay.kind], stroke: this.colours[stay.kind], alpha: 0.28, dash: [3, 2] });
+  }
+
+  // One step: what it needs, what it waits, and for how long the segment stays shut after it.
+  bar(stay, step, y, label) {
+    const until = this.untilOf(stay);
+    const end = Math.min(step.leave, until);
+    if (end <= step.enter || (step.kept && this.view.plan === null)) return;
+    const height = this.place.row - 7;
+    const lit = this.view.rows === "segments" && stay.name === this.view.selected;
+    const colour = lit ? this.colours.lit : this.colours[stay.kind];
+    this.fill(step.enter, Math.min(end, step.still), y + 3, height, { fill: colour, hatched: stay.kind === "work" });
+    if (step.still < end) this.fill(step.still, end, y + 3, height, { fill: this.colours.wait });
+    this.edges(stay, step, end, y, colour);
+    this.name(step.enter, end, y, label, stay.kind === "work");
+  }
+
+  fill(begin, end, y, height, how) {
+    const seen = this.part(begin, end);
+    if (seen) this.pen.rect(seen[0], y, this.view.rows === "segments" ? Math.max(1.5, seen[1]) : seen[1], height, how);
+  }
+
+  // The edge between two steps, the outline of a work party and the clearance.
+  edges(stay, step, end, y, colour) {
+    const height = this.place.row - 7;
+    const seen = this.part(step.enter, end);
+    if (stay.kind === "work" && seen) this.pen.rect(seen[0], y + 3, seen[1], height, { stroke: colour });
+    else if (seen && seen[1] > 5) this.pen.line([[seen[0], y + 3], [seen[0], y + 3 + height]], { stroke: this.colours.paper });
+    const shut = step.shut > step.leave && end === step.leave ? this.part(step.leave, step.shut) : null;
+    if (!shut) return;
+    const across = this.view.rows === "segments";
+    this.pen.rect(shut[0], across ? y + 3 : y + this.place.row - 4, shut[1], across ? height : 2, { stroke: colour, width: 1 });
+  }
+
+  name(begin, end, y, label, hatched) {
+    const seen = this.part(begin, end);
+    if (!seen || seen[1] < 24 || this.pen.width(label, 10) > seen[1] - 6) return;
+    const how = hatched ? { fill: this.colours.ink, halo: this.colours.paper } : { fill: this.colours.paper };
+    this.pen.text(seen[0] + 4, y + this.place.row / 2, label, { size: 10, ...how });
+  }
+
+  // Letters for what happened to a flight: rerouted, diverted, late, moved for another; a cross where it was called
+  // off, which is pale where its seconds were over by then.
+  events(stay, y) {
+    const letter = stay.why.startsWith("moved") ? "M" : LETTERS[stay.why];
+    const between = (second) => Math.max(stay.begin, Math.min(stay.finish, second));
+    const changed = ["R", "D", "L", "M"].includes(letter);
+    if (letter && (this.view.plan !== null || stay.until > stay.told)) this.badge(changed ? between(stay.told) : stay.begin, y, letter);
+    if (stay.closed === Infinity || this.view.plan !== null || !["cancelled", "dropped", "no-route"].includes(stay.end)) return;
+    this.badge(between(stay.until), y, "×", stay.over ? this.colours.faint : this.colours.refused);
+  }
+
+  badge(second, y, letter, colour = this.colours.ink) {
+    const x = Math.max(this.x(second), this.badged + 12);
+    if (x < this.place.left || x > this.place.right) return;
+    this.badged = x;
+    const middle = y + this.place.row / 2;
+    this.pen.circle(x, middle, 6, { fill: this.colours.paper, stroke: colour });
+    this.pen.text(x, middle, letter, { fill: colour, size: 9, align: "center", bold: true });
+  }
+}

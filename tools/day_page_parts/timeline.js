@@ -1,0 +1,234 @@
+// The timeline on the screen: it scrolls over its rows, zooms and moves in time, and tells what is under the pointer.
+
+const ROW = 21;
+
+class Timeline {
+  constructor(view, clock) {
+    Object.assign(this, { view, clock });
+    this.box = byId("timeline");
+    this.base = new CanvasPen(byId("bars"));
+    [this.cursor, this.cursorTime] = [byId("cursor"), byId("cursor-time")];
+    this.spacer = byId("spacer");
+    this.drag = new Drag(this.box, {
+      pan: (dx, dy) => this.pan(dx, dy),
+      zoom: (factor, x) => this.view.zoom(1 / factor, this.second(x)),
+      click: (x, y) => this.click(x, y),
+    });
+    this.box.addEventListener("scroll", () => this.scrolled(), { passive: true });
+    this.box.addEventListener("wheel", (event) => this.wheel(event), { passive: false });
+    this.box.addEventListener("pointermove", (event) => this.hover(event));
+    this.box.addEventListener("pointerleave", () => tip(null));
+    new ResizeObserver(() => this.resize()).observe(this.box);
+    view.listen(["rows", "plan", "filter"], () => this.refill());
+    view.listen(["from", "to", "selected", "colours"], () => this.draw());
+    view.listen(["selected"], () => this.showSelected());
+    view.listen(["time"], () => this.follow());
+    this.refill();
+  }
+
+  refill() {
+    this.rows = timelineRows(this.view);
+    this.resize();
+  }
+
+  resize() {
+    [this.width, this.height] = [this.box.clientWidth, this.box.clientHeight];
+    const all = AXIS + LANE + this.rows.length * ROW + 8;
+    this.spacer.style.height = `${Math.max(0, all - this.height)}px`;
+    this.left = this.width < 500 ? 78 : 104;
+    this.draw();
+  }
+
+  drawing(pen) {
+    return new TimelineDrawing(this.view, this.clock, this.view.colours, pen, { left: this.left, right: this.width - 6, from: this.view.from, to: this.view.to, row: ROW });
+  }
+
+  // The second that is shown at a distance from the left edge, and the distance of a second.
+  second(x) {
+    const { view } = this;
+    return view.from + ((x - this.left) * (view.to - view.from)) / (this.width - 6 - this.left);
+  }
+
+  get top() {
+    return AXIS + LANE;
+  }
+
+  draw() {
+    if (!this.width) return;
+    const pen = this.base;
+    pen.begin(this.width, this.height);
+    const drawing = this.drawing(pen);
+    drawing.axis(0, this.height);
+    const first = Math.floor(this.box.scrollTop / ROW);
+    const last = Math.min(this.rows.length, first + Math.ceil((this.height - this.top) / ROW) + 1);
+    for (const clipped of [false, true]) {
+      if (clipped) pen.clip(this.left, this.top, this.width, this.height);
+      else pen.clip(0, this.top, this.width, this.height);
+      for (let k = first; k < last; k += 1) this.drawRow(drawing, this.rows[k], this.top + k * ROW - this.box.scrollTop, clipped);
+      pen.unclip();
+    }
+    if (!this.rows.length) pen.text((this.left + this.width) / 2, this.top + 40, this.emptyText(), { fill: this.view.colours.faint, size: 14, align: "center" });
+    pen.clip(this.left, 0, this.width, this.height);
+    drawing.lane(AXIS);
+    pen.unclip();
+    this.drawCursor();
+  }
+
+  // Why there are no rows.
+  emptyText() {
+    if (!this.view.day.holders.size) return "Nothing was asked for.";
+    return this.view.plan === null ? "Nothing passes the filter." : "Nothing in force passes the filter.";
+  }
+
+  // First the ground and the label of a row, then what is cut at the left edge.
+  drawRow(drawing, row, y, clipped) {
+    const { colours } = this.view;
+    if (clipped) {
+      drawing.row(row, y);
+      return;
+    }
+    if (row.holder && row.holder.name === this.view.selected) this.base.rect(0, y, this.width, ROW, { fill: colours.lit, alpha: 0.16 });
+    this.base.line([[this.left, y + ROW - 0.5], [this.width, y + ROW - 0.5]], { stroke: colours.line, alpha: 0.5 });
+    drawing.label(row, y);
+  }
+
+  // The cursor is moved as a whole, so that nothing is drawn anew while the day is played.
+  drawCursor() {
+    const { view, cursor, cursorTime } = this;
+    const x = this.left + ((view.time - view.from) * (this.width - 6 - this.left)) / (view.to - view.from);
+    cursor.hidden = cursorTime.hidden = x < this.left - 1 || x > this.width;
+    if (cursor.hidden) return;
+    const text = this.clock.text(view.time);
+    if (cursorTime.textContent !== text) cursorTime.textContent = text;
+    const half = 4 * text.length + 6;
+    cursor.style.transform = `translateX(${x}px)`;
+    cursorTime.style.transform = `translateX(${Math.max(half, Math.min(this.width - half, x))}px) translateX(-50%)`;
+  }
+
+  // Keeps the cursor in sight, and while the day is played the rows of those that move.
+  follow() {
+    const { view } = this;
+    const width = view.to - view.from;
+    if (view.time < view.from || view.time > view.to) view.showFrom(view.time - width / 10, width);
+    if (view.playing) this.scrollToTime();
+    this.drawCursor();
+  }
+
+  // Scrolls to the row that began last by the present time, unless it is well in sight.
+  scrollToTime() {
+    this.scrollTo((row) => row.begin <= this.view.time);
+  }
+
+  scrollTo(reached) {
+    if (this.view.rows !== "flights") return;
+    let k = this.rows.length - 1;
+    while (k > 0 && !reached(this.rows[k])) k -= 1;
+    const [place, room] = [k * ROW - this.box.scrollTop, this.height - this.top];
+    if (place < room / 4 || place > (7 * room) / 8) this.box.scrollTop = Math.max(0, k * ROW - room / 2);
+  }
+
+  // The rows in sight that have something in the seconds in sight. Segments have no time of their own.
+  get anythingSeen() {
+    const { view } = this;
+    const first = Math.floor(this.box.scrollTop / ROW);
+    const rows = this.rows.slice(first, first + Math.ceil((this.height - this.top) / ROW));
+    return view.rows !== "flights" || !rows.length || rows.some((row) => row.begin < view.to && row.end > view.from);
+  }
+
+  // Where scrolling leads to rows whose flights are at other times, those times are shown.
+  scrolled() {
+    const { view } = this;
+    if (!this.anythingSeen) {
+      const middle = this.rows[Math.min(this.rows.length - 1, Math.floor((this.box.scrollTop + (this.height - this.top) / 2) / ROW))];
+      const width = view.to - view.from;
+      view.showFrom(middle.begin - width / 2, width);
+    }
+    this.draw();
+  }
+
+  // The row of the chosen flight is brought into sight, and so is its time.
+  showSelected() {
+    const { view } = this;
+    const k = this.rows.findIndex((row) => row.holder && row.holder.name === view.selected);
+    if (k < 0) return;
+    const [above, below] = [k * ROW, (k + 1) * ROW - (this.height - this.top)];
+    if (this.box.scrollTop > above) this.box.scrollTop = above - 2 * ROW;
+    else if (this.box.scrollTop < below) this.box.scrollTop = below + 2 * ROW;
+    const { begin, end } = this.rows[k];
+    if (begin > view.to || end < view.from) view.reveal(begin, end);
+  }
+
+  pan(dx, dy) {
+    const { view } = this;
+    const width = view.to - view.from;
+    view.showFrom(view.from - (dx * width) / (this.width - 6 - this.left), width);
+    this.box.scrollTop -= dy;
+    if (!dy && !this.anythingSeen) this.scrollTo((row) => row.begin <= (view.from + view.to) / 2);
+  }
+
+  wheel(event) {
+    const x = event.clientX - this.box.getBoundingClientRect().left;
+    if (event.ctrlKey || event.metaKey) this.view.zoom(Math.exp(event.deltaY / 200), this.second(x));
+    else if (event.shiftKey || Math.abs(event.deltaX) > Math.abs(event.deltaY)) this.pan(-(event.deltaX || event.deltaY), 0);
+    else return;
+    event.preventDefault();
+  }
+
+  // What is at a place: a note, a step of a stay, or a row.
+  at(x, y) {
+    const second = this.second(x);
+    if (y < this.top) return y < AXIS ? { second } : { second, note: this.noteAt(x) };
+    const row = this.rows[Math.floor((y - this.top + this.box.scrollTop) / ROW)];
+    if (!row) return { second };
+    return { second, row, ...(x < this.left ? {} : this.stepAt(row, second)) };
+  }
+
+  noteAt(x) {
+    const near = (note) => Math.abs(this.drawing(this.base).x(note.second) - x);
+    const { plan } = this.view;
+    const notes = this.view.day.notes.filter((note) => near(note) < 8 && (plan === null || note.command <= plan));
+    return notes.sort((a, b) => near(a) - near(b))[0];
+  }
+
+  stepAt(row, second) {
+    const room = (3 * (this.view.to - this.view.from)) / this.width;
+    const items = row.items || row.stays.flatMap((stay) => stay.steps.map((step) => ({ stay, step })));
+    const found = items.filter(({ step }) => step.enter <= second && second < step.shut);
+    return found[found.length - 1] || items.find(({ step }) => step.enter - room <= second && second < step.shut + room);
+  }
+
+  click(x, y) {
+    const { second, note, row, stay } = this.at(x, y);
+    this.box.focus({ preventScroll: true });
+    if (note) this.view.set({ command: note.command, selected: null });
+    else if (stay) this.view.select(stay.name);
+    else if (row && row.holder && x < this.left) this.view.select(row.holder.name);
+    else if (x >= this.left) this.view.moveTo(second);
+  }
+
+  hover(event) {
+    const box = this.box.getBoundingClientRect();
+    const { note, stay, step } = this.at(event.clientX - box.left, event.clientY - box.top);
+    if (note) tip(`${this.clock.text(note.second)}  ${note.name} ${this.view.day.commands[note.command - 1].said}`, event);
+    else if (stay) tip(stepText(this.view.day, this.clock, stay, step), event);
+    else tip(null);
+  }
+}
+
+// A step in words.
+function stepText(day, clock, stay, step) {
+  const times = `${clock.text(step.enter)} to ${clock.text(step.leave)}`;
+  const wait = step.wait ? `, waits ${span(step.wait)}${step.holder ? ` for ${step.holder}` : ""}` : "";
+  const shut = step.shut > step.leave ? `, shut until ${clock.text(step.shut)}` : "";
+  return `${stay.name} on ${day.arcName(step.arc)}  ${times}${wait}${shut}`;
+}
+
+// Shows a short text beside the pointer, or takes it away.
+function tip(text, event) {
+  const box = byId("tip");
+  box.hidden = text === null;
+  if (text === null) return;
+  box.textContent = text;
+  box.style.left = `${Math.min(event.clientX + 12, window.innerWidth - box.offsetWidth - 8)}px`;
+  box.style.top = `${event.clientY + 16 + box.offsetHeight > window.innerHeight ? event.clientY - box.offsetHeight - 8 : event.clientY + 16}px`;
+}
