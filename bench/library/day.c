@@ -57,6 +57,8 @@ static size_t answer_all(struct rusboqan *engine, struct text commands, struct t
 }
 
 int main(int argc, char **argv) {
+    /* A reply is one piece: a buffer would copy it once more. */
+    setvbuf(stdout, 0, _IONBF, 0);
     if (argc < 3 || argc > 4) stop("day AIRPORT COMMANDS [TIMES]");
     struct text airport = whole(argv[1]), commands = whole(argv[2]), room = {0, 0};
     long times = argc == 4 ? atol(argv[3]) : 1;

@@ -24,7 +24,7 @@ forward-ends airport s row found =
     let even : (2 * s) % 2 ≡ 0 = omega arith in
     ends-at airport (record { 0 = 2 * s }) row (ap (slice_get airport.segments) half ∙ found) ∙ rw even refl
 
-backward-exists : (airport : Airport) (s : ℕ) (row : SegmentRow) → slice_get airport.segments s ≡ Some row
+pub backward-exists : (airport : Airport) (s : ℕ) (row : SegmentRow) → slice_get airport.segments s ≡ Some row
     → arc_exists (layout_of airport) (record { 0 = 2 * s + 1 }) ≡ row.both
 backward-exists airport s row found =
     let half : (2 * s + 1) / 2 ≡ s = omega arith in

@@ -10,7 +10,7 @@ use taxi_base::Memory;
 
 /// A text of records in the making, seen by contracts as the text so far.
 #[derive(Drop)]
-pub(crate) struct RecordWriter {
+pub struct RecordWriter {
     writer: Writer<Vec<u8>>,
     // Where a record was cut off for want of memory, no other may follow it.
     lost: Option<Memory>,
@@ -31,7 +31,7 @@ impl Model for RecordWriter {
 
 impl RecordWriter {
     /// No record yet.
-    pub(crate) fn new(alloc: Global) -> RecordWriter
+    pub fn new(alloc: Global) -> RecordWriter
         ensures { result ≡ [] }
     {
         let writer = WriterBuilder::new()
@@ -41,7 +41,7 @@ impl RecordWriter {
     }
 
     /// Adds a record of these fields. After an error no other is added.
-    pub(crate) fn write(&mut self, fields: &[&[u8]]) -> Result<(), Memory>
+    pub fn write(&mut self, fields: &[&[u8]]) -> Result<(), Memory>
         ensures { OnOk result (self.new ≡ and_records self.old (map (λ f. f.now) fields.now ∷ [])) }
     {
         if let Some(memory) = self.lost {
@@ -56,7 +56,7 @@ impl RecordWriter {
     }
 
     /// The same of a record whose fields stand in a row.
-    pub(crate) fn write_row(&mut self, row: &ByteRecord) -> Result<(), Memory>
+    pub fn write_row(&mut self, row: &ByteRecord) -> Result<(), Memory>
         ensures { OnOk result (self.new ≡ and_records self.old (fields_of row.now ∷ [])) }
     {
         if let Some(memory) = self.lost {
@@ -71,7 +71,7 @@ impl RecordWriter {
     }
 
     /// The whole text.
-    pub(crate) fn finish(self) -> Result<Vec<u8>, Memory>
+    pub fn finish(self) -> Result<Vec<u8>, Memory>
         ensures { IfOk result (λ text. text.items ≡ self) }
     {
         match self.writer.into_inner() {

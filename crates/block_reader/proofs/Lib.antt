@@ -7,5 +7,8 @@ pub mod Spellings
 pub mod Words
 pub mod Places
 pub mod RefusalLaws
+pub mod RowLaws
+pub mod RouteLaws
+pub mod EntryLaws
 pub mod BlockLaws
 pub mod ReadLaws

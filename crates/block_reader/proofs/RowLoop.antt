@@ -1,7 +1,9 @@
 -- Reading rows one after the other, as a loop does.
 use Rattle.std.proofs.Common.{◌≡◌, ℕ, suc, ◌-◌, ◌+◌, ◌≤◌, ◌<◌, List, [], ◌∷◌, ◌++◌, Option, Some, None, refl, sym, ap, ◌∙◌, append_assoc, append-nil, arith}
-use Rattle.std.specs.Prelude.{option_map}
-use Rattle.block_reader.specs.Reading.{rows_at}
+use Rattle.std.specs.Prelude.{Err, option_map}
+use Rattle.block_reader.specs.declared.refused.BlockRefused.{BlockRefused}
+use Rattle.block_reader.specs.declared.refused.BlockRefused.TheVariants.{NotABlock, Memory}
+use Rattle.block_reader.specs.Reading.{rows_at, IsRead}
 
 module _ {X : Type 0} where
   -- what was read before, and what is still read
@@ -26,6 +28,11 @@ module _ {X : Type 0} where
         let k : count - i ≡ suc (count - (i + 1)) = omega arith in
         let one : with_front front (rows_at row (count - i) bytes) ≡ None = rw (k, h) refl in
         sym so_far ∙ one
+
+    -- whatever refused a row refuses all of them
+    pub refuses : {Y Z : Type 0} (view_row : Y → X × List ℕ) (view : Z → List X × List ℕ) (why : BlockRefused) → i < count → IsRead view_row (Err why) (row bytes) → IsRead view (Err why) total
+    refuses view_row view NotABlock lt h = fails lt h
+    refuses view_row view Memory lt h = tt
 
     pub is_done : count ≤ i → total ≡ Some (front, bytes)
     unfolding rows_at

@@ -88,6 +88,13 @@ after-spelling {X = X} {Good = Good} {text = text} {read = read} front own = rec
       (t.0, behind-takes front bytes a.0 a.1 ∙ ap (λ (r : List ℕ). front ++ r) t.1 ∙ sym (append_assoc front (text x) rest));
 }
 
+pub after-takes : {X : Type 0} (Good : X → Type 0) (text : X → List ℕ) {read : List ℕ → Option (X × List ℕ)} (front : List ℕ)
+    → ((bytes : List ℕ) (x : X) (rest : List ℕ) → read bytes ≡ Some (x, rest) → Good x × (front ++ bytes ≡ text x ++ rest)) → Takes Good text (after front read)
+after-takes {X = X} Good text {read = read} front own bytes x rest e =
+    let a = some-both (behind front bytes) read (x, rest) e in
+    let t = own a.0 x rest a.2 in
+    (t.0, behind-takes front bytes a.0 a.1 ∙ t.1)
+
 -- ---- other values
 
 -- a value that is made of what is read, and nothing lost

@@ -1,6 +1,6 @@
 -- The words of a block, each read as what it was written for.
 use Rattle.std.proofs.Common.{◌≡◌, ◌<◌, ◌≤◌, ◌^◌, ◌==◌, ◌∷◌, [], ℕ, Bool, true, false, cond, IsTrue, List, Option, Some, None, codes, decimal, refl, subst, arith, rules, inl, inr}
-use Rattle.std.specs.Prelude.{bytes_eq, ⊤}
+use Rattle.std.specs.Prelude.{bytes_eq, nat_lt, ⊤}
 use Rattle.std.specs.List.{list_all}
 use Rattle.std.specs.Char.{is_ascii_digit}
 use Rattle.std.proofs.lemmas.Bool.{cases_Bool}
@@ -10,10 +10,11 @@ use Rattle.std.proofs.lemmas.Slice.Eq.{bytes_eq-Decides}
 use Rattle.taxi_base.specs.declared.rows.FlightKind.{FlightKind}
 use Rattle.taxi_base.specs.declared.rows.FlightKind.TheVariants as kind
 use Rattle.taxi_base.specs.Words.{is_name, is_name_byte}
+use Rattle.taxi_text.specs.Commands.{is_batch_count}
 use Rattle.taxi_text.specs.Fields.{name_of}
 use Rattle.certificate.specs.Texts.{kind_word}
 use Rattle.certificate.specs.Printable.{IsShort, IsCount, IsName}
-use Rattle.block_reader.specs.Fields.{number_of, count_of, some_count_of, step_number_of, kind_of}
+use Rattle.block_reader.specs.Fields.{number_of, count_of, some_count_of, batch_count_of, total_of, step_number_of, kind_of}
 use Rattle.block_reader.proofs.Pieces.{IsPlain}
 use Rattle.block_reader.proofs.Decimals.{numerals, decimal-again, decimal-only}
 use Rattle.block_reader.proofs.Spellings.{some-both, IsWord}
@@ -52,7 +53,7 @@ count-word = record {
   plain = λ n small. decimal-plain n (omega (arith, small));
 }
 
-kept : {A : Type 0} (b : Bool) (x y : A) → cond b (Some x) None ≡ Some y → (b ≡ true) × (x ≡ y)
+pub kept : {A : Type 0} (b : Bool) (x y : A) → cond b (Some x) None ≡ Some y → (b ≡ true) × (x ≡ y)
 kept true x y e = (refl, cc)
 kept false x y e = absurd cc
 
@@ -70,6 +71,31 @@ some_count-word = record {
       let some : 0 < a.0 = (let k = b.0 in grind (arith, nat_tests, k)) in
       subst (λ (m : ℕ). ((0 < m) × IsCount m) × (w ≡ decimal m)) b.1 ((some, c.0), c.1);
   plain = λ n good. count-word.plain n good.1;
+}
+
+pub batch_count-word : IsWord (λ n. IsTrue (is_batch_count n)) decimal batch_count_of
+batch_count-word = record {
+  again = λ n good. rw (count-word.again n (few n good)) (let e : is_batch_count n ≡ true = good in rw e refl);
+  only = λ w n e.
+      let a = some-both (count_of w) _ n e in
+      let b = kept (is_batch_count a.0) a.0 n a.2 in
+      let c = count-word.only w a.0 a.1 in
+      subst (λ (m : ℕ). IsTrue (is_batch_count m) × (w ≡ decimal m)) b.1 (b.0, c.1);
+  plain = λ n good. count-word.plain n (few n good);
+} where
+  few : (n : ℕ) → IsTrue (is_batch_count n) → n < 10 ^ 10
+  few n good = grind (arith, nat_tests, good)
+
+pub total-word : IsWord (λ n. n < 2 ^ 32) decimal total_of
+total-word = record {
+  again = λ n small. rw (count-word.again n (omega (arith, small))) (let fits : nat_lt n (2 ^ 32) ≡ true = grind (arith, nat_tests, small) in rw fits refl);
+  only = λ w n e.
+      let a = some-both (count_of w) _ n e in
+      let b = kept (nat_lt a.0 (2 ^ 32)) a.0 n a.2 in
+      let c = count-word.only w a.0 a.1 in
+      let small : a.0 < 2 ^ 32 = (let k = b.0 in grind (arith, nat_tests, k)) in
+      subst (λ (m : ℕ). (m < 2 ^ 32) × (w ≡ decimal m)) b.1 (small, c.1);
+  plain = λ n small. count-word.plain n (omega (arith, small));
 }
 
 pub step_number-word : IsWord (λ n. (1 ≤ n) × (n ≤ 256)) decimal step_number_of

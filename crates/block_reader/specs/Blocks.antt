@@ -15,8 +15,10 @@ use Rattle.taxi_base.specs.Airport.{Airport}
 use Rattle.taxi_text.specs.Commands.{◌>>=◌}
 use Rattle.taxi_text.specs.Fields.{name_of}
 use Rattle.certificate.specs.declared.block.Block.{Block}
-use Rattle.certificate.specs.declared.block.Block.TheVariants.{Refused, Filed, Cancelled, Route, NoRoute, Windows, Occupancy, Timetable}
-use Rattle.block_reader.specs.Fields.{number_of, count_of, some_count_of, step_number_of, kind_of, class_of_word, segment_of_word, arc_of_word}
+use Rattle.certificate.specs.declared.block.Block.TheVariants.{Refused, Filed, Cancelled, Route, NoRoute, Windows, Occupancy, Timetable, Batch}
+use Rattle.certificate.specs.declared.entries.Entry.{Entry}
+use Rattle.certificate.specs.declared.entries.Entry.TheVariants as entry
+use Rattle.block_reader.specs.Fields.{number_of, count_of, some_count_of, batch_count_of, total_of, step_number_of, kind_of, class_of_word, segment_of_word, arc_of_word}
 use Rattle.block_reader.specs.Reading.{after, word_then, word_last, made, either, rows_at}
 
 -- ---- rows
@@ -125,6 +127,31 @@ occupancy_at airport = of_segment_at airport Occupancy (held_at airport)
 unfoldable pub timetable_at : Airport → List ℕ → Option (Block × List ℕ)
 timetable_at airport = counted_at Timetable (flight_at airport)
 
+-- ---- a batch, behind its first word
+
+-- a route, or that there is none
+unfoldable pub found_at : Airport → List ℕ → Option (Block × List ℕ)
+found_at airport = either (codes "route ") (route_at airport) (after (codes "no-route ") (no_route_at airport))
+
+-- the entry of a flight that a block tells of, where a route is its own
+abbrev pub entry_of : List ℕ → Block → Option (List ℕ × Entry)
+entry_of name (Route flight second steps labels) = if bytes_eq flight name then Some (name, entry.Route second steps labels) else None
+entry_of name (NoRoute labels) = Some (name, entry.NoRoute labels)
+entry_of name _ = None
+
+-- a line that names a flight, and what is told of it
+unfoldable pub entry_at : Airport → List ℕ → Option ((List ℕ × Entry) × List ℕ)
+entry_at airport bytes =
+    after (codes "next ") (word_last name_of) bytes >>= (λ name.
+    found_at airport name.1 >>= (λ told.
+    option_map (λ of_flight. (of_flight, told.1)) (entry_of name.0 told.0)))
+
+-- how many entries, their total, and so many entries
+unfoldable pub batch_at : Airport → List ℕ → Option (Block × List ℕ)
+batch_at airport bytes =
+    word_then batch_count_of (word_last total_of) bytes >>= (λ head.
+    option_map (λ entries. (Batch head.0.1 entries.0, entries.1)) (rows_at (entry_at airport) head.0.0 head.1))
+
 -- ---- any block
 
 unfoldable pub block_at : Airport → List ℕ → Option (Block × List ℕ)
@@ -136,4 +163,5 @@ block_at airport =
     (either (codes "cancelled ") cancelled_at
     (either (codes "windows ") (windows_at airport)
     (either (codes "occupancy ") (occupancy_at airport)
-    (after (codes "timetable ") (timetable_at airport))))))))
+    (either (codes "timetable ") (timetable_at airport)
+    (after (codes "batch ") (batch_at airport)))))))))

@@ -1,5 +1,5 @@
 -- What single words of a block mean.
-use Rattle.std.specs.Prelude.{ℕ, Bool, not, ◌&&◌, ◌||◌, ◌==◌, nat_lt, nat_le, List, length, slice_index_or, Option, Some, None, codes, bytes_eq, if◌then◌else◌}
+use Rattle.std.specs.Prelude.{ℕ, Bool, not, ◌&&◌, ◌||◌, ◌==◌, ◌^◌, nat_lt, nat_le, List, length, slice_index_or, Option, Some, None, codes, bytes_eq, if◌then◌else◌}
 use Rattle.std.specs.List.{list_all}
 use Rattle.std.specs.Char.{is_ascii_digit}
 use Rattle.std.specs.Str.Parse.{digits_value}
@@ -9,7 +9,7 @@ use Rattle.taxi_base.specs.declared.numbers.Arc.{Arc}
 use Rattle.taxi_base.specs.declared.rows.FlightKind.{FlightKind}
 use Rattle.taxi_base.specs.declared.rows.FlightKind.TheVariants as kind
 use Rattle.taxi_base.specs.Airport.{Airport, class_named, segment_named, arc_named}
-use Rattle.taxi_text.specs.Commands.{◌>>=◌}
+use Rattle.taxi_text.specs.Commands.{◌>>=◌, is_batch_count}
 use Rattle.taxi_text.specs.Fields.{name_of, arc_word_of}
 
 -- one to so many digits, the first of them no 0 where there are more
@@ -56,6 +56,13 @@ arc_of_word airport word = arc_word_of word >>= (λ named. arc_named airport nam
 -- a count that is not 0
 abbrev pub some_count_of : List ℕ → Option ℕ
 some_count_of word = count_of word >>= (λ n. if n == 0 then None else Some n)
+
+-- how many requests a batch has, and what they cost together
+abbrev pub batch_count_of : List ℕ → Option ℕ
+batch_count_of word = count_of word >>= (λ n. if is_batch_count n then Some n else None)
+
+abbrev pub total_of : List ℕ → Option ℕ
+total_of word = count_of word >>= (λ n. if nat_lt n (2 ^ 32) then Some n else None)
 
 -- the number of a step, from 1 to 256
 abbrev pub step_number_of : List ℕ → Option ℕ

@@ -1,7 +1,7 @@
 //! The words of a block, read at the front of the bytes.
 ghost use Rattle.std.specs.Prelude.{◌≡◌, ◌<◌, ◌≤◌, ◌^◌, ◌*◌, ◌==◌, bytes_eq, IfSome, Some, length, position};
 ghost use Rattle.taxi_text.specs.Fields.{name_of};
-ghost use Rattle.block_reader.specs.Fields.{digits_of, decimal_of, number_of, count_of, some_count_of, step_number_of, kind_of, class_of_word, segment_of_word};
+ghost use Rattle.block_reader.specs.Fields.{digits_of, decimal_of, number_of, count_of, some_count_of, batch_count_of, total_of, step_number_of, kind_of, class_of_word, segment_of_word};
 ghost use Rattle.block_reader.specs.Fronts.{IsSeparator, IsFrontOf, worth, front_number};
 ghost use Rattle.block_reader.specs.Reading.{behind, begins_with, word_at, field_at, Finds};
 
@@ -270,6 +270,26 @@ pub(crate) fn some_count_field(last: u8, bytes: &[u8]) -> Option<(u64, &[u8])>
         return None;
     }
     Some((count, rest))
+}
+
+// How many entries a batch has, from 2 to 6.
+pub(crate) fn batch_count_field(last: u8, bytes: &[u8]) -> Option<(u64, &[u8])>
+    ensures { Finds (λ x. (x.0, x.1.now)) result (field_at batch_count_of last bytes.now) }
+{
+    let (count, rest) = count_field(last, bytes)?;
+    if count < 2 || count > 6 {
+        return None;
+    }
+    Some((count, rest))
+}
+
+// The total of a batch, of 32 bits.
+pub(crate) fn total_field(last: u8, bytes: &[u8]) -> Option<(u32, &[u8])>
+    ensures { Finds (λ x. (x.0, x.1.now)) result (field_at total_of last bytes.now) }
+{
+    let (total, rest) = count_field(last, bytes)?;
+    let total = u32::try_from(total).ok()?;
+    Some((total, rest))
 }
 
 // The number of a step, from 1 to 256.

@@ -2,6 +2,7 @@
 #![tactic(auto)]
 
 mod arcs;
+mod entries;
 mod fields;
 mod laws;
 mod reader;

@@ -5,6 +5,7 @@ ghost use Rattle.block_reader.specs.Read.{BeginsWith, IsBlockRead, Reads};
 ghost use Rattle.block_reader.specs.Fields.{count_of, segment_of_word};
 ghost use Rattle.block_reader.specs.Blocks.{refused_at, filed_at, cancelled_at, route_head_at, route_at, no_route_at, windows_at, occupancy_at, timetable_at, block_at};
 
+use crate::entries::read_batch;
 use crate::fields::{
     behind, count_field, name_field, number_field, segment_field, some_count_field,
 };
@@ -84,7 +85,7 @@ fn route_head(bytes: &[u8]) -> Option<((Name, (Time, (u64, u64))), &[u8])>
 }
 
 #[tactic(auto, unfolding(crate::specs::Blocks::route_at))]
-fn read_route<'a>(
+pub(crate) fn read_route<'a>(
     alloc: Global,
     airport: &Airport,
     bytes: &'a [u8],
@@ -106,7 +107,7 @@ fn read_route<'a>(
 }
 
 #[tactic(auto, unfolding(crate::specs::Blocks::no_route_at))]
-fn read_no_route<'a>(
+pub(crate) fn read_no_route<'a>(
     alloc: Global,
     airport: &Airport,
     bytes: &'a [u8],
@@ -202,8 +203,11 @@ fn read_any<'a>(
     if let Some(rest) = behind(b"occupancy ", bytes) {
         return read_occupancy(alloc, airport, rest);
     }
-    match behind(b"timetable ", bytes) {
-        Some(rest) => read_timetable(alloc, airport, rest),
+    if let Some(rest) = behind(b"timetable ", bytes) {
+        return read_timetable(alloc, airport, rest);
+    }
+    match behind(b"batch ", bytes) {
+        Some(rest) => read_batch(alloc, airport, rest),
         None => Err(BlockRefused::NotABlock),
     }
 }

@@ -1,9 +1,11 @@
 -- What the grammar promises of a command that was read.
 use Rattle.std.proofs.Common.{ℕ, ◌==◌, Bool, cond, List, [], ◌∷◌, length, drop, IsTrue, Option, Some, None, codes, bytes_eq, inl, inr}
-use Rattle.std.specs.Prelude.{IfSome}
+use Rattle.std.specs.Prelude.{IfSome, All}
 use Rattle.std.proofs.lemmas.Bool.{cond_both, cases_Bool}
+use Rattle.std.proofs.lemmas.List.Elements.{All-nil, All-cons}
+use Rattle.taxi_text.specs.declared.command.BatchRequest.{BatchRequest}
 use Rattle.taxi_text.specs.declared.command.Command.{Command}
-use Rattle.taxi_text.specs.declared.command.Command.TheVariants.{Cancel, Reroute, Divert, Windows, Occupancy, Timetable, Work, WorkDone}
+use Rattle.taxi_text.specs.declared.command.Command.TheVariants.{Cancel, Reroute, Divert, Windows, Occupancy, Timetable, Work, WorkDone, Batch}
 use Rattle.taxi_text.specs.Words.{words_of}
 use Rattle.taxi_text.specs.Fields.{name_of, is_number, number_of}
 use Rattle.taxi_text.proofs.Numbers.{numerals, is_number-parts}
@@ -11,8 +13,8 @@ use Rattle.std.specs.Str.Parse.{digits_value}
 use Rattle.std.proofs.lemmas.Str.Parse.{digits_value_short}
 use Rattle.taxi_base.specs.Words.{is_name}
 use Rattle.certificate.specs.Printable.{IsShort, IsName}
-use Rattle.certificate.specs.Asked.{IsInGrammar}
-use Rattle.taxi_text.specs.Commands.{◌>>=◌, first_as, the_end, asked_of, steps_of, is_step_count, route_of, filed_steps_of, file_of, up_to, names_of, is_choice_count, choice_of, asked_any_of, work_of, work_done_of, unlisted_of, command_of_words, command_of}
+use Rattle.certificate.specs.Asked.{asked_in, IsAskedInGrammar, IsInGrammar}
+use Rattle.taxi_text.specs.Commands.{◌>>=◌, first_as, the_end, asked_of, steps_of, is_step_count, route_of, filed_steps_of, file_of, up_to, names_of, is_choice_count, choice_of, asked_any_of, request_of, requests_of, is_batch_count, batch_of, work_of, work_done_of, unlisted_of, command_of_words, command_of}
 
 module _ {A B : Type 0} (P : B → Type 0) (f : A → Option B) where
   bind-each : (o : Option A) → ((x : A) → IfSome (f x) P) → IfSome (o >>= f) P
@@ -55,7 +57,7 @@ bind-number : (f : ℕ → Option Command) (words : List (List ℕ)) → ((n : �
 bind-number f words each = bind-where IsInGrammar f IsShort (first_as number_of words) (first-number words) each
 
 -- of what is asked for a new flight
-asked-so : (words : List (List ℕ)) → IfSome (asked_of words) (λ a. IsName a.flight × IsShort a.time × IsShort a.slack)
+asked-so : (words : List (List ℕ)) → IfSome (asked_of words) IsAskedInGrammar
 asked-so words =
     bind-where (λ a. IsName a.flight × IsShort a.time × IsShort a.slack) _ IsName (first_as name_of words) (first-name words) (λ flight name.
     bind-each (λ a. IsName a.flight × IsShort a.time × IsShort a.slack) _ (first_as name_of (drop 1 words)) (λ class.
@@ -64,6 +66,33 @@ asked-so words =
     bind-where (λ a. IsName a.flight × IsShort a.time × IsShort a.slack) _ IsShort (first_as number_of (drop 1 (drop 1 (drop 1 (drop 1 words))))) (first-number (drop 1 (drop 1 (drop 1 (drop 1 words))))) (λ time short.
     bind-where (λ a. IsName a.flight × IsShort a.time × IsShort a.slack) _ IsShort (first_as number_of (drop 1 (drop 1 (drop 1 (drop 1 (drop 1 words)))))) (first-number (drop 1 (drop 1 (drop 1 (drop 1 (drop 1 words)))))) (λ slack few.
     if_some (λ a. IsName a.flight × IsShort a.time × IsShort a.slack) (length (drop 1 (drop 1 (drop 1 (drop 1 (drop 1 (drop 1 words)))))) == 0) _ (λ _. (name, short, few))))))))
+
+-- of the requests of a batch
+request-so : (verb : List ℕ) (words : List (List ℕ)) → IfSome (request_of verb words) (λ r. IsAskedInGrammar (asked_in r))
+request-so verb words =
+    elim (cases_Bool (bytes_eq verb (codes "arrival"))) [
+      | inl e ↦ rw e (bind-where (λ r. IsAskedInGrammar (asked_in r)) _ IsAskedInGrammar (asked_of words) (asked-so words) (λ a so. so))
+      | inr e ↦ rw e (
+          elim (cases_Bool (bytes_eq verb (codes "departure"))) [
+            | inl e ↦ rw e (bind-where (λ r. IsAskedInGrammar (asked_in r)) _ IsAskedInGrammar (asked_of words) (asked-so words) (λ a so. so))
+            | inr e ↦ rw e tt
+          ]
+          )
+    ]
+
+abbrev AreInGrammar : List BatchRequest → Type 0
+AreInGrammar requests = All (λ r. IsAskedInGrammar (asked_in r)) requests
+
+requests-so : (words : List (List ℕ)) → IfSome (requests_of words) AreInGrammar
+requests-so [] = All-nil (λ r. IsAskedInGrammar (asked_in r))
+requests-so (verb ∷ flight ∷ class ∷ from ∷ to ∷ time ∷ slack ∷ words) =
+    bind-where AreInGrammar _ (λ r. IsAskedInGrammar (asked_in r)) (request_of verb (flight ∷ class ∷ from ∷ to ∷ time ∷ slack ∷ [])) (request-so verb (flight ∷ class ∷ from ∷ to ∷ time ∷ slack ∷ []))
+    (λ request so. bind-where AreInGrammar _ AreInGrammar (requests_of words) (requests-so words) (λ requests are. All-cons (λ r. IsAskedInGrammar (asked_in r)) request requests so are))
+requests-so _ = tt
+
+batch-count : (words : List (List ℕ)) → IfSome (batch_of words) IsInGrammar
+batch-count words =
+    bind-where IsInGrammar _ AreInGrammar (requests_of words) (requests-so words) (λ requests are. if_some IsInGrammar (is_batch_count (length requests)) (Batch requests) (λ count. (are, count)))
 
 ended : (command : Command) (words : List (List ℕ)) → IsInGrammar command → IfSome (the_end command words) IsInGrammar
 ended command words holds = if_some IsInGrammar (length words == 0) command (λ _. holds)
@@ -144,7 +173,7 @@ unlisted-count verb words =
           )
     ]
 
--- The name of a flight in a command is a name, and a route given by hand has 1 to 256 steps.
+-- What is read keeps what the grammar promises.
 pub command_of-in_grammar : (line : List ℕ) → IfSome (command_of line) IsInGrammar
 unfolding command_of
 command_of-in_grammar line = of_words (words_of line) where
@@ -158,7 +187,12 @@ command_of-in_grammar line = of_words (words_of line) where
           | inr e ↦ rw e (
               elim (cases_Bool (bytes_eq verb (codes "departure-any"))) [
                 | inl e ↦ rw e (bind-where IsInGrammar _ (λ a. IsName a.flight × IsShort a.time × IsShort a.slack × IsTrue (is_choice_count (length a.nodes))) (asked_any_of words) (asked_any-so words) (λ a so. so))
-                | inr e ↦ rw e (unlisted-count verb words)
+                | inr e ↦ rw e (
+                    elim (cases_Bool (bytes_eq verb (codes "batch"))) [
+                      | inl e ↦ rw e (batch-count words)
+                      | inr e ↦ rw e (unlisted-count verb words)
+                    ]
+                    )
               ]
               )
         ]

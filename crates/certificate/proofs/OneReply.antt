@@ -1,10 +1,8 @@
 -- A line has one due reply: what carries a command out is one block and one state.
-use Rattle.std.proofs.Common.{◌≡◌, ℕ, ◌+◌, ◌-◌, ◌≤◌, max, ◌&&◌, Bool, true, false, nat_lt, List, length, IsFalse, Option, Some, None, refl, sym, ◌∙◌, ap, subst}
+use Rattle.std.proofs.Common.{◌≡◌, ℕ, ◌+◌, ◌-◌, max, List, Option, Some, None, sym, ◌∙◌, ap, subst}
 use Rattle.std.specs.Prelude.{MatchOption}
-use Rattle.std.proofs.lemmas.Bool.{le-ltb}
 use Rattle.taxi_base.specs.declared.numbers.Class.{Class}
 use Rattle.taxi_base.specs.declared.numbers.Node.{Node}
-use Rattle.taxi_base.specs.declared.numbers.Segment.{Segment}
 use Rattle.taxi_base.specs.declared.rows.Step.{Step}
 use Rattle.taxi_base.specs.declared.answers.Flight.{Flight}
 use Rattle.taxi_base.specs.declared.answers.Found.{Found}
@@ -13,15 +11,14 @@ use Rattle.taxi_base.specs.declared.answers.Request.TheVariants as request
 use Rattle.taxi_base.specs.declared.answers.Refusal.{Refusal}
 use Rattle.taxi_base.specs.declared.answers.Refusal.TheVariants as refusal
 use Rattle.taxi_base.specs.Airport.{Airport, IsWellFormed, layout_of, class_named, node_named, segment_named}
-use Rattle.taxi_base.specs.Windows.{Hold, is_free}
-use Rattle.taxi_base.specs.Walks.{Conditions, free_among, conditions_among, LeavesNodeWithin, ReachesNodeWithin, Resumes}
+use Rattle.taxi_base.specs.Windows.{Hold}
+use Rattle.taxi_base.specs.Walks.{Conditions, conditions_among, LeavesNodeWithin, ReachesNodeWithin, Resumes}
 use Rattle.taxi_base.specs.Labels.{AnswersArrival}
-use Rattle.taxi_base.specs.State.{State, with_flight, with_route, without, holds_in, step_begun, steps_done}
+use Rattle.taxi_base.specs.State.{State, with_route, without, holds_in, step_begun, steps_done}
 use Rattle.taxi_base.specs.Again.{retargeted, IsTarget, after_steps, AnswersAgain}
-use Rattle.taxi_base.proofs.AirportLaws.{seconds-range}
 use Rattle.taxi_base.specs.Reports.{AreHeldRows}
 use Rattle.taxi_base.proofs.ReportLaws.{AreHeldRows-same}
-use Rattle.taxi_base.proofs.LabelLaws.{HasOneFirstStep, HasOneFirstStep-leaves, HasOneFirstStep-resumes}
+use Rattle.taxi_base.proofs.LabelLaws.{HasOneFirstStep-resumes}
 use Rattle.taxi_base.specs.declared.answers.Chosen.{Chosen}
 use Rattle.taxi_base.proofs.ChoiceLaws.{AreNodes, AnswersArrivalChoice-same, AnswersDepartureChoice-same}
 use Rattle.taxi_base.proofs.AnswerLaws.{AnswersArrival-same, AnswersDeparture-same}
@@ -29,45 +26,21 @@ use Rattle.taxi_text.specs.declared.command.Command.{Command}
 use Rattle.taxi_text.specs.declared.command.Command.TheVariants as command
 use Rattle.taxi_text.specs.Commands.{command_of}
 use Rattle.certificate.specs.declared.block.Block.{Block}
-use Rattle.certificate.specs.Asked.{route_filed, party_of, arrival_named, departure_named, AnswersRequest, Choice, arrival_any, departure_any, nodes_of, arrival_any_named, departure_any_named, AnswersChoice}
+use Rattle.certificate.specs.Asked.{route_filed, party_of, arrival_named, departure_named, Choice, arrival_any, departure_any, nodes_of, arrival_any_named, departure_any_named, AnswersChoice}
 use Rattle.certificate.specs.Refusals.{first_refusal}
-use Rattle.certificate.specs.CarriedOut.{Reply, IsOf, filed_reply, found_reply, routed_flight, IsRouted, chosen_reply, IsRoutedToOne, IsRoutedAgain, shut_reply, opened_reply, cancelled_reply, windows_reply, occupancy_reply, timetable_reply, IsCarriedOut}
+use Rattle.certificate.specs.CarriedOut.{IsOf, filed_reply, found_reply, IsRoutedAs, IsRouted, chosen_reply, IsRoutedToOne, IsRoutedAgain, shut_reply, opened_reply, cancelled_reply, windows_reply, occupancy_reply, timetable_reply, IsCarriedOut}
 use Rattle.certificate.specs.Replies.{refused, IsDueTo, IsDue}
 use Rattle.certificate.proofs.ChoiceNames.{arrival_any-is, departure_any-is}
-
--- what is found under one name is one thing
-one-some : {X : Type 0} (o : Option X) (x y : X) → o ≡ Some x → o ≡ Some y → x ≡ y
-one-some o x y a b = same x y (sym a ∙ b) where
-  same : {X : Type 0} (x y : X) → ◌≡◌ {A = Option X} (Some x) (Some y) → x ≡ y
-  same x y e = cc
-
--- no second from the horizon on is free
-free_among-past : (airport : Airport) (holds : List Hold) (s : Segment) (t : ℕ) → airport.horizon ≤ t → IsFalse (free_among airport holds s t)
-free_among-past airport holds s t past =
-    go (nat_lt s.0 (length airport.segments)) (is_free airport.conflicts airport.horizon holds s t) (rw (le-ltb t airport.horizon past) refl)
-  where
-    go : (a b : Bool) → IsFalse b → IsFalse (a && b)
-    go true b e = e
-    go false b e = refl
+use Rattle.certificate.proofs.RoutedLaws.{one-some, one_first_step, AreSame, of_one, of_same, IsRoutedAs-same}
+use Rattle.certificate.proofs.OrderLaws.{IsBatched-same}
 
 module _ (airport : Airport) (well : IsWellFormed airport) (class : Class) (holds : List Hold) where
   abbrev c : Conditions
   c = conditions_among airport class holds
 
-  one_first_step : (node : Node) (earliest latest : ℕ) → HasOneFirstStep c (LeavesNodeWithin (layout_of airport) node earliest latest)
-  one_first_step node earliest latest =
-      HasOneFirstStep-leaves c (layout_of airport) node earliest latest (free_among-past airport holds) (λ s k e. (seconds-range airport class s k well e).0)
-
-  AnswersRequest-same : (request : Request) (f g : Found) → AnswersRequest c request f → AnswersRequest c request g → f ≡ g
-  AnswersRequest-same request.Filed f g a b = absurd a
-  AnswersRequest-same (request.Arrival from to time hold) f g a b =
-      AnswersArrival-same c (LeavesNodeWithin (layout_of airport) from time (time + hold)) to (one_first_step from time (time + hold)) f g a b
-  AnswersRequest-same (request.Departure from to time queue) f g a b =
-      AnswersDeparture-same c from (ReachesNodeWithin (layout_of airport) to (time - queue) time) f g a b
-
   AnswersChoice-same : (choice : Choice) → AreNodes airport (nodes_of choice) → (f g : Chosen) → AnswersChoice c choice f → AnswersChoice c choice g → f ≡ g
   AnswersChoice-same (arrival_any from to time hold) are f g a b =
-      AnswersArrivalChoice-same c (LeavesNodeWithin (layout_of airport) from time (time + hold)) to well are (one_first_step from time (time + hold)) f g a b
+      AnswersArrivalChoice-same c (LeavesNodeWithin (layout_of airport) from time (time + hold)) to well are (one_first_step airport well class holds from time (time + hold)) f g a b
   AnswersChoice-same (departure_any from to time queue) are f g a b = AnswersDepartureChoice-same c from to (time - queue) time well are f g a b
 
   AnswersAgain-same : (old : List Step) (time : ℕ) (target : Node) (request : Request) (f g : Found)
@@ -83,36 +56,24 @@ module _ (airport : Airport) (well : IsWellFormed airport) (class : Class) (hold
     GoesOn begun h = (rest : Found) × (h ≡ after_steps (steps_done time old) rest) × AnswersArrival c (Resumes begun time) target rest
 
     go : (o : Option Step) → MatchOption o (AnswersArrival c Leaves target f) (λ begun. GoesOn begun f) → MatchOption o (AnswersArrival c Leaves target g) (λ begun. GoesOn begun g) → f ≡ g
-    go None a b = AnswersArrival-same c Leaves target (one_first_step from (max asked time) (asked + hold)) f g a b
+    go None a b = AnswersArrival-same c Leaves target (one_first_step airport well class holds from (max asked time) (asked + hold)) f g a b
     go (Some begun) a b =
         let rests : a.0 ≡ b.0 = AnswersArrival-same c (Resumes begun time) target (HasOneFirstStep-resumes c begun time) a.0 b.0 a.2 b.2 in
         a.1 ∙ ap (after_steps (steps_done time old)) rests ∙ sym b.1
 
 -- ---- a command is carried out in one way
 
-abbrev pub AreSame : Block → State → Block → State → Type 0
-AreSame block after other others = (block ≡ other) × (after ≡ others)
-
 module _ (block : Block) (after : State) (other : Block) (others : State) where
-  of_one : (reply : Reply) → IsOf reply block after → IsOf reply other others → AreSame block after other others
-  of_one reply a b = (a.0 ∙ sym b.0, a.1 ∙ sym b.1)
-
-  of_same : (p q : Reply) → p ≡ q → IsOf p block after → IsOf q other others → AreSame block after other others
-  of_same p q same a b = of_one p a (subst (λ (r : Reply). IsOf r other others) (sym same) b)
-
   module _ (airport : Airport) (state : State) where
-    pub IsRouted-same : IsWellFormed airport → (name class : List ℕ) (asked : Option Request)
+    IsRouted-same : IsWellFormed airport → (name class : List ℕ) (asked : Option Request)
         → IsRouted airport state name class asked block after → IsRouted airport state name class asked other others → AreSame block after other others
     IsRouted-same well name class asked a b =
         let classes : a.class ≡ b.class = one-some (class_named airport class) a.class b.class a.class_known b.class_known in
         let requests : a.request ≡ b.request = one-some asked a.request b.request a.nodes_known b.nodes_known in
-        let answers : AnswersRequest (conditions_among airport a.class (holds_in airport state)) a.request b.found =
-        subst (λ r. AnswersRequest (conditions_among airport a.class (holds_in airport state)) r b.found) (sym requests)
-        (subst (λ k. AnswersRequest (conditions_among airport k (holds_in airport state)) b.request b.found) (sym classes) b.answers) in
-        let founds : a.found ≡ b.found = AnswersRequest-same airport well a.class (holds_in airport state) a.request a.found b.found a.answers answers in
-        of_same (found_reply state name a.request (λ steps. with_flight (routed_flight name a.class a.request steps) state) a.found)
-        (found_reply state name b.request (λ steps. with_flight (routed_flight name b.class b.request steps) state) b.found)
-        (λ i. found_reply state name (requests i) (λ steps. with_flight (routed_flight name (classes i) (requests i) steps) state) (founds i)) a.reply b.reply
+        let routed : IsRoutedAs airport state name a.class a.request other others =
+        subst (λ r. IsRoutedAs airport state name a.class r other others) (sym requests)
+        (subst (λ k. IsRoutedAs airport state name k b.request other others) (sym classes) b.routed) in
+        IsRoutedAs-same airport state well name a.class a.request a.routed routed
 
     -- where the nodes of what is asked are the airport's
     pub IsRoutedToOne-same : IsWellFormed airport → (name class : List ℕ) (asked : Option Choice) → ((choice : Choice) → asked ≡ Some choice → AreNodes airport (nodes_of choice))
@@ -177,6 +138,7 @@ module _ (block : Block) (after : State) (other : Block) (others : State) where
         IsRoutedToOne-same well asked.flight asked.class (arrival_any_named airport asked) (λ choice named. (arrival_any-is airport asked choice named).exist) a b
     IsCarriedOut-same well (command.DepartureAny asked) a b =
         IsRoutedToOne-same well asked.flight asked.class (departure_any_named airport asked) (λ choice named. (departure_any-is airport asked choice named).exist) a b
+    IsCarriedOut-same well (command.Batch requests) a b = IsBatched-same airport state well requests a b
 
     IsDueTo-same : IsWellFormed airport → (c : Command) → IsDueTo airport state c block after → IsDueTo airport state c other others → AreSame block after other others
     IsDueTo-same well c a b = go (first_refusal airport state c) a b where

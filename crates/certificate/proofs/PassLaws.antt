@@ -1,5 +1,5 @@
 -- The block that is due passes, and what passes is the best.
-use Rattle.std.proofs.Common.{◌≡◌, ℕ, ◌<◌, Bool, true, false, List, [], ◌∷◌, length, inl, inr, Option, Some, None, refl, sym, ap, subst, arith}
+use Rattle.std.proofs.Common.{◌≡◌, ◌∙◌, ℕ, ◌<◌, Bool, true, false, List, [], ◌∷◌, length, inl, inr, Option, Some, None, refl, sym, ap, subst, arith}
 use Rattle.std.specs.Prelude.{MatchOption, IsTrue, Contains}
 use Rattle.std.proofs.lemmas.Bool.{and_parts, ltb-true}
 use Rattle.std.proofs.lemmas.List.Elements.{All-contains}
@@ -31,129 +31,37 @@ use Rattle.walk_labels.specs.Places.{AreFit}
 use Rattle.walk_labels.proofs.FitConditions.{among_fit}
 use Rattle.certificate.specs.declared.block.Block.{Block}
 use Rattle.certificate.specs.declared.block.Block.TheVariants.{Refused, Filed, Cancelled, Route, NoRoute, Windows, Occupancy, Timetable}
-use Rattle.certificate.specs.declared.rule.Rule.{Rule}
-use Rattle.certificate.specs.declared.rule.Rule.TheVariants as rule
-use Rattle.certificate.specs.Asked.{arrival_named, departure_named, AnswersRequest, IsInGrammar, Choice, nodes_of, request_for, arrival_any_named, departure_any_named, AnswersChoice}
+use Rattle.certificate.specs.Asked.{arrival_named, departure_named, IsInGrammar, Choice, nodes_of, request_for, arrival_any_named, departure_any_named, AnswersChoice}
 use Rattle.certificate.specs.Refusals.{first_refusal}
-use Rattle.certificate.specs.CarriedOut.{Reply, IsOf, second_of, found_reply, routed_flight, IsRouted, chosen_reply, IsRoutedToOne, IsRoutedAgain, windows_among, IsCarriedOut}
+use Rattle.certificate.specs.CarriedOut.{IsOf, second_of, found_reply, routed_flight, IsRouted, chosen_reply, IsRoutedToOne, IsRoutedAgain, windows_among, IsCarriedOut}
 use Rattle.certificate.specs.Replies.{refused, IsDueTo, IsDue, IsReply, as_due, no_memory}
 use Rattle.certificate.specs.Sought.{UnderWay, Sought, sought_new, sought_again, sought_by_class, sought_any, sought_to_one, sought_of, sought_by, search_of, IsWalkOnFor}
-use Rattle.certificate.specs.TableRules.{KeepsTable}
 use Rattle.certificate.specs.Turns.{told_in, after_told}
-use Rattle.certificate.specs.Passes.{IsFormOf, KeepsReply, KeepsWalk, OfTable, KeepsSought, IsAfter, IsPassed}
-use Rattle.certificate.proofs.TurnLaws.{plain-keeps, one-keeps, after-is}
+use Rattle.certificate.specs.Passes.{KeepsReply, IsAfter, IsPassed}
+use Rattle.certificate.proofs.BatchPasses.{batch-passes}
+use Rattle.certificate.proofs.SoughtPasses.{PassesSought, sought-keeps, passes-by, new-fit, as-passes}
+use Rattle.certificate.proofs.TurnLaws.{IsAlone, asked-alone, no_turns-after, plain-keeps, one-keeps, after-is}
 use Rattle.certificate.proofs.FlightLaws.{flight_named-there}
 use Rattle.certificate.proofs.AgainRefusals.{reroute-may, divert-before}
-use Rattle.certificate.proofs.FoundLaws.{found-meets, best-one, second-retargeted}
-use Rattle.certificate.proofs.TablesKept.{HasKeptTable, new-table, choice-table, again-table, IsBefore}
+use Rattle.certificate.proofs.FoundLaws.{best-one, second-retargeted}
+use Rattle.certificate.proofs.TablesKept.{HasKeptTable, choice-table, again-table, IsBefore}
 use Rattle.certificate.proofs.ChoiceNames.{IsChoiceOf, arrival_any-is, departure_any-is, meets-one, met-reaches, second-same, chosen-among, chosen-meets}
 use Rattle.certificate.proofs.GrammarLaws.{command_of-in_grammar}
 
--- ---- what passes where a walk is sought
-
-pub record PassesSought (s : Sought) (block : Block) (after : State) : Type 0 where
-  pub form : IsFormOf s block
-  pub walk : KeepsWalk s block
-  pub table : OfTable (KeepsTable s.conditions) s block
-  pub after_it : after ≡ after_told s block
-
--- ---- the rules for a table, at once and one after the other
-
-match-weaker : {X : Type 0} (o : Option X) (P Q : X → Type 0) → ((x : X) → P x → Q x) → MatchOption o ⊥ P → MatchOption o ⊥ Q
-match-weaker None P Q weaker h = h
-match-weaker (Some x) P Q weaker h = weaker x h
-
-match-four : {X : Type 0} (o : Option X) (P Q R S : X → Type 0) → MatchOption o ⊥ P → MatchOption o ⊥ Q → MatchOption o ⊥ R → MatchOption o ⊥ S
-    → MatchOption o ⊥ (λ x. P x × Q x × R x × S x)
-match-four None P Q R S p q r s = p
-match-four (Some x) P Q R S p q r s = (p, q, r, s)
-
--- the block of a search
-sought-keeps : (s : Sought) (block : Block) → IsFormOf s block → KeepsWalk s block → OfTable (KeepsTable s.conditions) s block → (r : Rule) → KeepsSought r s block
-sought-keeps s block form walk table rule.Reply = tt
-sought-keeps s block form walk table rule.Walk = walk
-sought-keeps s (Route name second steps labels) form walk table rule.Rows = match-weaker (search_of s.request s.others s.under_way) _ _ (λ x k. k.rows_kept) table
-sought-keeps s (Route name second steps labels) form walk table rule.Start = match-weaker (search_of s.request s.others s.under_way) _ _ (λ x k. k.start_kept) table
-sought-keeps s (Route name second steps labels) form walk table rule.Step = match-weaker (search_of s.request s.others s.under_way) _ _ (λ x k. k.step_kept) table
-sought-keeps s (Route name second steps labels) form walk table rule.Target = match-weaker (search_of s.request s.others s.under_way) _ _ (λ x k. k.target_kept) table
-sought-keeps s (NoRoute labels) form walk table rule.Rows = match-weaker (search_of s.request s.others s.under_way) _ _ (λ x k. k.rows_kept) table
-sought-keeps s (NoRoute labels) form walk table rule.Start = match-weaker (search_of s.request s.others s.under_way) _ _ (λ x k. k.start_kept) table
-sought-keeps s (NoRoute labels) form walk table rule.Step = match-weaker (search_of s.request s.others s.under_way) _ _ (λ x k. k.step_kept) table
-sought-keeps s (NoRoute labels) form walk table rule.Target = match-weaker (search_of s.request s.others s.under_way) _ _ (λ x k. k.target_kept) table
-sought-keeps s (Refused why) form walk table rule.Rows = absurd form
-sought-keeps s (Refused why) form walk table rule.Start = absurd form
-sought-keeps s (Refused why) form walk table rule.Step = absurd form
-sought-keeps s (Refused why) form walk table rule.Target = absurd form
-sought-keeps s (Filed name start end) form walk table rule.Rows = absurd form
-sought-keeps s (Filed name start end) form walk table rule.Start = absurd form
-sought-keeps s (Filed name start end) form walk table rule.Step = absurd form
-sought-keeps s (Filed name start end) form walk table rule.Target = absurd form
-sought-keeps s (Cancelled name) form walk table rule.Rows = absurd form
-sought-keeps s (Cancelled name) form walk table rule.Start = absurd form
-sought-keeps s (Cancelled name) form walk table rule.Step = absurd form
-sought-keeps s (Cancelled name) form walk table rule.Target = absurd form
-sought-keeps s (Windows segment windows) form walk table rule.Rows = absurd form
-sought-keeps s (Windows segment windows) form walk table rule.Start = absurd form
-sought-keeps s (Windows segment windows) form walk table rule.Step = absurd form
-sought-keeps s (Windows segment windows) form walk table rule.Target = absurd form
-sought-keeps s (Occupancy segment held) form walk table rule.Rows = absurd form
-sought-keeps s (Occupancy segment held) form walk table rule.Start = absurd form
-sought-keeps s (Occupancy segment held) form walk table rule.Step = absurd form
-sought-keeps s (Occupancy segment held) form walk table rule.Target = absurd form
-sought-keeps s (Timetable flights) form walk table rule.Rows = absurd form
-sought-keeps s (Timetable flights) form walk table rule.Start = absurd form
-sought-keeps s (Timetable flights) form walk table rule.Step = absurd form
-sought-keeps s (Timetable flights) form walk table rule.Target = absurd form
-
-pub route-table : (s : Sought) (name : List ℕ) (second : ℕ) (steps : List Step) (labels : List LabelRow) → ((r : Rule) → KeepsSought r s (Route name second steps labels))
-    → HasKeptTable s.conditions (search_of s.request s.others s.under_way) (Some second) labels
-route-table s name second steps labels keeps =
-    match-weaker (search_of s.request s.others s.under_way) _ _ (λ x k. record { rows_kept = k.0; start_kept = k.1; step_kept = k.2; target_kept = k.3 })
-    (match-four (search_of s.request s.others s.under_way) _ _ _ _ (keeps rule.Rows) (keeps rule.Start) (keeps rule.Step) (keeps rule.Target))
-
-pub no_route-table : (s : Sought) (labels : List LabelRow) → ((r : Rule) → KeepsSought r s (NoRoute labels))
-    → HasKeptTable s.conditions (search_of s.request s.others s.under_way) s.floor labels
-no_route-table s labels keeps =
-    match-weaker (search_of s.request s.others s.under_way) _ _ (λ x k. record { rows_kept = k.0; start_kept = k.1; step_kept = k.2; target_kept = k.3 })
-    (match-four (search_of s.request s.others s.under_way) _ _ _ _ (keeps rule.Rows) (keeps rule.Start) (keeps rule.Step) (keeps rule.Target))
-
 module _ (airport : Airport) (state : State) (well : IsWellFormed airport) (sound : IsSound airport state) where
   -- ---- what is carried out for a new flight
-
-  of-reply : (s : Sought) (reply : Reply) (block : Block) (after : State) → IsOf reply block after → PassesSought s reply.block reply.after → PassesSought s block after
-  of-reply s reply block after of passes = rw (of.0, of.1) passes
 
   new-sought : (name class_name : List ℕ) (asked : Option Request) (class : Class) (request : Request) → class_named airport class_name ≡ Some class → asked ≡ Some request
       → sought_by_class airport state name class_name asked ≡ Some (sought_new airport state name class request)
   new-sought name class_name asked class request known named = rw (known, named) refl
 
-  new-fit : (class : Class) → AreFit (conditions_in airport class state)
-  new-fit class = among_fit airport class (holds_in airport state) well
-
   new-passes : (name class_name : List ℕ) (asked : Option Request) (block : Block) (after : State) → IsRouted airport state name class_name asked block after
       → (s : Sought) × (sought_by_class airport state name class_name asked ≡ Some s) × PassesSought s block after
-  new-passes name class_name asked block after done =
-      (s, new-sought name class_name asked done.class done.request done.class_known done.nodes_known, go done.found done.answers done.reply)
-    where
-      s : Sought
-      s = sought_new airport state name done.class done.request
-
-      go : (answer : Found) → AnswersRequest (conditions_in airport done.class state) done.request answer
-          → IsOf (found_reply state name done.request (λ steps. with_flight (routed_flight name done.class done.request steps) state) answer) block after → PassesSought s block after
-      go (found.Route steps labels) answers of =
-          of-reply s (record { block = Route name (second_of done.request steps) steps labels; after = with_flight (routed_flight name done.class done.request steps) state }) block after of (record {
-            form = refl;
-            walk = (found-meets (conditions_in airport done.class state) done.request steps labels answers, refl);
-            table = new-table (conditions_in airport done.class state) (new-fit done.class) done.request (found.Route steps labels) answers;
-            after_it = refl;
-          })
-      go (found.NoRoute labels) answers of =
-          of-reply s (record { block = NoRoute labels; after = state }) block after of (record {
-            form = refl;
-            walk = tt;
-            table = new-table (conditions_in airport done.class state) (new-fit done.class) done.request (found.NoRoute labels) answers;
-            after_it = refl;
-          })
+  new-passes name class_name asked block after done = (
+    sought_new airport state name done.class done.request,
+    new-sought name class_name asked done.class done.request done.class_known done.nodes_known,
+    as-passes airport state well name done.class done.request block after done.routed,
+  )
 
   -- ---- what is carried out for a choice of nodes
 
@@ -179,17 +87,17 @@ module _ (airport : Airport) (state : State) (well : IsWellFormed airport) (soun
           let met : Meets c (request_for done.choice to) steps = chosen-meets c done.choice to steps labels answers in
           let among : Contains (node ∷ others) to = subst (λ (ns : List Node). Contains ns to) are (chosen-among c done.choice to steps labels answers) in
           let second = second-same done.choice node to steps in
-          of-reply s (record { block = Route name (second_of (request_for done.choice to) steps) steps labels; after = with_flight (routed_flight name done.class (request_for done.choice to) steps) state }) block after of (record {
+          passes-by s (record { block = Route name (second_of (request_for done.choice to) steps) steps labels; after = with_flight (routed_flight name done.class (request_for done.choice to) steps) state }) block after of (record {
             form = refl;
             walk = (meets-one c done.choice node others steps to among met, second);
-            table = choice-table c (new-fit done.class) done.choice node others are (chosen.Route to steps labels) answers;
+            table = choice-table c (new-fit airport state well done.class) done.choice node others are (chosen.Route to steps labels) answers;
             after_it = ap (λ n. with_flight (routed_flight name done.class (request_for done.choice n) steps) state) (sym (met-reaches c done.choice to node steps met));
           })
       go (chosen.NoRoute labels) answers of =
-          of-reply s (record { block = NoRoute labels; after = state }) block after of (record {
+          passes-by s (record { block = NoRoute labels; after = state }) block after of (record {
             form = refl;
             walk = tt;
-            table = choice-table c (new-fit done.class) done.choice node others are (chosen.NoRoute labels) answers;
+            table = choice-table c (new-fit airport state well done.class) done.choice node others are (chosen.NoRoute labels) answers;
             after_it = refl;
           })
 
@@ -223,7 +131,7 @@ module _ (airport : Airport) (state : State) (well : IsWellFormed airport) (soun
         → PassesSought (sought_again airport state name time may_be_none flight (retargeted flight.request target)) block after
     again-passes may_be_none target before (found.Route steps labels) answers none block after of =
         let second = second-retargeted flight.request target steps in
-        of-reply (sought_again airport state name time may_be_none flight (retargeted flight.request target))
+        passes-by (sought_again airport state name time may_be_none flight (retargeted flight.request target))
         (record { block = Route name (second_of flight.request steps) steps labels; after = with_route flight (retargeted flight.request target) steps state }) block after of (record {
           form = refl;
           walk = (
@@ -236,7 +144,7 @@ module _ (airport : Airport) (state : State) (well : IsWellFormed airport) (soun
           after_it = refl;
         })
     again-passes may_be_none target before (found.NoRoute labels) answers none block after of =
-        of-reply (sought_again airport state name time may_be_none flight (retargeted flight.request target)) (record { block = NoRoute labels; after = state }) block after of (record {
+        passes-by (sought_again airport state name time may_be_none flight (retargeted flight.request target)) (record { block = NoRoute labels; after = state }) block after of (record {
           form = none labels refl;
           walk = tt;
           table = again-table c fit flight.steps walk time target flight.request before (found.NoRoute labels) answers;
@@ -308,15 +216,15 @@ module _ (airport : Airport) (state : State) (well : IsWellFormed airport) (soun
     })
 
     refused-passes : (why : Refusal) → IsOf (refused state why) block after → KeepsReply airport state line block → IsPassed airport state line block after
-    refused-passes why of reply = plain-passes (Refused why) of.0 refl of.1 reply
+    refused-passes why of reply = plain-passes (Refused why) of.0 refl (of.1 ∙ sym (no_turns-after airport state line (Refused why) refl)) reply
 
     -- what tells of what is sought
-    sought-passes : (c : Command) → command_of line ≡ Some c → first_refusal airport state c ≡ None → (s : Sought) × (sought_of airport state c ≡ Some s) × PassesSought s block after
+    sought-passes : (c : Command) → IsAlone c → command_of line ≡ Some c → first_refusal airport state c ≡ None → (s : Sought) × (sought_of airport state c ≡ Some s) × PassesSought s block after
         → IsPassed airport state line block after
-    sought-passes c read none p =
+    sought-passes c alone read none p =
         let s = p.0 in
         let by : sought_by airport state line ≡ Some p.0 = rw read p.1 in
-        let reply : KeepsReply airport state line block = inr (rw (read, none, p.1) p.2.form) in
+        let reply : KeepsReply airport state line block = inr (rw (read, none) (asked-alone airport state c block alone (rw p.1 p.2.form))) in
         record {
           keeps = λ r. one-keeps airport state line s by block p.2.form reply r (sought-keeps s block p.2.form p.2.walk p.2.table r);
           after_it = after-is airport state line s by block after p.2.form p.2.after_it;
@@ -328,35 +236,36 @@ module _ (airport : Airport) (state : State) (well : IsWellFormed airport) (soun
         plain-passes (Filed filed.flight (begin_of done.steps) (end_of done.steps)) done.reply.0 refl
         (subst (λ b. IsDue airport state line b after) done.reply.0 due) (inr (rw (read, none) (after, done)))
     carried-passes (command.Arrival asked) spoken read none due done =
-        sought-passes (command.Arrival asked) read none (new-passes asked.flight asked.class (arrival_named airport asked) block after done)
+        sought-passes (command.Arrival asked) tt read none (new-passes asked.flight asked.class (arrival_named airport asked) block after done)
     carried-passes (command.Departure asked) spoken read none due done =
-        sought-passes (command.Departure asked) read none (new-passes asked.flight asked.class (departure_named airport asked) block after done)
+        sought-passes (command.Departure asked) tt read none (new-passes asked.flight asked.class (departure_named airport asked) block after done)
     carried-passes (command.Cancel flight) spoken read none due done =
         plain-passes (Cancelled flight) done.0 refl (subst (λ b. IsDue airport state line b after) done.0 due) (inr (rw (read, none) (after, done)))
     carried-passes (command.Reroute flight time) spoken read none due done =
-        sought-passes (command.Reroute flight time) read none (reroute-passes flight time block after none done)
+        sought-passes (command.Reroute flight time) tt read none (reroute-passes flight time block after none done)
     carried-passes (command.Divert flight time node) spoken read none due done =
-        sought-passes (command.Divert flight time node) read none (divert-passes flight time node block after none done)
+        sought-passes (command.Divert flight time node) tt read none (divert-passes flight time node block after none done)
     carried-passes (command.Windows segment) spoken read none due done =
         plain-passes (Windows done.segment (windows_among airport state done.segment)) done.reply.0 refl
-        done.reply.1 (inr (rw (read, none) (after, done)))
+        (done.reply.1 ∙ sym (no_turns-after airport state line (Windows done.segment (windows_among airport state done.segment)) refl)) (inr (rw (read, none) (after, done)))
     carried-passes (command.Occupancy segment) spoken read none due done =
-        plain-passes (Occupancy done.segment done.rows) done.reply.0 refl done.reply.1 (inr (rw (read, none) (after, done)))
+        plain-passes (Occupancy done.segment done.rows) done.reply.0 refl (done.reply.1 ∙ sym (no_turns-after airport state line (Occupancy done.segment done.rows) refl)) (inr (rw (read, none) (after, done)))
     carried-passes command.Timetable spoken read none due done =
-        plain-passes (Timetable (timetable_rows state)) done.0 refl done.1 (inr (rw read (after, done)))
+        plain-passes (Timetable (timetable_rows state)) done.0 refl (done.1 ∙ sym (no_turns-after airport state line (Timetable (timetable_rows state)) refl)) (inr (rw read (after, done)))
     carried-passes (command.Work shut) spoken read none due done =
         plain-passes (Filed shut.name shut.from shut.until) done.reply.0 refl
         (subst (λ b. IsDue airport state line b after) done.reply.0 due) (inr (rw (read, none) (after, done)))
     carried-passes (command.WorkDone name) spoken read none due done =
         plain-passes (Cancelled name) done.0 refl (subst (λ b. IsDue airport state line b after) done.0 due) (inr (rw (read, none) (after, done)))
     carried-passes (command.ArrivalAny asked) spoken read none due done =
-        sought-passes (command.ArrivalAny asked) read none
+        sought-passes (command.ArrivalAny asked) tt read none
         (choice-passes asked.flight asked.class (arrival_any_named airport asked) block after
         (λ choice named. some-nodes (length asked.nodes) choice spoken.3 (arrival_any-is airport asked choice named)) done)
     carried-passes (command.DepartureAny asked) spoken read none due done =
-        sought-passes (command.DepartureAny asked) read none
+        sought-passes (command.DepartureAny asked) tt read none
         (choice-passes asked.flight asked.class (departure_any_named airport asked) block after
         (λ choice named. some-nodes (length asked.nodes) choice spoken.3 (departure_any-is airport asked choice named)) done)
+    carried-passes (command.Batch requests) spoken read none due done = batch-passes airport well state line requests block after read none done
 
     pub due-passes : IsDue airport state line block after → IsPassed airport state line block after
     unfolding IsDue

@@ -1,15 +1,14 @@
 -- The blocks that are due have texts, in an airport that keeps the rules: no number in them is past the horizon.
-use Rattle.std.proofs.Common.{◌≡◌, ℕ, ◌+◌, ◌<◌, ◌≤◌, cond, not, nat_lt, Bool, true, false, List, [], ◌∷◌, length, Option, Some, None, option_map, option_and_then, IsFalse, refl, sym, subst, arith, inl, inr}
+use Rattle.std.proofs.Common.{◌≡◌, ℕ, ◌+◌, ◌<◌, ◌≤◌, cond, not, nat_lt, Bool, true, false, List, [], ◌∷◌, ◌++◌, length, Option, Some, None, option_map, option_and_then, IsFalse, refl, sym, subst, arith, inl, inr}
 use Rattle.std.specs.Prelude.{IfSome, MatchOption, All, nat_le}
 use Rattle.std.specs.Option.{option_map_or}
 use Rattle.std.proofs.lemmas.Bool.{and_parts, cases_lt, lt-ltb, le-ltb, leb-true, ltb-true}
-use Rattle.std.proofs.lemmas.List.Elements.{All-weaker, All-contains}
+use Rattle.std.proofs.lemmas.List.Elements.{All-head, All-tail, All-weaker, All-contains}
 use Rattle.taxi_base.specs.declared.numbers.Class.{Class}
 use Rattle.taxi_base.specs.declared.numbers.Arc.{Arc}
 use Rattle.taxi_base.specs.declared.numbers.Node.{Node}
 use Rattle.taxi_base.specs.declared.numbers.Segment.{Segment}
 use Rattle.taxi_base.specs.declared.rows.Step.{Step}
-use Rattle.taxi_base.specs.declared.rows.LabelRow.{LabelRow}
 use Rattle.taxi_base.specs.declared.answers.StepCause.{StepCause}
 use Rattle.taxi_base.specs.declared.answers.StepCause.TheVariants.{ClassBarred, BadTurn, TooFast, PastHorizon, Taken}
 use Rattle.taxi_base.specs.declared.answers.StepFault.{StepFault}
@@ -29,22 +28,28 @@ use Rattle.taxi_base.specs.Again.{retargeted, IsTarget, AnswersAgain}
 use Rattle.taxi_base.specs.Faults.{first_taken, holder_at, taken_by, conditions_in, may_follow, cause_of, fault_after, route_fault, taken_cause, hold_cause, hold_fault}
 use Rattle.taxi_base.proofs.FaultLaws.{first_taken-Some, route_fault-None}
 use Rattle.taxi_base.proofs.WalkLaws.{conditions_among-bounded, Meets-IsFeasibleWalk}
+use Rattle.taxi_text.specs.declared.command.BatchRequest.{BatchRequest}
+use Rattle.taxi_text.specs.declared.command.BatchRequest.TheVariants as requested
 use Rattle.taxi_text.specs.declared.command.Filed as filing
 use Rattle.taxi_text.specs.declared.command.Shut.{Shut}
 use Rattle.taxi_text.specs.declared.command.Command.{Command}
 use Rattle.taxi_text.specs.declared.command.Command.TheVariants as command
 use Rattle.taxi_text.specs.Commands.{command_of}
 use Rattle.certificate.specs.declared.block.Block.{Block}
-use Rattle.certificate.specs.declared.block.Block.TheVariants.{Refused, Filed, Cancelled, Route, NoRoute, Windows, Occupancy, Timetable}
-use Rattle.certificate.specs.Printable.{IsShort, IsName, IsPrintableCause, IsPrintableRefusal, IsPrintableStep, IsPrintableWindow, IsPrintable}
-use Rattle.certificate.specs.Asked.{route_filed, party_of, IsInGrammar, arrival_named, departure_named, AnswersRequest, Choice, request_for, arrival_any_named, departure_any_named, AnswersChoice}
-use Rattle.certificate.specs.Refusals.{refused_if, first_of, of_flight, not_routed, not_arrival, already_done, already_moving, in_force, unknown_class, unknown_node, unknown_node_of, not_all, no_runway, no_stand, unknown_segment, unknown_arc, not_in_force, not_at_work, full, step_fails, hold_fails, is_filed, is_departure, first_refusal}
-use Rattle.certificate.specs.CarriedOut.{Reply, IsOf, filed_reply, IsFiled, second_of, found_reply, routed_flight, IsRouted, chosen_reply, IsRoutedToOne, IsRoutedAgain, shut_reply, opened_reply, cancelled_reply, windows_among, windows_reply, occupancy_reply, timetable_reply, IsCarriedOut}
-use Rattle.certificate.specs.Replies.{refused, IsDueTo, IsDue, HaveNames, DoesAsItSays}
+use Rattle.certificate.specs.declared.block.Block.TheVariants.{Refused, Filed, Cancelled, Route, NoRoute, Windows, Occupancy, Timetable, Batch}
+use Rattle.certificate.specs.declared.entries.Entry.{Entry}
+use Rattle.certificate.specs.declared.entries.Entry.TheVariants as entry
+use Rattle.certificate.specs.Printable.{IsShort, IsName, IsPrintableCause, IsPrintableRefusal, IsPrintableWindow, IsPrintableEntry, IsPrintable}
+use Rattle.certificate.specs.Asked.{route_filed, party_of, IsInGrammar, Choice, request_for, arrival_any_named, departure_any_named, AnswersChoice}
+use Rattle.certificate.specs.Refusals.{refused_if, first_of, of_flight, not_routed, not_arrival, already_done, already_moving, in_force, unknown_class, unknown_node, unknown_node_of, not_all, no_runway, no_stand, unknown_segment, unknown_arc, not_in_force, not_at_work, full, step_fails, hold_fails, is_filed, is_departure, full_with, in_force_or_before, tests_of_requests, first_refusal}
+use Rattle.certificate.specs.CarriedOut.{IsOf, filed_reply, IsFiled, second_of, found_reply, routed_flight, chosen_reply, IsRoutedToOne, IsRoutedAgain, shut_reply, opened_reply, cancelled_reply, windows_among, windows_reply, occupancy_reply, timetable_reply, IsCarriedOut}
+use Rattle.certificate.specs.Replies.{refused, IsDueTo, IsDue, HaveNames, IsRouteIn, DoesEntry, DoInTurn, DoesAsItSays}
 use Rattle.certificate.proofs.FiledLaws.{filed_steps-length, filed_steps-arcs, filed_steps-joined}
 use Rattle.certificate.proofs.FlightLaws.{flight_named-there}
 use Rattle.certificate.proofs.HolderNames.{holder_at-name, with_flight-names, with_party-names, without-names}
-use Rattle.certificate.proofs.FoundLaws.{walk-end, walk-begin, walk-second, walk-some, walk-count, walk-printable, found-meets, found_again-meets, ArePrintableLabels, found-printable, found_again-printable, chosen-printable}
+use Rattle.certificate.proofs.FoundLaws.{walk-end, walk-begin, found_again-meets, found_again-printable, chosen-printable}
+use Rattle.certificate.proofs.BatchPrintable.{batch-printable}
+use Rattle.certificate.proofs.RoutePrintable.{number, printable-by, route-printable, routed-printable}
 use Rattle.certificate.proofs.ChoiceNames.{chosen-meets}
 use Rattle.certificate.proofs.GrammarLaws.{command_of-in_grammar}
 use Rattle.certificate.proofs.RefusalLaws.{none-fails, file-does_not_fail}
@@ -52,9 +57,6 @@ use Rattle.certificate.proofs.ReportsTold.{held-count, held-printable, timetable
 use Rattle.certificate.proofs.WindowsTold.{windows_among-by, windows_among-count, segment_named-exists}
 
 module _ (airport : Airport) (state : State) (well : IsWellFormed airport) (names : HaveNames state) (sound : IsSound airport state) where
-  number : (n : ℕ) → n ≤ airport.horizon → IsShort n
-  number n by = omega (arith, by, well.horizon.1)
-
   -- ---- a step that fails
 
   taken-printable : (hold : Hold) → hold.span.until ≤ airport.horizon → IfSome (taken_by airport state hold) IsPrintableCause
@@ -68,7 +70,7 @@ module _ (airport : Airport) (state : State) (well : IsWellFormed airport) (name
     go None e = tt
     go (Some t) e =
         let at = first_taken-Some (free_among airport (holds_in airport state) hold.segment) hold.span t e in
-        named t (number t (omega (arith, at.1, by))) (holder_at airport state hold.segment t) (holder_at-name airport state hold.segment t names)
+        named t (number airport well t (omega (arith, at.1, by))) (holder_at airport state hold.segment t) (holder_at-name airport state hold.segment t names)
 
   or-cause : (test : Bool) (cause : StepCause) → IsPrintableCause cause → (o : Option StepCause) → IfSome o IsPrintableCause
       → IfSome (cond test (Some cause) o) IsPrintableCause
@@ -147,12 +149,12 @@ module _ (airport : Airport) (state : State) (well : IsWellFormed airport) (name
   done-fine : (name : List ℕ) (time : ℕ) → IsFine (of_flight state name (already_done time))
   done-fine name time =
       flight-fine name (already_done time) (λ flight walk.
-      if-fine _ (refusal.AlreadyDone (end_of flight.steps)) (number (end_of flight.steps) (walk-end (conditions_of airport state flight) flight.steps walk)))
+      if-fine _ (refusal.AlreadyDone (end_of flight.steps)) (number airport well (end_of flight.steps) (walk-end (conditions_of airport state flight) flight.steps walk)))
 
   moving-fine : (name : List ℕ) (time : ℕ) → IsFine (of_flight state name (already_moving time))
   moving-fine name time =
       flight-fine name (already_moving time) (λ flight walk.
-      if-fine _ (refusal.AlreadyMoving (begin_of flight.steps)) (number (begin_of flight.steps) (walk-begin (conditions_of airport state flight) flight.steps walk)))
+      if-fine _ (refusal.AlreadyMoving (begin_of flight.steps)) (number airport well (begin_of flight.steps) (walk-begin (conditions_of airport state flight) flight.steps walk)))
 
   route-fine : (class : Class) (steps : List Step) → length steps ≤ 256 → IsFine (option_map (λ fault. refusal.Step fault) (route_fault airport class state steps))
   unfolding route_fault
@@ -186,6 +188,18 @@ module _ (airport : Airport) (state : State) (well : IsWellFormed airport) (name
         → IsFine (option_and_then (λ s. option_map (λ fault. refusal.Step fault) (hold_fault airport state (party_hold (party_of shut s)))) o)
     of_segment None = tt
     of_segment (Some s) = shut-fine (party_hold (party_of shut s))
+
+  -- of the requests of a batch, and of what is tried after them
+  requests-fine : (before requests : List BatchRequest) (more : List (Option Refusal)) → IsFine (first_of more) → IsFine (first_of (tests_of_requests airport state before requests ++ more))
+  requests-fine before [] more fine = fine
+  requests-fine before (requested.Arrival asked ∷ later) more fine =
+      first-fine (in_force_or_before state before asked.flight) _ (if-fine _ _ tt) (first-fine (unknown_class airport asked.class) _ (if-fine _ _ tt)
+      (first-fine (unknown_node airport asked.from) _ (if-fine _ _ tt) (first-fine (unknown_node airport asked.to) _ (if-fine _ _ tt) (first-fine (no_runway airport asked.from) _ (if-fine _ _ tt)
+      (first-fine (no_stand airport asked.to) _ (if-fine _ _ tt) (requests-fine (before ++ requested.Arrival asked ∷ []) later more fine))))))
+  requests-fine before (requested.Departure asked ∷ later) more fine =
+      first-fine (in_force_or_before state before asked.flight) _ (if-fine _ _ tt) (first-fine (unknown_class airport asked.class) _ (if-fine _ _ tt)
+      (first-fine (unknown_node airport asked.from) _ (if-fine _ _ tt) (first-fine (unknown_node airport asked.to) _ (if-fine _ _ tt) (first-fine (no_stand airport asked.from) _ (if-fine _ _ tt)
+      (first-fine (no_runway airport asked.to) _ (if-fine _ _ tt) (requests-fine (before ++ requested.Departure asked ∷ []) later more fine))))))
 
   refusal-fine : (c : Command) → IsInGrammar c → IsFine (first_refusal airport state c)
   refusal-fine (command.File filed) spoken =
@@ -222,11 +236,9 @@ module _ (airport : Airport) (state : State) (well : IsWellFormed airport) (name
       first-fine (in_force state asked.flight) _ (if-fine _ _ tt) (first-fine (unknown_class airport asked.class) _ (if-fine _ _ tt) (first-fine (unknown_node airport asked.from) _ (if-fine _ _ tt)
       (first-fine (unknown_node_of airport asked.nodes) _ (if-fine _ _ tt) (first-fine (no_stand airport asked.from) _ (if-fine _ _ tt) (first-fine (not_all is_runway airport asked.nodes) _ (if-fine _ _ tt)
       (first-fine (full state) [] (if-fine _ _ tt) tt))))))
+  refusal-fine (command.Batch requests) spoken = requests-fine [] requests (full_with (length requests) state ∷ []) (first-fine (full_with (length requests) state) [] (if-fine _ _ tt) tt)
 
   -- ---- what is carried out
-
-  of-reply : (reply : Reply) (block : Block) (after : State) → IsOf reply block after → IsPrintable airport reply.block → IsPrintable airport block
-  of-reply reply block after of fine = rw of.0 fine
 
   file-printable : (filed : filing.Filed) (block : Block) (after : State) → IsName filed.flight → 0 < length filed.steps
       → first_refusal airport state (command.File filed) ≡ None → IsFiled airport state filed block after → IsPrintable airport block
@@ -238,33 +250,7 @@ module _ (airport : Airport) (state : State) (well : IsWellFormed airport) (name
       (route_fault-None airport done.class state steps (omega (arith, some, filed_steps-length airport filed.start filed.steps steps made))
       (filed_steps-arcs airport filed.start filed.steps steps made) (filed_steps-joined airport filed.start filed.steps steps made)).0
       (none-fails airport state filed done.class steps done.class_known made (file-does_not_fail airport state filed none)) in
-      of-reply (filed_reply state filed.flight done.class steps) block after done.reply (named, (number (begin_of steps) (walk-begin c steps walk), number (end_of steps) (walk-end c steps walk)))
-
-  -- a route that was found, with its labels
-  route-printable : (c : Conditions) (name : List ℕ) (request : Request) (steps : List Step) (labels : List LabelRow) → c.airport ≡ airport → IsName name
-      → IsFeasibleWalk c steps → ArePrintableLabels airport labels → IsPrintable airport (Route name (second_of request steps) steps labels)
-  route-printable c name request steps labels same named walk fine =
-      let on : IsWellFormed c.airport = subst IsWellFormed (sym same) well in
-      let by : second_of request steps ≤ airport.horizon = subst (λ (a : Airport). second_of request steps ≤ a.horizon) same (walk-second c request steps walk) in (
-        (named, (number (second_of request steps) by, ((walk-some c steps walk, walk-count c on steps walk), fine.0))),
-        (subst (λ a. All (IsPrintableStep a) steps) same (walk-printable c on steps walk), fine.1),
-      )
-
-  routed-printable : (name class : List ℕ) (asked : Option Request) (block : Block) (after : State) → IsName name
-      → IsRouted airport state name class asked block after → IsPrintable airport block
-  routed-printable name class asked block after named done = go done.found done.answers done.reply where
-    c : Conditions
-    c = conditions_in airport done.class state
-
-    go : (answer : Found) → AnswersRequest c done.request answer
-        → IsOf (found_reply state name done.request (λ steps. with_flight (routed_flight name done.class done.request steps) state) answer) block after → IsPrintable airport block
-    go (found.NoRoute labels) answers of =
-        of-reply (record { block = NoRoute labels; after = state }) block after of
-        (found-printable c well (conditions_among-bounded airport done.class (holds_in airport state)) done.request (found.NoRoute labels) answers)
-    go (found.Route steps labels) answers of =
-        of-reply (record { block = Route name (second_of done.request steps) steps labels; after = with_flight (routed_flight name done.class done.request steps) state }) block after of
-        (route-printable c name done.request steps labels refl named (Meets-IsFeasibleWalk c done.request steps (found-meets c done.request steps labels answers))
-        (found-printable c well (conditions_among-bounded airport done.class (holds_in airport state)) done.request (found.Route steps labels) answers))
+      printable-by airport (filed_reply state filed.flight done.class steps) block after done.reply (named, (number airport well (begin_of steps) (walk-begin c steps walk), number airport well (end_of steps) (walk-end c steps walk)))
 
   chosen-has_text : (name class : List ℕ) (asked : Option Choice) (block : Block) (after : State) → IsName name
       → IsRoutedToOne airport state name class asked block after → IsPrintable airport block
@@ -274,12 +260,12 @@ module _ (airport : Airport) (state : State) (well : IsWellFormed airport) (name
 
     go : (answer : Chosen) → AnswersChoice c done.choice answer → IsOf (chosen_reply state name done.class done.choice answer) block after → IsPrintable airport block
     go (chosen.NoRoute labels) answers of =
-        of-reply (record { block = NoRoute labels; after = state }) block after of
+        printable-by airport (record { block = NoRoute labels; after = state }) block after of
         (chosen-printable c well (conditions_among-bounded airport done.class (holds_in airport state)) done.choice (chosen.NoRoute labels) answers)
     go (chosen.Route to steps labels) answers of =
         let request : Request = request_for done.choice to in
-        of-reply (record { block = Route name (second_of request steps) steps labels; after = with_flight (routed_flight name done.class request steps) state }) block after of
-        (route-printable c name request steps labels refl named (Meets-IsFeasibleWalk c request steps (chosen-meets c done.choice to steps labels answers))
+        printable-by airport (record { block = Route name (second_of request steps) steps labels; after = with_flight (routed_flight name done.class request steps) state }) block after of
+        (route-printable airport well c name request steps labels refl named (Meets-IsFeasibleWalk c request steps (chosen-meets c done.choice to steps labels answers))
         (chosen-printable c well (conditions_among-bounded airport done.class (holds_in airport state)) done.choice (chosen.Route to steps labels) answers))
 
   again-printable : (name : List ℕ) (time : ℕ) (IsMeant : Request → Node → Type 0) (block : Block) (after : State) → IsName name
@@ -300,14 +286,14 @@ module _ (airport : Airport) (state : State) (well : IsWellFormed airport) (name
     go : (answer : Found) → AnswersAgain c flight.steps time done.target flight.request answer
         → IsOf (found_reply state name flight.request (λ steps. with_route flight asked steps state) answer) block after → IsPrintable airport block
     go (found.NoRoute labels) answers of =
-        of-reply (record { block = NoRoute labels; after = state }) block after of
+        printable-by airport (record { block = NoRoute labels; after = state }) block after of
         (found_again-printable c well bounded flight.steps time done.target flight.request (found.NoRoute labels) answers)
     go (found.Route steps labels) answers of =
         let old : Meets c flight.request flight.steps =
         All-contains (λ f. Meets (conditions_of airport state f) f.request f.steps) state.flights flight sound.requests (flight_named-there name state.flights flight done.in_force) in
         let met : Meets c asked steps = found_again-meets c flight.steps time done.target flight.request steps labels old answers in
-        of-reply (record { block = Route name (second_of flight.request steps) steps labels; after = with_route flight asked steps state }) block after of
-        (route-printable c name flight.request steps labels refl named (Meets-IsFeasibleWalk c asked steps met)
+        printable-by airport (record { block = Route name (second_of flight.request steps) steps labels; after = with_route flight asked steps state }) block after of
+        (route-printable airport well c name flight.request steps labels refl named (Meets-IsFeasibleWalk c asked steps met)
         (found_again-printable c well bounded flight.steps time done.target flight.request (found.Route steps labels) answers))
 
   -- what is carried out has a text
@@ -316,36 +302,37 @@ module _ (airport : Airport) (state : State) (well : IsWellFormed airport) (name
   carried_out-printable (command.File filed) block after spoken none done =
       file-printable filed block after spoken.0 (ltb-true 0 (length filed.steps) (and_parts _ _ spoken.1).0) none done
   carried_out-printable (command.Arrival asked) block after spoken none done =
-      routed-printable asked.flight asked.class (arrival_named airport asked) block after spoken.0 done
+      routed-printable airport well state asked.flight done.class done.request block after spoken.0 done.routed
   carried_out-printable (command.Departure asked) block after spoken none done =
-      routed-printable asked.flight asked.class (departure_named airport asked) block after spoken.0 done
-  carried_out-printable (command.Cancel flight) block after spoken none done = of-reply (cancelled_reply state flight) block after done spoken
+      routed-printable airport well state asked.flight done.class done.request block after spoken.0 done.routed
+  carried_out-printable (command.Cancel flight) block after spoken none done = printable-by airport (cancelled_reply state flight) block after done spoken
   carried_out-printable (command.Reroute flight time) block after spoken none done = again-printable flight time IsTarget block after spoken.0 done
   carried_out-printable (command.Divert flight time node) block after spoken none done =
       again-printable flight time (λ asked target. node_named airport node ≡ Some target) block after spoken.0 done
   carried_out-printable (command.Windows segment) block after spoken none done =
-      of-reply (windows_reply airport state done.segment) block after done.reply (
+      printable-by airport (windows_reply airport state done.segment) block after done.reply (
         (segment_named-exists airport segment done.segment done.known, omega (arith, windows_among-count airport state done.segment, well.horizon.1)),
-        All-weaker (λ w. (w.from < w.until) × (w.until ≤ airport.horizon)) IsPrintableWindow (λ w h. (number w.from (omega (arith, h.0, h.1)), number w.until h.1))
+        All-weaker (λ w. (w.from < w.until) × (w.until ≤ airport.horizon)) IsPrintableWindow (λ w h. (number airport well w.from (omega (arith, h.0, h.1)), number airport well w.until h.1))
             (windows_among airport state done.segment) (windows_among-by airport state done.segment),
       )
   carried_out-printable (command.Occupancy segment) block after spoken none done =
-      of-reply (occupancy_reply state done.segment done.rows) block after done.reply (
+      printable-by airport (occupancy_reply state done.segment done.rows) block after done.reply (
         (segment_named-exists airport segment done.segment done.known, held-count airport state well sound done.segment done.rows done.held),
         held-printable airport state well sound names done.segment done.rows done.held,
       )
   carried_out-printable command.Timetable block after spoken none done =
-      of-reply (timetable_reply state) block after done (timetable-count airport state well sound, timetable-printable airport state well sound names)
+      printable-by airport (timetable_reply state) block after done (timetable-count airport state well sound, timetable-printable airport state well sound names)
   carried_out-printable (command.Work shut) block after spoken none done =
-      of-reply (shut_reply state (party_of shut done.segment)) block after done.reply (spoken.0, (spoken.1, spoken.2))
-  carried_out-printable (command.WorkDone name) block after spoken none done = of-reply (opened_reply state name) block after done spoken
+      printable-by airport (shut_reply state (party_of shut done.segment)) block after done.reply (spoken.0, (spoken.1, spoken.2))
+  carried_out-printable (command.WorkDone name) block after spoken none done = printable-by airport (opened_reply state name) block after done spoken
   carried_out-printable (command.ArrivalAny asked) block after spoken none done =
       chosen-has_text asked.flight asked.class (arrival_any_named airport asked) block after spoken.0 done
   carried_out-printable (command.DepartureAny asked) block after spoken none done =
       chosen-has_text asked.flight asked.class (departure_any_named airport asked) block after spoken.0 done
+  carried_out-printable (command.Batch requests) block after spoken none done = batch-printable airport well state requests block after spoken.0 spoken.1 done
 
   of-refusal : (why : Refusal) (block : Block) (after : State) → IsOf (refused state why) block after → IsPrintableRefusal why → IsPrintable airport block
-  of-refusal why block after of fine = of-reply (refused state why) block after of fine
+  of-refusal why block after of fine = printable-by airport (refused state why) block after of fine
 
   due_to-printable : (c : Command) (block : Block) (after : State) → IsInGrammar c → IsDueTo airport state c block after → IsPrintable airport block
   due_to-printable c block after spoken due = go (first_refusal airport state c) refl (refusal-fine c spoken) due where
@@ -363,6 +350,17 @@ module _ (airport : Airport) (state : State) (well : IsWellFormed airport) (name
     go None spoken due = of-refusal refusal.BadLine block after due tt
     go (Some c) spoken due = due_to-printable c block after spoken due
 
+-- a route leaves holders names
+route-names : (airport : Airport) (state : State) (name : List ℕ) (second : ℕ) (steps : List Step) (after : State) → IsName name → HaveNames state → IsRouteIn airport state name second steps after → HaveNames after
+route-names airport state name second steps after named names says =
+    subst HaveNames (sym says.3) (with_flight-names says.0 (without says.0.name state) (subst IsName (sym says.1) named) (without-names says.0.name state names))
+
+-- and so does what an entry says
+entry-names : (airport : Airport) (state : State) (told : List ℕ × Entry) (after : State) → HaveNames state → DoesEntry airport state told after → IsPrintableEntry airport told → HaveNames after
+entry-names airport state (name, entry.Route second steps labels) after names says fine = route-names airport state name second steps after fine.0.0 names says
+entry-names airport state (name, entry.NoRoute labels) after names says fine = subst HaveNames (sym says) names
+entry-names airport state (name, entry.Dropped) after names says fine = absurd says
+
 -- what a block says leaves holders names, where the block has a text
 pub says-names : (airport : Airport) (state : State) (block : Block) (after : State) → HaveNames state → DoesAsItSays airport state block after
     → IsPrintable airport block → HaveNames after
@@ -372,9 +370,14 @@ says-names airport state (Filed name start end) after names (inr says) fine =
     subst HaveNames (sym says.goes_in) (with_party-names says.party state (subst IsName (sym says.name_told) fine.0) names)
 says-names airport state (Cancelled name) after names says fine = subst HaveNames (sym says.1) (without-names name state names)
 says-names airport state (Route name second steps labels) after names says fine =
-    subst HaveNames (sym says.3) (with_flight-names says.0 (without says.0.name state) (subst IsName (sym says.1) fine.0.0) (without-names says.0.name state names))
+    route-names airport state name second steps after fine.0.0 names says
 says-names airport state (NoRoute labels) after names says fine = subst HaveNames (sym says) names
 says-names airport state (Windows segment windows) after names says fine = subst HaveNames (sym says.1) names
 says-names airport state (Occupancy segment held) after names says fine = subst HaveNames (sym says.1) names
 says-names airport state (Timetable flights) after names says fine = subst HaveNames (sym says.1) names
 says-names airport state (Refused why) after names says fine = subst HaveNames (sym says) names
+says-names airport state (Batch total entries) after names says fine = go state entries names says fine.1.1 where
+  go : (state : State) (entries : List (List ℕ × Entry)) → HaveNames state → DoInTurn airport state entries after → All (IsPrintableEntry airport) entries → HaveNames after
+  go state [] names says fine = subst HaveNames (sym says) names
+  go state (told ∷ entries) names says fine =
+      go says.0 entries (entry-names airport state told says.0 names says.1 (All-head (IsPrintableEntry airport) told entries fine)) says.2 (All-tail (IsPrintableEntry airport) told entries fine)

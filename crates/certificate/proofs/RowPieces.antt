@@ -1,12 +1,16 @@
 -- A text that is written piece by piece, and may be cut short.
-use Rattle.std.proofs.Common.{◌≡◌, ◌∙◌, ℕ, zero, suc, List, [], ◌∷◌, ◌++◌, length, take, drop, map, Result, Ok, Err, decimal, codes, refl, sym, ap, append_assoc}
-use Rattle.std.specs.Prelude.{OnErr}
+use Rattle.std.proofs.Common.{◌≡◌, ◌∙◌, ℕ, zero, suc, ◌+◌, ◌≤◌, List, [], ◌∷◌, ◌++◌, length, take, drop, map, Some, Result, Ok, Err, decimal, codes, refl, sym, ap, append_assoc, append-nil}
+use Rattle.std.specs.Prelude.{OnErr, slice_get, flat_map}
+use Rattle.std.proofs.lemmas.Option.{slice_get_within, get_or_from_slice_get}
+use Rattle.std.proofs.lemmas.List.{drop_more, drop_all}
 use Rattle.taxi_base.specs.declared.rows.Step.{Step}
 use Rattle.taxi_base.specs.declared.rows.LabelRow.{LabelRow}
 use Rattle.taxi_base.specs.Airport.{Airport}
 use Rattle.certificate.specs.declared.block.Block.TheVariants.{Route}
-use Rattle.certificate.specs.Texts.{line_text, lines_text, step_words, label_words, block_text}
-use Rattle.certificate.specs.Printed.{IsCutShort, rows_text}
+use Rattle.certificate.specs.declared.entries.Entry.{Entry}
+use Rattle.certificate.specs.declared.entries.Entry.TheVariants as entry
+use Rattle.certificate.specs.Texts.{line_text, lines_text, step_words, label_words, entry_lines, block_text}
+use Rattle.certificate.specs.Printed.{IsCutShort, rows_text, entries_text}
 use Rattle.certificate.proofs.Pieces.{HasCome}
 
 pub on_err : {A B : Type 0} {P : Type 0} (r : Result A B) → P → OnErr r P
@@ -85,3 +89,66 @@ route_text-by airport flight second steps labels line s l is same_steps same_lab
     ∙ ap (λ (t : List Step). route_head flight second (length t) (length l) ++ (rows_text (step_words airport) t ++ rows_text (label_words airport) l)) same_steps
     ∙ ap (λ (t : List LabelRow). route_head flight second (length steps) (length t) ++ (rows_text (step_words airport) steps ++ rows_text (label_words airport) t)) same_labels
     ∙ route_text-is airport flight second steps labels
+
+-- ---- entries
+
+abbrev pub next_line : List ℕ → List ℕ
+next_line name = line_text (codes "next" ∷ name ∷ [])
+
+-- the text of an entry with a route, as it was written
+pub entry_route-by : (airport : Airport) (name : List ℕ) (second : ℕ) (steps : List Step) (labels : List LabelRow) (line head : List ℕ) (s : List Step) (l : List LabelRow)
+    → line ≡ next_line name ++ head → head ≡ route_head name second (length s) (length l) → s ≡ steps → l ≡ labels
+    → line ++ (rows_text (step_words airport) s ++ rows_text (label_words airport) l) ≡ lines_text (entry_lines airport (name, entry.Route second steps labels))
+unfolding block_text
+entry_route-by airport name second steps labels line head s l is head_is same_steps same_labels =
+    let rows : List ℕ = rows_text (step_words airport) s ++ rows_text (label_words airport) l in
+    ap (λ (t : List ℕ). t ++ rows) is ∙ append_assoc (next_line name) head rows
+    ∙ ap (λ (t : List ℕ). next_line name ++ t) (route_text-by airport name second steps labels head s l head_is same_steps same_labels)
+
+-- and of one without
+pub entry_none-by : (airport : Airport) (name : List ℕ) (labels : List LabelRow) (line head : List ℕ) (l : List LabelRow)
+    → line ≡ next_line name ++ head → head ≡ line_text (codes "no-route" ∷ decimal (length l) ∷ []) → l ≡ labels
+    → line ++ rows_text (label_words airport) l ≡ lines_text (entry_lines airport (name, entry.NoRoute labels))
+entry_none-by airport name labels line head l is head_is same_labels =
+    let rows : List ℕ = rows_text (label_words airport) l in
+    ap (λ (t : List ℕ). t ++ rows) is ∙ append_assoc (next_line name) head rows
+    ∙ ap (λ (t : List ℕ). next_line name ++ (t ++ rows)) head_is
+    ∙ ap (λ (t : List LabelRow). next_line name ++ (line_text (codes "no-route" ∷ decimal (length t) ∷ []) ++ rows_text (label_words airport) t)) same_labels
+
+module _ (airport : Airport) (entries : List (List ℕ × Entry)) (place : ℕ) (told : List ℕ × Entry) (there : slice_get entries place ≡ Some told) where
+  -- the text of the entries from a place on is that of the entry there, and of those behind it
+  entries-from : entries_text airport (drop place entries) ≡ lines_text (entry_lines airport told) ++ entries_text airport (drop (place + 1) entries)
+  entries-from =
+      let within = slice_get_within entries place told there in
+      let at = get_or_from_slice_get entries place told told there in
+      ap (entries_text airport) (drop_more entries place told within ∙ ap (λ (e : List ℕ × Entry). e ∷ drop (place + 1) entries) at)
+      ∙ lines-both (entry_lines airport told) (flat_map (entry_lines airport) (drop (place + 1) entries))
+
+  -- one more entry comes
+  pub entry_comes : (text old before new : List ℕ) → HasCome text old (entries_text airport (drop place entries)) before → new ≡ before ++ lines_text (entry_lines airport told)
+      → HasCome text old (entries_text airport (drop (place + 1) entries)) new
+  entry_comes text old before new come grown =
+      let lines : List ℕ = lines_text (entry_lines airport told) in
+      let rest : List ℕ = entries_text airport (drop (place + 1) entries) in (
+        come.0 ++ lines,
+        come.1 ∙ ap (λ (t : List ℕ). come.0 ++ t) entries-from ∙ sym (append_assoc come.0 lines rest),
+        grown ∙ ap (λ (t : List ℕ). t ++ lines) come.2 ∙ append_assoc old come.0 lines,
+      )
+
+  -- it is cut short
+  pub entry_cut : (text old before new : List ℕ) → HasCome text old (entries_text airport (drop place entries)) before → IsCutShort (lines_text (entry_lines airport told)) before new
+      → IsCutShort text old new
+  entry_cut text old before new come cut =
+      let rest : List ℕ = entries_text airport (drop (place + 1) entries) in
+      record {
+        written = come.0 ++ cut.written;
+        rest = cut.rest ++ rest;
+        parts = come.1 ∙ ap (λ (t : List ℕ). come.0 ++ t) (entries-from ∙ ap (λ (t : List ℕ). t ++ rest) cut.parts ∙ append_assoc cut.written cut.rest rest) ∙ sym (append_assoc come.0 cut.written (cut.rest ++ rest));
+        grown = cut.grown ∙ ap (λ (t : List ℕ). t ++ cut.written) come.2 ∙ append_assoc old come.0 cut.written;
+      }
+
+-- all of them have come
+pub entries_come : (airport : Airport) (entries : List (List ℕ × Entry)) (place : ℕ) (text old new : List ℕ) → length entries ≤ place → HasCome text old (entries_text airport (drop place entries)) new → new ≡ old ++ text
+entries_come airport entries place text old new all come =
+    let none : drop place entries ≡ [] = drop_all place entries all in
+    come.2 ∙ ap (λ (t : List ℕ). old ++ t) (sym (come.1 ∙ ap (λ (es : List (List ℕ × Entry)). come.0 ++ entries_text airport es) none ∙ append-nil come.0))

@@ -1,6 +1,6 @@
--- The searches of a block of today: one where it tells of a search, and none of any other; and the first rule that a block breaks.
-use Rattle.std.proofs.Common.{◌≡◌, ℕ, List, [], ◌∷◌, length, All, map, inl, inr, Option, Some, None, refl, sym, ap, subst, arith}
-use Rattle.std.specs.Prelude.{◌⊎◌}
+-- The searches of a block: one where it tells of a search, and none of any other but a batch; and the first rule that a block breaks.
+use Rattle.std.proofs.Common.{◌≡◌, ◌∙◌, ℕ, List, [], ◌∷◌, ◌++◌, length, All, map, inl, inr, Option, Some, None, refl, sym, ap, subst, arith}
+use Rattle.std.specs.Prelude.{◌⊎◌, ⊤, flat_map, option_and_then}
 use Rattle.std.specs.Option.{option_map_or}
 use Rattle.std.proofs.lemmas.Bool.{cases_lt}
 use Rattle.std.proofs.lemmas.List.Elements.{All-nil, All-cons, All-head, All-tail}
@@ -10,24 +10,97 @@ use Rattle.taxi_base.specs.declared.rows.Step.{Step}
 use Rattle.taxi_base.specs.declared.rows.LabelRow.{LabelRow}
 use Rattle.taxi_base.specs.Again.{IsBestFor}
 use Rattle.certificate.specs.declared.block.Block.{Block}
-use Rattle.certificate.specs.declared.block.Block.TheVariants.{Refused, Filed, Cancelled, Route, NoRoute, Windows, Occupancy, Timetable}
+use Rattle.taxi_text.specs.declared.command.Command.{Command}
+use Rattle.taxi_text.specs.declared.command.Command.TheVariants as command
+use Rattle.taxi_text.specs.Commands.{command_of}
+use Rattle.certificate.specs.declared.block.Block.TheVariants.{Refused, Filed, Cancelled, Route, NoRoute, Windows, Occupancy, Timetable, Batch}
+use Rattle.certificate.specs.declared.entries.Entry.{Entry}
+use Rattle.certificate.specs.declared.entries.Entry.TheVariants as entry
 use Rattle.certificate.specs.declared.rule.Rule.{Rule}
 use Rattle.certificate.specs.declared.rule.Rule.TheVariants as rule
 use Rattle.certificate.specs.CarriedOut.{second_of}
-use Rattle.certificate.specs.Sought.{Sought, sought_by, IsWalkFor}
-use Rattle.certificate.specs.Turns.{Turn, told_in, after_told, in_turns, turns_of, after_turns}
-use Rattle.certificate.specs.Passes.{IsFormOf, KeepsReply, KeepsTurn, Keeps, rank_of, IsFirstOf, BreaksFirst, IsFirstBroken, IsAfter, IsPassed, IsBestTold, TellsBest}
+use Rattle.certificate.specs.Sought.{Sought, sought_of, sought_by, IsWalkFor}
+use Rattle.certificate.specs.Turns.{Turn, told_of, told_in, after_told, tellings_of, tellings, in_turns, turns_for, turns_of, after_turns}
+use Rattle.certificate.specs.Passes.{IsFormOf, IsAsAskedAlone, IsAsAsked, KeepsReply, KeepsTurn, Keeps, rank_of, IsFirstOf, BreaksFirst, IsFirstBroken, IsAfter, IsPassed, IsBestTold, TellsBest}
 
 -- ---- one element
 
 pub all-one : {X : Type 0} (P : X → Type 0) (x : X) → P x → All P (x ∷ [])
 all-one P x p = All-cons P x [] p (All-nil P)
 
+-- ---- commands that seek one walk at most
+
+abbrev pub IsAlone : Command → Type 0
+IsAlone (command.Batch requests) = ⊥
+IsAlone _ = ⊤
+
+pub asked-alone : (airport : Airport) (state : State) (c : Command) (block : Block) → IsAlone c → IsAsAskedAlone airport state c block → IsAsAsked airport state c block
+asked-alone airport state (command.Batch requests) block alone asked = absurd alone
+asked-alone airport state c block alone asked = asked
+
+-- ---- what is told, one after the other
+
+map-append : {X Y : Type 0} (f : X → Y) (xs ys : List X) → map f (xs ++ ys) ≡ map f xs ++ map f ys
+map-append f [] ys = refl
+map-append f (x ∷ xs) ys = ap (λ (zs : List _). f x ∷ zs) (map-append f xs ys)
+
+map-none : {X Y : Type 0} (f : X → Y) (xs : List X) → map f xs ≡ [] → xs ≡ []
+map-none f [] e = refl
+map-none {Y = Y} f (x ∷ xs) e = absurd (let l = ap (λ (ys : List Y). length ys) e in omega (arith, l))
+
+module _ (airport : Airport) (command : Command) where
+  entry-told : (told : List ℕ × Entry) → map (λ t. t.told) (tellings_of airport command told) ≡ told_of told
+  entry-told (name, entry.Route second steps labels) = refl
+  entry-told (name, entry.NoRoute labels) = refl
+  entry-told (name, entry.Dropped) = refl
+
+  entries-told : (entries : List (List ℕ × Entry)) → map (λ t. t.told) (flat_map (tellings_of airport command) entries) ≡ flat_map told_of entries
+  entries-told [] = refl
+  entries-told (told ∷ entries) =
+      map-append (λ t. t.told) (tellings_of airport command told) (flat_map (tellings_of airport command) entries)
+      ∙ ap (λ (bs : List Block). bs ++ map (λ t. t.told) (flat_map (tellings_of airport command) entries)) (entry-told told)
+      ∙ ap (λ (bs : List Block). told_of told ++ bs) (entries-told entries)
+
+  -- what is told to a command of searches is what the block tells of them
+  pub tellings-told : (block : Block) → map (λ t. t.told) (tellings airport command block) ≡ told_in block
+  tellings-told (Route name second steps labels) = refl
+  tellings-told (NoRoute labels) = refl
+  tellings-told (Refused why) = refl
+  tellings-told (Filed name start end) = refl
+  tellings-told (Cancelled name) = refl
+  tellings-told (Windows segment windows) = refl
+  tellings-told (Occupancy segment held) = refl
+  tellings-told (Timetable flights) = refl
+  tellings-told (Batch total entries) = entries-told entries
+
 module _ (airport : Airport) (state : State) (line : List ℕ) where
   -- ---- a block that tells of no search
 
   pub no_turns : (block : Block) → told_in block ≡ [] → turns_of airport state line block ≡ []
-  no_turns block none = ap (in_turns (λ now told. sought_by airport now line) state) none
+  no_turns block none = go (command_of line) where
+    go : (o : Option Command) → option_map_or (λ command. turns_for airport state command block) o [] ≡ []
+    go None = refl
+    go (Some command) = ap (in_turns state) (map-none (λ t. t.told) (tellings airport command block) (tellings-told airport command block ∙ none))
+
+  pub no_turns-after : (block : Block) → told_in block ≡ [] → after_turns state (turns_of airport state line block) ≡ state
+  no_turns-after block none = ap (after_turns state) (no_turns block none)
+
+  -- the search of a route, or of none, is what the line seeks
+  abbrev turns_by : Block → Option Sought → List Turn
+  turns_by told o = option_map_or (λ s. record { sought = s; told = told } ∷ []) o []
+
+  route-turns : (name : List ℕ) (second : ℕ) (steps : List Step) (labels : List LabelRow)
+      → turns_of airport state line (Route name second steps labels) ≡ turns_by (Route name second steps labels) (sought_by airport state line)
+  route-turns name second steps labels = go (command_of line) where
+    go : (o : Option Command) → option_map_or (λ command. turns_for airport state command (Route name second steps labels)) o [] ≡ turns_by (Route name second steps labels) (option_and_then (sought_of airport state) o)
+    go None = refl
+    go (Some command) = refl
+
+  no_route-turns : (labels : List LabelRow) → turns_of airport state line (NoRoute labels) ≡ turns_by (NoRoute labels) (sought_by airport state line)
+  no_route-turns labels = go (command_of line) where
+    go : (o : Option Command) → option_map_or (λ command. turns_for airport state command (NoRoute labels)) o [] ≡ turns_by (NoRoute labels) (option_and_then (sought_of airport state) o)
+    go None = refl
+    go (Some command) = refl
 
   no_turns-keep : (block : Block) → told_in block ≡ [] → (r : Rule) → All (λ turn. KeepsTurn turn r) (turns_of airport state line block)
   no_turns-keep block none r = subst (All (λ turn. KeepsTurn turn r)) (sym (no_turns block none)) (All-nil (λ turn. KeepsTurn turn r))
@@ -45,14 +118,15 @@ module _ (airport : Airport) (state : State) (line : List ℕ) where
 
   module _ (s : Sought) (by : sought_by airport state line ≡ Some s) where
     pub one_turn : (block : Block) → IsFormOf s block → turns_of airport state line block ≡ record { sought = s; told = block } ∷ []
-    one_turn (Route name second steps labels) form = rw by refl
-    one_turn (NoRoute labels) form = rw by refl
+    one_turn (Route name second steps labels) form = route-turns name second steps labels ∙ ap (turns_by (Route name second steps labels)) by
+    one_turn (NoRoute labels) form = no_route-turns labels ∙ ap (turns_by (NoRoute labels)) by
     one_turn (Refused why) form = absurd form
     one_turn (Filed name start end) form = absurd form
     one_turn (Cancelled name) form = absurd form
     one_turn (Windows segment windows) form = absurd form
     one_turn (Occupancy segment held) form = absurd form
     one_turn (Timetable flights) form = absurd form
+    one_turn (Batch total entries) form = absurd form
 
     -- it keeps a rule where its search does
     turn-keeps : (block : Block) → IsFormOf s block → (r : Rule) → KeepsTurn (record { sought = s; told = block }) r → All (λ turn. KeepsTurn turn r) (turns_of airport state line block)
@@ -92,6 +166,7 @@ module _ (airport : Airport) (state : State) (line : List ℕ) where
     after-is (Windows segment windows) after form is = absurd form
     after-is (Occupancy segment held) after form is = absurd form
     after-is (Timetable flights) after form is = absurd form
+    after-is (Batch total entries) after form is = absurd form
 
     pub is-after : (block : Block) (after : State) → IsFormOf s block → IsAfter airport state line block after → after ≡ after_told s block
     is-after (Route name second steps labels) after form is = subst (λ a. after ≡ a) (one-after (Route name second steps labels) form) is
@@ -102,6 +177,7 @@ module _ (airport : Airport) (state : State) (line : List ℕ) where
     is-after (Windows segment windows) after form is = absurd form
     is-after (Occupancy segment held) after form is = absurd form
     is-after (Timetable flights) after form is = absurd form
+    is-after (Batch total entries) after form is = absurd form
 
     -- the first rule that the search breaks is the first that the block breaks
     pub one-breaks : (block : Block) → IsFormOf s block → KeepsReply airport state line block → (r : Rule) → IsFirstOf (KeepsTurn (record { sought = s; told = block })) (Some r) → IsFirstBroken airport state line block r
@@ -116,9 +192,6 @@ module _ (airport : Airport) (state : State) (line : List ℕ) where
 
   -- ---- what is best of a block is best of what its line seeks
 
-  abbrev turns_by : Block → Option Sought → List Turn
-  turns_by told o = option_map_or (λ s. record { sought = s; told = told } ∷ []) o []
-
   best-turn : (told : Block) (o : Option Sought) → sought_by airport state line ≡ o → map (λ turn. turn.told) (turns_by told o) ≡ told ∷ [] → All (λ turn. IsBestTold turn.sought turn.told) (turns_by told o)
       → (s : Sought) × (sought_by airport state line ≡ Some s) × IsBestTold s told
   best-turn told None e all best = absurd (let l = ap (λ (bs : List Block). length bs) all in omega (arith, l))
@@ -127,11 +200,14 @@ module _ (airport : Airport) (state : State) (line : List ℕ) where
   pub best-route : (name : List ℕ) (second : ℕ) (steps : List Step) (labels : List LabelRow) → TellsBest airport state line (Route name second steps labels)
       → (s : Sought) × (sought_by airport state line ≡ Some s) × IsBestFor s.request (IsWalkFor s) steps × (second_of s.request steps ≡ second)
   best-route name second steps labels best =
-      let told = best-turn (Route name second steps labels) (sought_by airport state line) refl best.all_told best.best in
+      let turns = route-turns name second steps labels in
+      let told = best-turn (Route name second steps labels) (sought_by airport state line) refl (sym (ap (map (λ t. t.told)) turns) ∙ best.all_told) (subst (All (λ t. IsBestTold t.sought t.told)) turns best.best) in
       (told.0, told.1, told.2.0, told.2.1)
 
   pub best-none : (labels : List LabelRow) → TellsBest airport state line (NoRoute labels) → (s : Sought) × (sought_by airport state line ≡ Some s) × ((steps : List Step) → IsWalkFor s steps → ⊥)
-  best-none labels best = best-turn (NoRoute labels) (sought_by airport state line) refl best.all_told best.best
+  best-none labels best =
+      let turns = no_route-turns labels in
+      best-turn (NoRoute labels) (sought_by airport state line) refl (sym (ap (map (λ t. t.told)) turns) ∙ best.all_told) (subst (All (λ t. IsBestTold t.sought t.told)) turns best.best)
 
 -- ---- the first rule that is broken is one
 

@@ -1,5 +1,5 @@
 -- What do the words of a command ask for, in the airport's own terms?
-use Rattle.std.specs.Prelude.{ℕ, ◌-◌, ◌+◌, List, [], ◌∷◌, length, Option, Some, option_map, option_and_then, IsTrue, ⊤}
+use Rattle.std.specs.Prelude.{ℕ, ◌-◌, ◌+◌, List, [], ◌∷◌, length, Option, Some, option_map, option_and_then, All, IsTrue, ⊤}
 use Rattle.taxi_base.specs.declared.numbers.Segment.{Segment}
 use Rattle.taxi_base.specs.declared.rows.Step.{Step}
 use Rattle.taxi_base.specs.declared.answers.Party.{Party}
@@ -19,7 +19,9 @@ use Rattle.taxi_text.specs.declared.command.Filed.{Filed}
 use Rattle.taxi_text.specs.declared.command.Shut.{Shut}
 use Rattle.taxi_text.specs.declared.command.Command.{Command}
 use Rattle.taxi_text.specs.declared.command.Command.TheVariants as command
-use Rattle.taxi_text.specs.Commands.{is_step_count, is_choice_count}
+use Rattle.taxi_text.specs.declared.command.BatchRequest.{BatchRequest}
+use Rattle.taxi_text.specs.declared.command.BatchRequest.TheVariants as requested
+use Rattle.taxi_text.specs.Commands.{is_step_count, is_choice_count, is_batch_count}
 use Rattle.certificate.specs.Printable.{IsShort, IsName}
 
 -- ---- a route given by hand
@@ -36,12 +38,20 @@ filed_steps airport enter (filed ∷ rest) =
 abbrev pub route_filed : Airport → Filed → Option (List Step)
 route_filed airport filed = filed_steps airport filed.start filed.steps
 
+-- the words of a request of a batch
+abbrev pub asked_in : BatchRequest → Asked
+asked_in (requested.Arrival asked) = asked
+asked_in (requested.Departure asked) = asked
+
+abbrev pub IsAskedInGrammar : Asked → Type 0
+IsAskedInGrammar asked = IsName asked.flight × IsShort asked.time × IsShort asked.slack
+
 -- What the grammar promises of a command: the name that a flight or a work party has or is to have is a name, times have at
--- most 7 digits, a route given by hand has 1 to 256 steps, and a choice 1 to 16 nodes.
+-- most 7 digits, a route given by hand has 1 to 256 steps, a choice 1 to 16 nodes, and a batch 2 to 6 requests.
 abbrev pub IsInGrammar : Command → Type 0
 IsInGrammar (command.File filed) = IsName filed.flight × IsTrue (is_step_count (length filed.steps))
-IsInGrammar (command.Arrival asked) = IsName asked.flight × IsShort asked.time × IsShort asked.slack
-IsInGrammar (command.Departure asked) = IsName asked.flight × IsShort asked.time × IsShort asked.slack
+IsInGrammar (command.Arrival asked) = IsAskedInGrammar asked
+IsInGrammar (command.Departure asked) = IsAskedInGrammar asked
 IsInGrammar (command.Cancel flight) = IsName flight
 IsInGrammar (command.Reroute flight time) = IsName flight × IsShort time
 IsInGrammar (command.Divert flight time node) = IsName flight × IsShort time
@@ -49,6 +59,7 @@ IsInGrammar (command.Work shut) = IsName shut.name × IsShort shut.from × IsSho
 IsInGrammar (command.WorkDone name) = IsName name
 IsInGrammar (command.ArrivalAny asked) = IsName asked.flight × IsShort asked.time × IsShort asked.slack × IsTrue (is_choice_count (length asked.nodes))
 IsInGrammar (command.DepartureAny asked) = IsName asked.flight × IsShort asked.time × IsShort asked.slack × IsTrue (is_choice_count (length asked.nodes))
+IsInGrammar (command.Batch requests) = All (λ request. IsAskedInGrammar (asked_in request)) requests × IsTrue (is_batch_count (length requests))
 IsInGrammar _ = ⊤
 
 -- ---- a segment to be shut

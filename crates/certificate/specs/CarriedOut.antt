@@ -11,7 +11,6 @@ use Rattle.taxi_base.specs.declared.answers.Request.TheVariants as request
 use Rattle.taxi_base.specs.declared.answers.Flight.{Flight}
 use Rattle.taxi_base.specs.declared.answers.Party.{Party}
 use Rattle.taxi_base.specs.declared.answers.Found.{Found}
-use Rattle.taxi_base.specs.declared.answers.Found.TheVariants as found
 use Rattle.taxi_base.specs.declared.answers.Chosen.{Chosen}
 use Rattle.taxi_base.specs.declared.answers.Chosen.TheVariants as chosen
 use Rattle.taxi_base.specs.Airport.{Airport, node_named, class_named, segment_named}
@@ -25,18 +24,11 @@ use Rattle.taxi_text.specs.declared.command.Filed as filing
 use Rattle.taxi_text.specs.declared.command.Shut.{Shut}
 use Rattle.taxi_text.specs.declared.command.Command.{Command}
 use Rattle.taxi_text.specs.declared.command.Command.TheVariants as command
+pub use Rattle.certificate.specs.Routed.{Reply, IsOf, second_of, found_reply, routed_flight, IsRoutedAs}
+use Rattle.certificate.specs.Batches.{IsBatched}
 use Rattle.certificate.specs.declared.block.Block.{Block}
 use Rattle.certificate.specs.declared.block.Block.TheVariants.{Filed, Cancelled, Route, NoRoute, Windows, Occupancy, Timetable}
-use Rattle.certificate.specs.Asked.{route_filed, party_of, arrival_named, departure_named, AnswersRequest, Choice, request_for, arrival_any_named, departure_any_named, AnswersChoice}
-
--- what is answered, and the state afterwards
-pub record Reply : Type 0 where
-  pub block : Block
-  pub after : State
-
--- a block and a state are those of a reply
-abbrev pub IsOf : Reply → Block → State → Type 0
-IsOf reply block after = (block ≡ reply.block) × (after ≡ reply.after)
+use Rattle.certificate.specs.Asked.{route_filed, party_of, arrival_named, departure_named, Choice, request_for, arrival_any_named, departure_any_named, AnswersChoice}
 
 -- ---- a route given by hand
 
@@ -57,29 +49,13 @@ pub record IsFiled (airport : Airport) (state : State) (asked : filing.Filed) (b
 
 -- ---- a route that was found
 
--- the second that is told with a route: where a departure begins, and where an arrival ends
-abbrev pub second_of : Request → List Step → ℕ
-second_of (request.Departure from to time queue) steps = begin_of steps
-second_of _ steps = end_of steps
-
--- A route is told with its labels, and is in force afterwards. Where there is none the labels are told, and nothing changes.
-abbrev pub found_reply : State → List ℕ → Request → (List Step → State) → Found → Reply
-found_reply state name request with_steps (found.Route steps labels) =
-    record { block = Route name (second_of request steps) steps labels; after = with_steps steps }
-found_reply state name request with_steps (found.NoRoute labels) = record { block = NoRoute labels; after = state }
-
-abbrev pub routed_flight : List ℕ → Class → Request → List Step → Flight
-routed_flight name class request steps = record { name = name; class = class; request = request; steps = steps }
-
--- a new flight is routed as it asked, among all holders
+-- a new flight is routed as it asked
 pub record IsRouted (airport : Airport) (state : State) (name class_name : List ℕ) (asked : Option Request) (block : Block) (after : State) : Type 0 where
   pub class : Class
   pub request : Request
   pub class_known : class_named airport class_name ≡ Some class
   pub nodes_known : asked ≡ Some request
-  pub found : Found
-  pub answers : AnswersRequest (conditions_in airport class state) request found
-  pub reply : IsOf (found_reply state name request (λ steps. with_flight (routed_flight name class request steps) state) found) block after
+  pub routed : IsRoutedAs airport state name class request block after
 
 -- A route to the chosen node is in force afterwards, with that node as the one that was asked for.
 abbrev pub chosen_reply : State → List ℕ → Class → Choice → Chosen → Reply
@@ -173,3 +149,4 @@ IsCarriedOut airport state (command.Work shut) = IsShut airport state shut
 IsCarriedOut airport state (command.WorkDone name) = IsOf (opened_reply state name)
 IsCarriedOut airport state (command.ArrivalAny asked) = IsRoutedToOne airport state asked.flight asked.class (arrival_any_named airport asked)
 IsCarriedOut airport state (command.DepartureAny asked) = IsRoutedToOne airport state asked.flight asked.class (departure_any_named airport asked)
+IsCarriedOut airport state (command.Batch requests) = IsBatched airport state requests

@@ -3,6 +3,8 @@ pub mod Printable
 pub mod Printed
 pub mod Asked
 pub mod Refusals
+pub mod Routed
+pub mod Batches
 pub mod CarriedOut
 pub mod Replies
 pub mod Sought

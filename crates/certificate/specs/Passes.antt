@@ -8,6 +8,7 @@ use Rattle.taxi_base.specs.declared.rows.Step.{Step}
 use Rattle.taxi_base.specs.State.{State}
 use Rattle.taxi_base.specs.Again.{IsBestFor}
 use Rattle.taxi_text.specs.declared.command.Command.{Command}
+use Rattle.taxi_text.specs.declared.command.Command.TheVariants as command
 use Rattle.taxi_text.specs.Commands.{command_of}
 use Rattle.certificate.specs.declared.block.Block.{Block}
 use Rattle.certificate.specs.declared.block.Block.TheVariants.{Refused, Filed, Cancelled, Route, NoRoute}
@@ -15,6 +16,7 @@ use Rattle.certificate.specs.declared.rule.Rule.{Rule}
 use Rattle.certificate.specs.declared.rule.Rule.TheVariants as rule
 use Rattle.certificate.specs.CarriedOut.{second_of, IsCarriedOut}
 use Rattle.certificate.specs.Refusals.{first_refusal}
+use Rattle.certificate.specs.Batches.{TellsBatch}
 use Rattle.certificate.specs.Replies.{IsDue, NeedsNoMemory}
 use Rattle.certificate.specs.Sought.{Sought, Search, sought_of, search_of, IsWalkFor}
 use Rattle.certificate.specs.Turns.{Turn, told_in, turns_of, after_turns}
@@ -28,10 +30,15 @@ IsFormOf s (Route name second steps labels) = name ≡ s.name
 IsFormOf s (NoRoute labels) = IsTrue s.may_be_none
 IsFormOf s _ = ⊥
 
--- Where a walk is sought the block tells one, or that there is none. Of any other command it is the reply that is due.
-abbrev pub IsAsAsked : Airport → State → Command → Block → Type 0
-IsAsAsked airport state command block =
+-- Where a walk is sought the block tells one, or that there is none. To a batch it tells of each request, in any order, and what all of
+-- them cost. Of any other command it is the reply that is due.
+abbrev pub IsAsAskedAlone : Airport → State → Command → Block → Type 0
+IsAsAskedAlone airport state command block =
     MatchOption (sought_of airport state command) ((after : State) × IsCarriedOut airport state command block after) (λ s. IsFormOf s block)
+
+abbrev pub IsAsAsked : Airport → State → Command → Block → Type 0
+IsAsAsked airport state (command.Batch requests) block = TellsBatch airport requests block
+IsAsAsked airport state other block = IsAsAskedAlone airport state other block
 
 -- where a refusal is due the block is this refusal
 abbrev pub IsOfDueForm : Airport → State → List ℕ → Block → Type 0

@@ -1,6 +1,7 @@
 -- Which blocks have a text in the grammar.
 use Rattle.std.specs.Prelude.{ℕ, ◌<◌, ◌≤◌, ◌^◌, List, length, All, IsTrue, ⊤}
 use Rattle.taxi_base.specs.Words.{is_name}
+use Rattle.taxi_text.specs.Commands.{is_batch_count}
 use Rattle.taxi_base.specs.Airport.{Airport, arc_exists, layout_of}
 use Rattle.taxi_base.specs.declared.numbers.Arc.{Arc}
 use Rattle.taxi_base.specs.declared.numbers.Class.{Class}
@@ -16,7 +17,9 @@ use Rattle.taxi_base.specs.declared.answers.StepFault.{StepFault}
 use Rattle.taxi_base.specs.declared.answers.Refusal.{Refusal}
 use Rattle.taxi_base.specs.declared.answers.Refusal.TheVariants as refusal
 use Rattle.certificate.specs.declared.block.Block.{Block}
-use Rattle.certificate.specs.declared.block.Block.TheVariants.{Refused, Filed, Cancelled, Route, NoRoute, Windows, Occupancy, Timetable}
+use Rattle.certificate.specs.declared.block.Block.TheVariants.{Refused, Filed, Cancelled, Route, NoRoute, Windows, Occupancy, Timetable, Batch}
+use Rattle.certificate.specs.declared.entries.Entry.{Entry}
+use Rattle.certificate.specs.declared.entries.Entry.TheVariants as entry
 
 -- ---- numbers and names in a block
 
@@ -71,16 +74,35 @@ IsPrintableRefusal (refusal.AlreadyMoving start) = IsShort start
 IsPrintableRefusal (refusal.Step fault) = IsPrintableFault fault
 IsPrintableRefusal _ = ⊤
 
+abbrev pub IsPrintableRoute : Airport → List ℕ → ℕ → List Step → List LabelRow → Type 0
+IsPrintableRoute airport flight second steps labels =
+    (IsName flight × (IsShort second × (((0 < length steps) × IsCount (length steps)) × IsCount (length labels))))
+    × (All (IsPrintableStep airport) steps × All (IsPrintableLabel airport) labels)
+
+abbrev pub IsPrintableNoRoute : Airport → List LabelRow → Type 0
+IsPrintableNoRoute airport labels = IsCount (length labels) × All (IsPrintableLabel airport) labels
+
+abbrev pub IsPrintableEntry : Airport → List ℕ × Entry → Type 0
+IsPrintableEntry airport (name, entry.Route second steps labels) = IsPrintableRoute airport name second steps labels
+IsPrintableEntry airport (name, entry.NoRoute labels) = IsName name × IsPrintableNoRoute airport labels
+IsPrintableEntry airport (name, entry.Dropped) = IsName name
+
+-- something is told of the flight: it is not dropped
+abbrev pub IsTold : List ℕ × Entry → Type 0
+IsTold (name, entry.Dropped) = ⊥
+IsTold (name, told) = ⊤
+
 -- A block that has a text in the grammar: its arcs, segments and classes are the airport's, its names are names, its numbers have
--- at most 7 digits and its counts at most 10, and a route has at least one step.
+-- at most 7 digits and its counts at most 10, and a route has at least one step. A batch has 2 to 6 entries, of which none is
+-- dropped, and its total fits 32 bits.
 abbrev pub IsPrintable : Airport → Block → Type 0
 IsPrintable airport (Refused why) = IsPrintableRefusal why
 IsPrintable airport (Filed flight start end) = IsName flight × (IsShort start × IsShort end)
 IsPrintable airport (Cancelled flight) = IsName flight
-IsPrintable airport (Route flight second steps labels) =
-    (IsName flight × (IsShort second × (((0 < length steps) × IsCount (length steps)) × IsCount (length labels))))
-    × (All (IsPrintableStep airport) steps × All (IsPrintableLabel airport) labels)
-IsPrintable airport (NoRoute labels) = IsCount (length labels) × All (IsPrintableLabel airport) labels
+IsPrintable airport (Route flight second steps labels) = IsPrintableRoute airport flight second steps labels
+IsPrintable airport (NoRoute labels) = IsPrintableNoRoute airport labels
 IsPrintable airport (Windows segment windows) = (HasSegment airport segment × IsCount (length windows)) × All IsPrintableWindow windows
 IsPrintable airport (Occupancy segment held) = (HasSegment airport segment × IsCount (length held)) × All (IsPrintableHeld airport) held
 IsPrintable airport (Timetable flights) = IsCount (length flights) × All (IsPrintableFlight airport) flights
+IsPrintable airport (Batch total entries) =
+    (IsTrue (is_batch_count (length entries)) × (total < 2 ^ 32)) × (All IsTold entries × All (IsPrintableEntry airport) entries)

@@ -1,5 +1,5 @@
 -- Which refusal is a command due, of several the first?
-use Rattle.std.specs.Prelude.{ℕ, Bool, true, false, not, ◌&&◌, nat_le, if◌then◌else◌, List, [], ◌∷◌, Option, Some, None, is_some, is_none, option_map, option_and_then}
+use Rattle.std.specs.Prelude.{ℕ, ◌+◌, Bool, true, false, not, ◌&&◌, ◌||◌, nat_lt, nat_le, bytes_eq, if◌then◌else◌, List, [], ◌∷◌, ◌++◌, length, Option, Some, None, is_some, is_none, option_map, option_and_then}
 use Rattle.std.specs.List.{list_any}
 use Rattle.taxi_base.specs.declared.rows.Kind.{Kind}
 use Rattle.taxi_base.specs.declared.answers.Request.{Request}
@@ -15,7 +15,9 @@ use Rattle.taxi_text.specs.declared.command.Filed.{Filed}
 use Rattle.taxi_text.specs.declared.command.Shut.{Shut}
 use Rattle.taxi_text.specs.declared.command.Command.{Command}
 use Rattle.taxi_text.specs.declared.command.Command.TheVariants as command
-use Rattle.certificate.specs.Asked.{route_filed, party_of, nodes_named}
+use Rattle.taxi_text.specs.declared.command.BatchRequest.{BatchRequest}
+use Rattle.taxi_text.specs.declared.command.BatchRequest.TheVariants as requested
+use Rattle.certificate.specs.Asked.{route_filed, party_of, nodes_named, asked_in}
 
 -- a refusal where a test holds
 abbrev pub refused_if : Bool → Refusal → Option Refusal
@@ -120,6 +122,37 @@ abbrev pub hold_fails : Airport → State → Shut → Option Refusal
 hold_fails airport state shut =
     option_and_then (λ segment. option_map (λ fault. refusal.Step fault) (hold_fault airport state (party_hold (party_of shut segment)))) (segment_named airport shut.segment)
 
+-- so many more would be too many
+abbrev pub full_with : ℕ → State → Option Refusal
+full_with more state = refused_if (nat_lt most_holders (holder_count state + more)) refusal.Full
+
+-- ---- the requests of a batch, each tried as on a line of its own, but that names before it in the line are taken too
+
+abbrev pub is_name_of : List ℕ → BatchRequest → Bool
+is_name_of name request = bytes_eq (asked_in request).flight name
+
+abbrev pub in_force_or_before : State → List BatchRequest → List ℕ → Option Refusal
+in_force_or_before state before name = refused_if (has_holder name state || list_any (is_name_of name) before) refusal.InForce
+
+abbrev pub wrong_kinds : Airport → BatchRequest → List (Option Refusal)
+wrong_kinds airport (requested.Arrival asked) = no_runway airport asked.from ∷ no_stand airport asked.to ∷ []
+wrong_kinds airport (requested.Departure asked) = no_stand airport asked.from ∷ no_runway airport asked.to ∷ []
+
+-- what its other words are tried for
+abbrev pub tests_of_words : Airport → BatchRequest → List (Option Refusal)
+tests_of_words airport request =
+    unknown_class airport (asked_in request).class ∷ unknown_node airport (asked_in request).from
+    ∷ unknown_node airport (asked_in request).to ∷ wrong_kinds airport request
+
+abbrev pub tests_of_request : Airport → State → List BatchRequest → BatchRequest → List (Option Refusal)
+tests_of_request airport state before request = in_force_or_before state before (asked_in request).flight ∷ tests_of_words airport request
+
+-- request by request, with those before it
+abbrev pub tests_of_requests : Airport → State → List BatchRequest → List BatchRequest → List (Option Refusal)
+tests_of_requests airport state before [] = []
+tests_of_requests airport state before (request ∷ later) =
+    tests_of_request airport state before request ++ tests_of_requests airport state (before ++ request ∷ []) later
+
 -- ---- the table: what each command is tried for
 
 abbrev pub first_refusal : Airport → State → Command → Option Refusal
@@ -150,3 +183,5 @@ first_refusal airport state (command.ArrivalAny asked) =
 first_refusal airport state (command.DepartureAny asked) =
     first_of (in_force state asked.flight ∷ unknown_class airport asked.class ∷ unknown_node airport asked.from ∷ unknown_node_of airport asked.nodes
     ∷ no_stand airport asked.from ∷ not_all is_runway airport asked.nodes ∷ full state ∷ [])
+first_refusal airport state (command.Batch requests) =
+    first_of (tests_of_requests airport state [] requests ++ full_with (length requests) state ∷ [])

@@ -1,5 +1,6 @@
 -- What may a line be answered, and what does the answer promise?
-use Rattle.std.specs.Prelude.{ℕ, ◌≡◌, ◌⊎◌, List, Option, Some, All, IsTrue, MatchOption, ⊤}
+use Rattle.std.specs.Prelude.{ℕ, ◌≡◌, ◌⊎◌, List, [], ◌∷◌, Option, Some, All, IsTrue, MatchOption, ⊤}
+use Rattle.taxi_base.specs.declared.rows.Step.{Step}
 use Rattle.taxi_base.specs.declared.answers.Flight.{Flight}
 use Rattle.taxi_base.specs.declared.answers.Party.{Party}
 use Rattle.taxi_base.specs.declared.answers.Refusal.{Refusal}
@@ -14,7 +15,9 @@ use Rattle.taxi_text.specs.declared.command.Command.{Command}
 use Rattle.taxi_text.specs.declared.command.Command.TheVariants as command
 use Rattle.taxi_text.specs.Commands.{command_of}
 use Rattle.certificate.specs.declared.block.Block.{Block}
-use Rattle.certificate.specs.declared.block.Block.TheVariants.{Refused, Filed, Cancelled, Route, NoRoute, Windows, Occupancy, Timetable}
+use Rattle.certificate.specs.declared.block.Block.TheVariants.{Refused, Filed, Cancelled, Route, NoRoute, Windows, Occupancy, Timetable, Batch}
+use Rattle.certificate.specs.declared.entries.Entry.{Entry}
+use Rattle.certificate.specs.declared.entries.Entry.TheVariants as entry
 use Rattle.certificate.specs.Printable.{IsName, IsPrintable}
 use Rattle.certificate.specs.Refusals.{first_refusal}
 use Rattle.certificate.specs.CarriedOut.{Reply, IsOf, second_of, IsCarriedOut}
@@ -69,21 +72,37 @@ pub record IsPartyIn (airport : Airport) (state : State) (name : List ℕ) (star
   pub start_told : party.from ≡ start
   pub end_told : party.until ≡ end
 
+-- a flight has a route that does what it asked for among the other holders
+abbrev pub IsRouteIn : Airport → State → List ℕ → ℕ → List Step → State → Type 0
+IsRouteIn airport state name second steps after =
+    (flight : Flight) × (flight.name ≡ name) × (flight.steps ≡ steps) × (after ≡ with_flight flight (without flight.name state))
+    × Meets (conditions_of airport state flight) flight.request flight.steps × (second_of flight.request flight.steps ≡ second)
+
+-- what an entry says is so
+abbrev pub DoesEntry : Airport → State → List ℕ × Entry → State → Type 0
+DoesEntry airport state (name, entry.Route second steps labels) after = IsRouteIn airport state name second steps after
+DoesEntry airport state (name, entry.NoRoute labels) after = after ≡ state
+DoesEntry airport state (name, entry.Dropped) after = ⊥
+
+-- entries in turn, each in the state after the one before
+abbrev pub DoInTurn : Airport → State → List (List ℕ × Entry) → State → Type 0
+DoInTurn airport state [] after = after ≡ state
+DoInTurn airport state (told ∷ entries) after = (mid : State) × DoesEntry airport state told mid × DoInTurn airport mid entries after
+
 -- What a block says is so, and nothing else changes: what is filed is a flight or a work party, and goes in; what is cancelled
 -- was in force, and goes out; a route does what its flight asked for among the other holders, and its flight has it afterwards;
 -- the windows of a segment are those that the holders leave; the rows of an occupancy are those of all that holds a segment in
--- conflict with it; the rows of a timetable are those of the flights in force.
+-- conflict with it; the rows of a timetable are those of the flights in force; the entries of a batch do so in turn.
 abbrev pub DoesAsItSays : Airport → State → Block → State → Type 0
 DoesAsItSays airport state (Filed name start end) after = IsFlightIn airport state name start end after ⊎ IsPartyIn airport state name start end after
 DoesAsItSays airport state (Cancelled name) after = IsTrue (has_holder name state) × (after ≡ without name state)
-DoesAsItSays airport state (Route name second steps labels) after =
-    (flight : Flight) × (flight.name ≡ name) × (flight.steps ≡ steps) × (after ≡ with_flight flight (without flight.name state))
-    × Meets (conditions_of airport state flight) flight.request flight.steps × (second_of flight.request flight.steps ≡ second)
+DoesAsItSays airport state (Route name second steps labels) after = IsRouteIn airport state name second steps after
 DoesAsItSays airport state (NoRoute labels) after = after ≡ state
 DoesAsItSays airport state (Windows segment windows) after =
     AreWindows (is_free airport.conflicts airport.horizon (holds_in airport state) segment) windows × (after ≡ state)
 DoesAsItSays airport state (Occupancy segment held) after = AreHeldRows airport state segment held × (after ≡ state)
 DoesAsItSays airport state (Timetable flights) after = (flights ≡ timetable_rows state) × (after ≡ state)
+DoesAsItSays airport state (Batch total entries) after = DoInTurn airport state entries after
 DoesAsItSays airport state (Refused why) after = after ≡ state
 
 -- the name of each holder is a name

@@ -19,7 +19,8 @@ use Rattle.taxi_text.specs.Commands.{command_of}
 use Rattle.walk_labels.specs.Requests.{Beginning}
 use Rattle.walk_labels.specs.Requests.Beginning.{at_node, resuming}
 use Rattle.certificate.specs.Asked.{arrival_named, departure_named, Choice, nodes_of, request_for, arrival_any_named, departure_any_named}
-use Rattle.certificate.specs.CarriedOut.{routed_flight}
+use Rattle.certificate.specs.declared.wish.Wish.{Wish}
+use Rattle.certificate.specs.Routed.{routed_flight}
 
 -- a flight in force that is routed anew: its steps, and the time from which on
 pub record UnderWay : Type 0 where
@@ -53,6 +54,10 @@ sought_new airport state name class request = record {
   with_steps = λ steps. with_flight (routed_flight name class request steps) state;
   with_none = state;
 }
+
+-- for a wish of a batch
+abbrev pub sought_wish : Airport → State → Wish → Sought
+sought_wish airport state wish = sought_new airport state wish.name wish.class wish.request
 
 -- for a flight in force from a time on, among the others
 abbrev pub sought_again : Airport → State → List ℕ → ℕ → Bool → Flight → Request → Sought
@@ -101,8 +106,8 @@ abbrev pub sought_to_one : Airport → State → List ℕ → List ℕ → Optio
 sought_to_one airport state name class asked =
     option_and_then (λ class. option_and_then (λ choice. sought_choice airport state name class choice (nodes_of choice)) asked) (class_named airport class)
 
--- What a command seeks; none for the commands that seek no walk. A reroute keeps the request, and the old steps are such a
--- walk. A divert changes its target.
+-- What a command seeks; none for the commands that seek no walk, and none for a batch, which seeks one for each of its requests.
+-- A reroute keeps the request, and the old steps are such a walk. A divert changes its target.
 abbrev pub sought_of : Airport → State → Command → Option Sought
 sought_of airport state (command.Arrival asked) = sought_by_class airport state asked.flight asked.class (arrival_named airport asked)
 sought_of airport state (command.Departure asked) = sought_by_class airport state asked.flight asked.class (departure_named airport asked)

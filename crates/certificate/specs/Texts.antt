@@ -15,7 +15,9 @@ use Rattle.taxi_base.specs.declared.answers.Refusal.TheVariants as refusal
 use Rattle.taxi_base.specs.Airport.{Airport}
 use Rattle.airport_file.specs.Words.{class_word, segment_word, word_of_arc}
 use Rattle.certificate.specs.declared.block.Block.{Block}
-use Rattle.certificate.specs.declared.block.Block.TheVariants.{Refused, Filed, Cancelled, Route, NoRoute, Windows, Occupancy, Timetable}
+use Rattle.certificate.specs.declared.block.Block.TheVariants.{Refused, Filed, Cancelled, Route, NoRoute, Windows, Occupancy, Timetable, Batch}
+use Rattle.certificate.specs.declared.entries.Entry.{Entry}
+use Rattle.certificate.specs.declared.entries.Entry.TheVariants as entry
 
 -- words with one blank between two, and a line feed
 abbrev pub line_text : List (List ℕ) → List ℕ
@@ -81,6 +83,20 @@ abbrev pub segment_lines : Airport → Segment → List Span → List (List (Lis
 segment_lines airport segment windows =
     (codes "windows" ∷ segment_word airport segment ∷ decimal (length windows) ∷ []) ∷ map window_words windows
 
+abbrev pub route_lines : Airport → List ℕ → ℕ → List Step → List LabelRow → List (List (List ℕ))
+route_lines airport flight second steps labels =
+    (codes "route" ∷ flight ∷ decimal second ∷ decimal (length steps) ∷ decimal (length labels) ∷ [])
+    ∷ (map (step_words airport) steps ++ map (label_words airport) labels)
+
+abbrev pub no_route_lines : Airport → List LabelRow → List (List (List ℕ))
+no_route_lines airport labels = (codes "no-route" ∷ decimal (length labels) ∷ []) ∷ map (label_words airport) labels
+
+-- the lines of an entry: of which flight, and what is told of it; or the one line that it is dropped
+abbrev pub entry_lines : Airport → List ℕ × Entry → List (List (List ℕ))
+entry_lines airport (name, entry.Route second steps labels) = (codes "next" ∷ name ∷ []) ∷ route_lines airport name second steps labels
+entry_lines airport (name, entry.NoRoute labels) = (codes "next" ∷ name ∷ []) ∷ no_route_lines airport labels
+entry_lines airport (name, entry.Dropped) = (codes "dropped" ∷ name ∷ []) ∷ []
+
 -- ---- blocks
 
 -- the lines of a block, each of its words
@@ -88,14 +104,13 @@ abbrev pub block_lines : Airport → Block → List (List (List ℕ))
 block_lines airport (Refused why) = (codes "refused" ∷ refusal_words why) ∷ []
 block_lines airport (Filed flight start end) = (codes "filed" ∷ flight ∷ decimal start ∷ decimal end ∷ []) ∷ []
 block_lines airport (Cancelled flight) = (codes "cancelled" ∷ flight ∷ []) ∷ []
-block_lines airport (Route flight second steps labels) =
-    (codes "route" ∷ flight ∷ decimal second ∷ decimal (length steps) ∷ decimal (length labels) ∷ [])
-    ∷ (map (step_words airport) steps ++ map (label_words airport) labels)
-block_lines airport (NoRoute labels) = (codes "no-route" ∷ decimal (length labels) ∷ []) ∷ map (label_words airport) labels
+block_lines airport (Route flight second steps labels) = route_lines airport flight second steps labels
+block_lines airport (NoRoute labels) = no_route_lines airport labels
 block_lines airport (Windows segment windows) = segment_lines airport segment windows
 block_lines airport (Occupancy segment held) =
     (codes "occupancy" ∷ segment_word airport segment ∷ decimal (length held) ∷ []) ∷ map (held_words airport) held
 block_lines airport (Timetable flights) = (codes "timetable" ∷ decimal (length flights) ∷ []) ∷ map (flight_words airport) flights
+block_lines airport (Batch total entries) = (codes "batch" ∷ decimal (length entries) ∷ decimal total ∷ []) ∷ flat_map (entry_lines airport) entries
 
 -- the text of a block
 unfoldable pub block_text : Airport → Block → List ℕ

@@ -1,4 +1,5 @@
 //! What answers a command.
+use crate::entries::Entries;
 use taxi_base::{FlightRow, HeldRow, LabelRow, List, Name, Refusal, Segment, Span, Step, Time};
 
 /// What is answered to one command. Arcs, segments and classes are those of the airport that the block is for.
@@ -40,5 +41,10 @@ pub enum Block {
     /// The flights in force.
     Timetable {
         flights: List<FlightRow>,
+    },
+    /// The requests of a batch in the order in which they were served, and what all of them cost together.
+    Batch {
+        total: u32,
+        entries: Entries,
     },
 }

@@ -7,11 +7,14 @@ ghost use Rattle.taxi_base.specs.Again.{IsBestFor};
 ghost use Rattle.taxi_base.specs.State.{State, IsSound};
 ghost use Rattle.taxi_text.specs.declared.command.Command.{Command};
 ghost use Rattle.certificate.specs.declared.block.Block.{Block};
+ghost use Rattle.certificate.specs.declared.entries.Entry.{Entry};
+ghost use Rattle.certificate.specs.declared.wish.Wish.{Wish};
 ghost use Rattle.certificate.specs.declared.block.Block.TheVariants.{Route, NoRoute};
 ghost use Rattle.certificate.specs.Asked.{IsInGrammar};
 ghost use Rattle.certificate.specs.Refusals.{first_refusal};
 ghost use Rattle.certificate.specs.CarriedOut.{second_of, IsCarriedOut};
 ghost use Rattle.certificate.specs.Replies.{IsDue, IsReply, DoesAsItSays, IsAnswered};
+ghost use Rattle.certificate.specs.Batches.{IsSequenced, IsNoDearer};
 ghost use Rattle.certificate.specs.Sought.{Sought, sought_by, IsWalkFor};
 ghost use Rattle.certificate.specs.Passes.{IsPassed, TellsBest};
 
@@ -40,4 +43,10 @@ pub fn what_passes_is_best()
     ensures route { (airport : Airport) (state : State) (line name : List ℕ) (second : ℕ) (steps : List Step) (labels : List LabelRow) (after : State) → IsWellFormed airport → IsSound airport state → IsPassed airport state line (Route name second steps labels) after → (s : Sought) × (sought_by airport state line ≡ Some s) × IsBestFor s.request (IsWalkFor s) steps × (second_of s.request steps ≡ second) }
     ensures no_route { (airport : Airport) (state : State) (line : List ℕ) (labels : List LabelRow) (after : State) → IsWellFormed airport → IsSound airport state → IsPassed airport state line (NoRoute labels) after → (s : Sought) × (sought_by airport state line ≡ Some s) × ((steps : List Step) → IsWalkFor s steps → ⊥) }
     ensures sound { (airport : Airport) (state : State) (line : List ℕ) (block : Block) (after : State) → IsWellFormed airport → IsSound airport state → IsPassed airport state line block after → IsSound airport after }
+{}
+
+/// The wishes of a batch are served in an order that costs at most what the given order costs, and that no exchange of neighbours makes
+/// cheaper.
+pub fn exchanges_lower_totals()
+    ensures { (airport : Airport) (state : State) (wishes : List Wish) (total : ℕ) (entries : List (List ℕ × Entry)) (after : State) → IsWellFormed airport → IsSequenced airport state wishes total entries after → IsNoDearer airport state wishes total entries after }
 {}

@@ -3,20 +3,27 @@
 
 mod block;
 mod digits;
+mod entries;
 mod laws;
 mod line;
 mod line_buffer;
 mod named;
 mod print;
+mod requests;
 mod rows;
 mod rule;
 mod short;
+mod wish;
 
 pub use block::Block;
+pub use entries::{Entries, Entry};
 pub use laws::{
-    due_replies_are_one, replies_keep_flights_sound, replies_pass, what_passes_is_best,
+    due_replies_are_one, exchanges_lower_totals, replies_keep_flights_sound, replies_pass,
+    what_passes_is_best,
 };
 pub use named::{has_no_runway, has_no_stand, nodes_named};
 pub use print::{print_block, print_route};
+pub use requests::{asked_in, is_asked_for};
 pub use rule::Rule;
 pub use short::print_short;
+pub use wish::Wish;

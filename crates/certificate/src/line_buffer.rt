@@ -120,6 +120,16 @@ impl LineBuffer {
         self.put_name_alone(name);
     }
 
+    /// A name and a line feed before what is written.
+    pub(crate) fn put_last_name(&mut self, name: &Name)
+        requires { length self.old + 17 ≤ 1536 }
+        ensures text { self.new ≡ name.now ++ 10 ∷ self.old }
+        ensures length { length self.new ≤ length self.old + 17 }
+    {
+        self.put_byte(b'\n');
+        self.put_name_alone(name);
+    }
+
     // A name before what is written, with nothing behind it.
     #[inline(always)]
     fn put_name_alone(&mut self, name: &Name)
@@ -147,8 +157,7 @@ impl LineBuffer {
         ensures text { self.new ≡ segment_word airport.now segment ++ 10 ∷ self.old }
         ensures length { length self.new ≤ length self.old + 17 }
     {
-        self.put_byte(b'\n');
-        self.put_name_alone(&airport.segment_name(segment));
+        self.put_last_name(&airport.segment_name(segment));
     }
 
     /// The name of a class and a blank before what is written.

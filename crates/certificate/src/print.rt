@@ -1,15 +1,15 @@
 //! Blocks, written at the end of a text.
-ghost use Rattle.std.specs.Prelude.{◌≡◌, ◌∷◌, ◌++◌, [], length, decimal, codes, All, OnOk, OnErr, IsTrue};
+ghost use Rattle.std.specs.Prelude.{◌≡◌, ◌≤◌, ◌∷◌, ◌++◌, [], length, decimal, codes, All, OnOk, OnErr, IsTrue};
 ghost use Rattle.airport_file.specs.Words.{segment_word};
 ghost use Rattle.certificate.specs.declared.block.Block.TheVariants.{Route};
-ghost use Rattle.certificate.specs.Texts.{line_text, step_words, label_words, block_text, is_long};
+ghost use Rattle.certificate.specs.Texts.{line_text, lines_text, step_words, label_words, entry_lines, block_text, is_long};
 ghost use Rattle.certificate.specs.Printable.{HasArc, HasSegment};
-ghost use Rattle.certificate.specs.Printed.{rows_text, IsWritable, IsCutShort};
+ghost use Rattle.certificate.specs.Printed.{rows_text, entries_text, IsWritableEntry, IsWritable, IsCutShort};
 
-use crate::Block;
 use crate::line_buffer::LineBuffer;
 use crate::rows::print_rows;
 use crate::short::short_text;
+use crate::{Block, Entries, Entry};
 use airport_file::Airport;
 use taxi_base::{LabelRow, Memory, Name, Segment, Step, Time};
 use taxi_text::push_bytes;
@@ -61,6 +61,10 @@ fn print_long(airport: &Airport, block: &Block, out: &mut Vec<u8>) -> Result<(),
             write_timetable_head(flights.as_slice().len(), &mut line);
             print_rows(airport, &mut line, flights.as_slice(), out)
         }
+        Block::Batch { total, entries } => {
+            write_batch_head(entries.len(), *total, &mut line);
+            print_line_and_entries(airport, &mut line, entries, out)
+        }
         Block::Refused(_) | Block::Filed { .. } | Block::Cancelled { .. } => unreachable!(),
     }
 }
@@ -102,8 +106,89 @@ fn print_line_and_rows(
     print_rows(airport, line, labels, out)
 }
 
+// Writes the line as it stands, and the entries.
+fn print_line_and_entries(
+    airport: &Airport,
+    line: &mut LineBuffer,
+    entries: &Entries,
+    out: &mut Vec<u8>,
+) -> Result<(), Memory>
+    requires { All (IsWritableEntry airport.now) entries.now }
+    ensures ok { OnOk result (out.new.items ≡ out.old.items ++ (line.old ++ entries_text airport.now entries.now)) }
+    ensures err { OnErr result (IsCutShort (line.old ++ entries_text airport.now entries.now) out.old.items out.new.items) }
+{
+    push_bytes(out, line.bytes())?;
+    for place in 0..entries.len() {
+        let (name, entry) = entries.at(place);
+        print_entry(airport, line, name, entry, out)?;
+    }
+    Ok(())
+}
+
+// Writes what is told of one flight.
+fn print_entry(
+    airport: &Airport,
+    line: &mut LineBuffer,
+    name: &Name,
+    entry: &Entry,
+    out: &mut Vec<u8>,
+) -> Result<(), Memory>
+    requires { IsWritableEntry airport.now (name.now, entry.now) }
+    ensures ok { OnOk result (out.new.items ≡ out.old.items ++ lines_text (entry_lines airport.now (name.now, entry.now))) }
+    ensures err { OnErr result (IsCutShort (lines_text (entry_lines airport.now (name.now, entry.now))) out.old.items out.new.items) }
+{
+    match entry {
+        Entry::Route {
+            second,
+            steps,
+            labels,
+        } => {
+            let (steps, labels) = (steps.as_slice(), labels.as_slice());
+            write_route_head(name, *second, steps.len(), labels.len(), line);
+            write_next(name, line);
+            print_line_and_rows(airport, line, steps, labels, out)
+        }
+        Entry::NoRoute { labels } => {
+            write_no_route_head(labels.as_slice().len(), line);
+            write_next(name, line);
+            print_rows(airport, line, labels.as_slice(), out)
+        }
+        Entry::Dropped => {
+            write_dropped(name, line);
+            push_bytes(out, line.bytes())
+        }
+    }
+}
+
+fn write_batch_head(entries: usize, total: u32, line: &mut LineBuffer)
+    ensures { line.new ≡ line_text (codes "batch" ∷ decimal entries ∷ decimal total ∷ []) }
+{
+    line.clear();
+    line.put_last_number(u64::from(total));
+    line.put_number(entries as u64);
+    line.put(b"batch ");
+}
+
+// Of which flight is told, before the line as it stands.
+fn write_next(name: &Name, line: &mut LineBuffer)
+    requires { length line.old ≤ 96 }
+    ensures { line.new ≡ line_text (codes "next" ∷ name.now ∷ []) ++ line.old }
+{
+    line.put_last_name(name);
+    line.put(b"next ");
+}
+
+fn write_dropped(name: &Name, line: &mut LineBuffer)
+    ensures { line.new ≡ line_text (codes "dropped" ∷ name.now ∷ []) }
+{
+    line.clear();
+    line.put_last_name(name);
+    line.put(b"dropped ");
+}
+
 fn write_route_head(flight: &Name, second: Time, steps: usize, labels: usize, line: &mut LineBuffer)
-    ensures { line.new ≡ line_text (codes "route" ∷ flight.now ∷ decimal second ∷ decimal steps ∷ decimal labels ∷ []) }
+    ensures text { line.new ≡ line_text (codes "route" ∷ flight.now ∷ decimal second ∷ decimal steps ∷ decimal labels ∷ []) }
+    ensures length { length line.new ≤ 96 }
 {
     line.clear();
     line.put_last_three(u64::from(second), steps as u64, labels as u64);
@@ -112,7 +197,8 @@ fn write_route_head(flight: &Name, second: Time, steps: usize, labels: usize, li
 }
 
 fn write_no_route_head(labels: usize, line: &mut LineBuffer)
-    ensures { line.new ≡ line_text (codes "no-route" ∷ decimal labels ∷ []) }
+    ensures text { line.new ≡ line_text (codes "no-route" ∷ decimal labels ∷ []) }
+    ensures length { length line.new ≤ 96 }
 {
     line.clear();
     line.put_last_number(labels as u64);

@@ -33,7 +33,8 @@ pub(crate) fn short_text(block: &Block) -> Option<ShortText>
         | Block::NoRoute { .. }
         | Block::Windows { .. }
         | Block::Occupancy { .. }
-        | Block::Timetable { .. } => None,
+        | Block::Timetable { .. }
+        | Block::Batch { .. } => None,
     }
 }
 

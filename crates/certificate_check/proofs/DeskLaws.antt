@@ -58,10 +58,10 @@ pub windows-judged : (airport : Airport) (state : State) (name : List ℕ) (segm
     → windows ≡ windows_among airport state segment → (kept : Bool) → IsTrue kept ↔ (block ≡ Windows segment windows) → IsJudged airport (command.Windows name) block state (passed_if kept) state
 windows-judged airport state name segment block windows known are true same =
     let is : block ≡ Windows segment (windows_among airport state segment) = same.0 refl ∙ (λ i. Windows segment (are i)) in
-    done-judged airport state (command.Windows name) block (rw known refl) refl state (record { segment = segment; known = known; reply = (is, refl) })
+    done-judged airport state (command.Windows name) block (rw known refl) tt state (record { segment = segment; known = known; reply = (is, refl) })
     (subst (λ b. IsAfterFor airport state (command.Windows name) b state) (sym is) refl)
 windows-judged airport state name segment block windows known are false same =
-    undone-judged airport state (command.Windows name) block (rw known refl) refl (λ after done.
+    undone-judged airport state (command.Windows name) block (rw known refl) tt (λ after done.
     let one : done.segment ≡ segment = cc (sym done.known ∙ known) in
     let is : block ≡ Windows segment (windows_among airport state segment) = subst (λ (s : Segment). block ≡ Windows s (windows_among airport state s)) one done.reply.0 in
     absurd (false≢true (same.1 (is ∙ (λ i. Windows segment (sym are i))))))

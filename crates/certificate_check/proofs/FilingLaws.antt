@@ -60,5 +60,5 @@ module _ (airport : Airport) (state : State) (filed : Filed) (count : IsTrue (is
       let is : block ≡ answer = tells ∙ ap (λ (n : List ℕ). told.Filed n (begin_of flight.steps) (end_of flight.steps)) accepted.same_name in
       let due : IsDueTo airport state (command.File filed) answer after =
       subst (λ o. MatchOption o (IsFiled airport state filed answer after) (λ why. IsOf (refused state why) answer after)) (sym accepted.unrefused) (done answer after refl left) in
-      done-judged airport state (command.File filed) block accepted.unrefused refl after (done block after is left)
+      done-judged airport state (command.File filed) block accepted.unrefused tt after (done block after is left)
       (subst (λ b. IsAfterFor airport state (command.File filed) b after) (sym is) due)

@@ -1,24 +1,28 @@
 -- How a block is judged as the answer to a command, from what was found out about it.
 use Rattle.std.proofs.Common.{◌≡◌, ◌∙◌, ℕ, Bool, true, false, true≢false, List, [], ◌∷◌, Option, Some, None, inl, refl, sym, subst, arith}
-use Rattle.std.specs.Prelude.{All, Result, Ok, Err, bytes_eq}
+use Rattle.std.specs.Prelude.{All, Result, Ok, Err, bytes_eq, flat_map, ⊤}
 use Rattle.std.specs.Cmp.Lexicographic.{bytes_decides}
 use Rattle.std.proofs.lemmas.List.Elements.{All-cons, All-nil}
 use Rattle.taxi_base.specs.declared.answers.Refusal.{Refusal}
 use Rattle.taxi_base.specs.Airport.{Airport}
 use Rattle.taxi_base.specs.State.{State}
 use Rattle.taxi_text.specs.declared.command.Command.{Command}
+use Rattle.taxi_text.specs.declared.command.Command.TheVariants as command
 use Rattle.certificate.specs.declared.block.Block.{Block}
-use Rattle.certificate.specs.declared.block.Block.TheVariants.{Refused, Filed, Cancelled, Route, NoRoute, Windows, Occupancy, Timetable}
+use Rattle.certificate.specs.declared.block.Block.TheVariants.{Refused, Filed, Cancelled, Route, NoRoute, Windows, Occupancy, Timetable, Batch}
 use Rattle.certificate.specs.declared.rule.Rule.{Rule}
 use Rattle.certificate.specs.declared.rule.Rule.TheVariants as rule
 use Rattle.certificate.specs.Refusals.{first_refusal}
 use Rattle.certificate.specs.CarriedOut.{IsCarriedOut}
 use Rattle.certificate.specs.Sought.{Sought, sought_of}
-use Rattle.certificate.specs.Turns.{Turn, after_told}
-use Rattle.certificate.specs.Passes.{IsFormOf, KeepsSought, KeepsTurn, IsFirstOf, BreaksFirst}
+use Rattle.certificate.specs.declared.entries.Entry.{Entry}
+use Rattle.certificate.specs.declared.entries.Entry.TheVariants as entry
+use Rattle.certificate.specs.Turns.{Turn, after_told, tellings_of, in_turns, turns_for, sought_for}
+use Rattle.certificate.specs.Passes.{IsFormOf, IsAsAskedAlone, IsAsAsked, KeepsSought, KeepsTurn, IsFirstOf, BreaksFirst}
+use Rattle.certificate.proofs.TurnLaws.{IsAlone, asked-alone}
 use Rattle.transcripts.specs.declared.refused.CheckRefused.{CheckRefused}
 use Rattle.transcripts.specs.declared.refused.CheckRefused.TheVariants.{Wrong, Memory}
-use Rattle.certificate_check.specs.Judged.{passed_if, answer_of, IsAnsweredBy, KeepsTold, IsToldOf, IsDueForm, turns_for, KeepsFor, BreaksFor, IsAfterFor, IsJudged}
+use Rattle.certificate_check.specs.Judged.{passed_if, answer_of, IsAnsweredBy, KeepsTold, IsToldOf, IsDueForm, KeepsFor, BreaksFor, IsAfterFor, IsJudged}
 
 -- the first rule is broken
 pub reply-first : (IsKept : Rule → Type 0) → (IsKept rule.Reply → ⊥) → IsFirstOf IsKept (Some rule.Reply)
@@ -74,7 +78,7 @@ module _ (s : Sought) (block : Block) where
   told-broken rule.Step fails = fails
   told-broken rule.Target fails = fails
 
-  kept-told : (r : Rule) → KeepsTold s block r → KeepsSought r s block
+  pub kept-told : (r : Rule) → KeepsTold s block r → KeepsSought r s block
   kept-told rule.Reply h = tt
   kept-told rule.Walk h = h
   kept-told rule.Rows h = h
@@ -104,6 +108,47 @@ module _ (s : Sought) (block : Block) where
   pub told-passed : IsFormOf s block → IsFirstOf (λ r. KeepsSought r s block) None → (old new : State) → new ≡ after_told s block → IsToldOf s block old (Ok tt) new
   told-passed form all old new is = (told-of form None all, is)
 
+-- ---- commands that seek no walk
+
+abbrev pub IsPlain : Command → Type 0
+IsPlain (command.File filed) = ⊤
+IsPlain (command.Cancel name) = ⊤
+IsPlain (command.Windows name) = ⊤
+IsPlain (command.Occupancy name) = ⊤
+IsPlain command.Timetable = ⊤
+IsPlain (command.Work shut) = ⊤
+IsPlain (command.WorkDone name) = ⊤
+IsPlain _ = ⊥
+
+plain-alone : (c : Command) → IsPlain c → IsAlone c
+plain-alone (command.Batch requests) plain = absurd plain
+plain-alone c plain = tt
+
+plain-for : (airport : Airport) (c : Command) → IsPlain c → (name : List ℕ) (now : State) → sought_for airport c name now ≡ None
+plain-for airport (command.Batch requests) plain name now = absurd plain
+plain-for airport c plain name now = refl
+
+module _ (airport : Airport) (state : State) where
+  plain-sought : (c : Command) → IsPlain c → sought_of airport state c ≡ None
+  plain-sought (command.Arrival asked) plain = absurd plain
+  plain-sought (command.Departure asked) plain = absurd plain
+  plain-sought (command.Reroute name time) plain = absurd plain
+  plain-sought (command.Divert name time node) plain = absurd plain
+  plain-sought (command.ArrivalAny asked) plain = absurd plain
+  plain-sought (command.DepartureAny asked) plain = absurd plain
+  plain-sought (command.Batch requests) plain = absurd plain
+  plain-sought c plain = refl
+
+  -- ---- commands of one request
+
+  sought-alone : (c : Command) (s : Sought) → sought_of airport state c ≡ Some s → IsAlone c
+  sought-alone (command.Batch requests) s sought = absurd (cc sought)
+  sought-alone c s sought = tt
+
+  alone-asked : (c : Command) (block : Block) → IsAlone c → IsAsAsked airport state c block → IsAsAskedAlone airport state c block
+  alone-asked (command.Batch requests) block alone asked = absurd alone
+  alone-asked c block alone asked = asked
+
 module _ (airport : Airport) (state : State) (command : Command) (block : Block) where
   -- ---- a refusal is due
 
@@ -127,16 +172,23 @@ module _ (airport : Airport) (state : State) (command : Command) (block : Block)
   module _ (none : first_refusal airport state command ≡ None) where
     -- ---- a command that seeks no walk
 
-    module _ (plain : sought_of airport state command ≡ None) where
+    module _ (plain : IsPlain command) where
+      no-tellings : (entries : List (List ℕ × Entry)) → in_turns state (flat_map (tellings_of airport command) entries) ≡ []
+      no-tellings [] = refl
+      no-tellings ((name, entry.Route second steps labels) ∷ entries) = rw (plain-for airport command plain name state) refl
+      no-tellings ((name, entry.NoRoute labels) ∷ entries) = rw (plain-for airport command plain name state) refl
+      no-tellings ((name, entry.Dropped) ∷ entries) = no-tellings entries
+
       no-turns : (b : Block) → turns_for airport state command b ≡ []
-      no-turns (Route name second steps labels) = rw plain refl
-      no-turns (NoRoute labels) = rw plain refl
+      no-turns (Route name second steps labels) = rw (plain-sought airport state command plain) refl
+      no-turns (NoRoute labels) = rw (plain-sought airport state command plain) refl
       no-turns (Refused why) = refl
       no-turns (Filed name start end) = refl
       no-turns (Cancelled name) = refl
       no-turns (Windows segment windows) = refl
       no-turns (Occupancy segment rows) = refl
       no-turns (Timetable rows) = refl
+      no-turns (Batch total entries) = no-tellings entries
 
       in-none : (r : Rule) → All (λ turn. KeepsTurn turn r) (turns_for airport state command block)
       in-none r = subst (All (λ turn. KeepsTurn turn r)) (sym (no-turns block)) (All-nil _)
@@ -144,7 +196,7 @@ module _ (airport : Airport) (state : State) (command : Command) (block : Block)
       pub done-judged : (after : State) → IsCarriedOut airport state command block after → IsAfterFor airport state command block after → IsJudged airport command block state (Ok tt) after
       done-judged after done left = (λ r. kept r, left) where
         kept : (r : Rule) → KeepsFor airport state command block r
-        kept rule.Reply = rw (none, plain) (after, done)
+        kept rule.Reply = rw none (asked-alone airport state command block (plain-alone command plain) (rw (plain-sought airport state command plain) (after, done)))
         kept rule.Walk = in-none rule.Walk
         kept rule.Rows = in-none rule.Rows
         kept rule.Start = in-none rule.Start
@@ -152,7 +204,12 @@ module _ (airport : Airport) (state : State) (command : Command) (block : Block)
         kept rule.Target = in-none rule.Target
 
       pub undone-judged : ((after : State) → IsCarriedOut airport state command block after → ⊥) → IsJudged airport command block state (Err (Wrong rule.Reply)) state
-      undone-judged never = ((λ kept. let done = rw (none, plain) at kept in never done.0 done.1), refl)
+      undone-judged never = (go, refl) where
+        go : IsDueForm airport state command block → ⊥
+        go kept =
+            let asked = alone-asked airport state command block (plain-alone command plain) (rw none at kept) in
+            let done = rw (plain-sought airport state command plain) at asked in
+            never done.0 done.1
 
     -- ---- a command that seeks a walk
 
@@ -172,12 +229,16 @@ module _ (airport : Airport) (state : State) (command : Command) (block : Block)
         go (Windows segment windows) form = absurd form
         go (Occupancy segment rows) form = absurd form
         go (Timetable rows) form = absurd form
+        go (Batch total entries) form = absurd form
 
       in-one : IsFormOf s block → (r : Rule) → KeepsTurn turn r → All (λ t. KeepsTurn t r) (turns_for airport state command block)
       in-one form r h = subst (All (λ t. KeepsTurn t r)) (sym (one-turn form)) (All-cons (λ t. KeepsTurn t r) turn [] h (All-nil _))
 
       due : IsFormOf s block → IsDueForm airport state command block
-      due form = rw (none, sought) form
+      due form = rw none (asked-alone airport state command block (sought-alone airport state command s sought) (rw sought form))
+
+      form-due : IsDueForm airport state command block → IsFormOf s block
+      form-due kept = rw sought at (alone-asked airport state command block (sought-alone airport state command s sought) (rw none at kept))
 
       kept-for : ((r : Rule) → KeepsTold s block r) → (r : Rule) → KeepsFor airport state command block r
       kept-for all rule.Reply = due (all rule.Reply)
@@ -191,7 +252,7 @@ module _ (airport : Airport) (state : State) (command : Command) (block : Block)
       breaks form r first = subst (λ turns. BreaksFirst turns r) (sym (one-turn form)) (inl first)
 
       broken-for : (r : Rule) → IsFirstOf (KeepsTold s block) (Some r) → BreaksFor airport state command block r
-      broken-for rule.Reply first = λ form. first.0 (rw (none, sought) at form)
+      broken-for rule.Reply first = λ kept. first.0 (form-due kept)
       broken-for rule.Walk first =
           let form = first.1 rule.Reply (omega arith) in
           (due form, breaks form rule.Walk (first.0, λ other low. kept-told s block other (first.1 other low)))
@@ -217,6 +278,7 @@ module _ (airport : Airport) (state : State) (command : Command) (block : Block)
       after-for (Windows segment windows) after form left = absurd form
       after-for (Occupancy segment rows) after form left = absurd form
       after-for (Timetable rows) after form left = absurd form
+      after-for (Batch total entries) after form left = absurd form
 
       pub told-judged : (r : Result Unit CheckRefused) (after : State) → IsToldOf s block state r after → IsJudged airport command block state r after
       told-judged (Ok done) after told = (kept-for told.0, after-for block after (told.0 rule.Reply) told.1)

@@ -8,3 +8,13 @@ mod AnewLaws
 mod FilingLaws
 mod PartyLaws
 mod ChoiceLaws
+mod GivenBack
+mod ApartLaws
+mod EachNamed
+mod BatchForm
+mod BatchEntries
+mod BatchState
+mod BatchTurns
+mod BatchJudged
+mod BatchSteps
+mod BatchRun

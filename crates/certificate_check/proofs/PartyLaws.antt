@@ -59,7 +59,7 @@ module _ (airport : Airport) (state : State) (asked : Shut) (segment : Segment) 
       let due : IsDueTo airport state (command.Work asked) (Filed asked.name asked.from asked.until) after =
       subst (λ o. MatchOption o (IsShut airport state asked (Filed asked.name asked.from asked.until) after) (λ why. IsOf (refused state why) (Filed asked.name asked.from asked.until) after))
       (sym may.unrefused) (done (Filed asked.name asked.from asked.until) after refl left) in
-      done-judged airport state (command.Work asked) block may.unrefused refl after (done block after is left)
+      done-judged airport state (command.Work asked) block may.unrefused tt after (done block after is left)
       (subst (λ b. IsAfterFor airport state (command.Work asked) b after) (sym is) due)
 
 module _ (airport : Airport) (state : State) (sound : IsSound airport state) (name : List ℕ) (party : Party) (found : party_named name state.parties ≡ Some party) where
@@ -76,5 +76,5 @@ module _ (airport : Airport) (state : State) (sound : IsSound airport state) (na
 
   pub opened-judged : (block : Block) (after : State) → block ≡ Cancelled name → after ≡ opened → IsJudged airport (command.WorkDone name) block state (Ok tt) after
   opened-judged block after is left =
-      done-judged airport state (command.WorkDone name) block (rw found refl) refl after (is, left)
+      done-judged airport state (command.WorkDone name) block (rw found refl) tt after (is, left)
       (subst (λ b. IsAfterFor airport state (command.WorkDone name) b after) (sym is) (rw found (refl, left)))

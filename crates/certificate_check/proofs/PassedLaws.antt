@@ -7,7 +7,7 @@ use Rattle.taxi_base.specs.State.{State, IsSound}
 use Rattle.taxi_text.specs.declared.command.Command.{Command}
 use Rattle.taxi_text.specs.Commands.{command_of}
 use Rattle.certificate.specs.declared.block.Block.{Block}
-use Rattle.certificate.specs.declared.block.Block.TheVariants.{Refused, Filed, Cancelled, Route, NoRoute, Windows, Occupancy, Timetable}
+use Rattle.certificate.specs.declared.block.Block.TheVariants.{Refused, Filed, Cancelled}
 use Rattle.certificate.specs.declared.rule.Rule.{Rule}
 use Rattle.certificate.specs.declared.rule.Rule.TheVariants as rule
 use Rattle.certificate.specs.Replies.{IsDue, as_due, no_memory, NeedsNoMemory}
@@ -46,14 +46,9 @@ module _ (airport : Airport) (state : State) (line : List ℕ) (block : Block) (
 
   left : (after : State) (b : Block) → IsAfterFor airport state command b after → IsAfter airport state line b after
   unfolding IsDue
-  left after (Route name second steps labels) is = rw read is
-  left after (NoRoute labels) is = rw read is
   left after (Filed name start end) is = rw read is
   left after (Cancelled name) is = rw read is
-  left after (Refused why) is = is
-  left after (Windows segment windows) is = is
-  left after (Occupancy segment rows) is = is
-  left after (Timetable rows) is = is
+  left after b is = rw read is
 
   pub passed : ((r : Rule) → KeepsFor airport state command block r) → (after : State) → IsAfterFor airport state command block after → IsPassed airport state line block after
   passed all after is = record { keeps = λ r. kept r (all r); after_it = left after block is }

@@ -1,5 +1,5 @@
 -- Does a block pass as the answer to a command, by which rule does it fail first, and what is the state then? Beside `refused memory`.
-use Rattle.std.specs.Prelude.{◌≡◌, Bool, if◌then◌else◌, List, Option, Some, None, All, Result, Ok, Err, MatchOption, ⊤}
+use Rattle.std.specs.Prelude.{◌≡◌, Bool, if◌then◌else◌, Option, Some, None, All, Result, Ok, Err, MatchOption, ⊤}
 use Rattle.taxi_base.specs.Airport.{Airport}
 use Rattle.taxi_base.specs.State.{State}
 use Rattle.taxi_text.specs.declared.command.Command.{Command}
@@ -9,8 +9,8 @@ use Rattle.certificate.specs.declared.rule.Rule.{Rule}
 use Rattle.certificate.specs.declared.rule.Rule.TheVariants as rule
 use Rattle.certificate.specs.Refusals.{first_refusal}
 use Rattle.certificate.specs.Replies.{IsDueTo}
-use Rattle.certificate.specs.Sought.{Sought, sought_of}
-use Rattle.certificate.specs.Turns.{Turn, told_in, after_told, in_turns, after_turns}
+use Rattle.certificate.specs.Sought.{Sought}
+use Rattle.certificate.specs.Turns.{after_told, turns_for, after_turns}
 use Rattle.certificate.specs.Passes.{IsFormOf, IsAsAsked, KeepsSought, KeepsTurn, IsFirstOf, BreaksFirst}
 use Rattle.transcripts.specs.declared.refused.CheckRefused.{CheckRefused}
 use Rattle.transcripts.specs.declared.refused.CheckRefused.TheVariants.{Wrong, Memory}
@@ -52,10 +52,6 @@ IsToldOf s block old (Err Memory) new = new ≡ old
 abbrev pub IsDueForm : Airport → State → Command → Block → Type 0
 IsDueForm airport state command block =
     MatchOption (first_refusal airport state command) (IsAsAsked airport state command block) (λ why. block ≡ Refused why)
-
--- the searches of a block that answers a command
-abbrev pub turns_for : Airport → State → Command → Block → List Turn
-turns_for airport state command block = in_turns (λ now told. sought_of airport now command) state (told_in block)
 
 -- a rule is kept: the first one as a whole, and the others in each search
 abbrev pub KeepsFor : Airport → State → Command → Block → Rule → Type 0

@@ -101,8 +101,8 @@ fn check_other_route(
     Ok(())
 }
 
-// Takes the spans of a flight in force out, and forgets the windows beside them: those that are known are the windows without
-// the flight.
+// Takes the spans of a flight in force out, and gives the known windows what no other holds: they are the windows without the
+// flight.
 fn lift(airport: &Airport, held: &mut HeldFlights, known: &mut KnownWindows, name: &Name)
     requires ready { IsReady airport.now held.old known.old }
     requires in_force { IsSome (flight_named name.now (state_of held.old).flights) }
@@ -113,7 +113,8 @@ fn lift(airport: &Airport, held: &mut HeldFlights, known: &mut KnownWindows, nam
 {
     held.lift(airport, name);
     let flight = held.flight(name).unwrap();
-    known.forget(airport, flight.steps.as_slice());
+    let clearance = airport.clearance(flight.class);
+    known.give_back(airport, held.spans(), clearance, flight.steps.as_slice());
 }
 
 // Puts the spans of a flight in force back, and cuts them out of the windows that are known without them.

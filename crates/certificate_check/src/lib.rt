@@ -3,6 +3,8 @@
 
 mod again;
 mod anew;
+mod batch;
+mod batch_form;
 mod block_checker;
 mod checker;
 mod choice;

@@ -12,6 +12,7 @@ ghost use Rattle.certificate_check.specs.Checker.{IsBadLineChecked};
 
 use crate::CheckRefused;
 use crate::anew::{check_divert, check_reroute};
+use crate::batch::check_batch;
 use crate::choice::{check_arrival_any, check_departure_any};
 use crate::filing::check_file;
 use crate::parties::{check_work, check_work_done};
@@ -104,6 +105,9 @@ fn judge(
         Command::ArrivalAny(asked) => check_arrival_any(alloc, airport, held, known, asked, block),
         Command::DepartureAny(asked) => {
             check_departure_any(alloc, airport, held, known, asked, block)
+        }
+        Command::Batch(requests) => {
+            check_batch(alloc, airport, held, known, requests.as_slice(), block)
         }
     }
 }

@@ -30,8 +30,9 @@ pub fn check_cancel(
         return pass_if(is_refusal(block, &Refusal::NotInForce));
     };
     pass_if(is_cancelled(block, name))?;
-    known.forget(airport, flight.steps.as_slice());
-    held.take_out(airport, name);
+    let clearance = airport.clearance(flight.class);
+    let gone = held.take_out(airport, name);
+    known.give_back(airport, held.spans(), clearance, gone.steps.as_slice());
     Ok(())
 }
 

@@ -9,3 +9,5 @@ pub mod ReachLaws
 pub mod ServedLaws
 pub mod ArcLaws
 pub mod VerdictLaws
+mod ListReturns
+mod ReturnLaws

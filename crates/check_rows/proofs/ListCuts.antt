@@ -128,7 +128,7 @@ module _ (airport : Airport) (segment : Segment) (span : Span) (segments : List 
   abbrev hold : Hold
   hold = record { segment = segment; span = span }
 
-  among-conflict : (s : Segment) → is_among segments s ≡ conflict airport.conflicts s segment
+  pub among-conflict : (s : Segment) → is_among segments s ≡ conflict airport.conflicts s segment
   among-conflict s = same_answer (is_among segments s) (conflict airport.conflicts s segment)
       (λ yes.
       let row = list_any-true (λ (r : Segment). eqb r.0 s.0) segments yes in

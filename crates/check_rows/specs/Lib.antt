@@ -5,3 +5,4 @@ pub mod Verdict
 pub mod Rules
 pub mod Reached
 pub mod Served
+pub mod Returns

@@ -9,12 +9,14 @@ ghost use Rattle.check_rows.specs.declared.reach.Way.{Way};
 ghost use Rattle.check_rows.specs.Served.{AreServed};
 ghost use Rattle.check_rows.specs.Known.{AreKnown, is_known, DifferOn, DifferAt, HaveMore, AreLeft};
 ghost use Rattle.check_rows.specs.Cuts.{IsApart, IsListCut, AreListsCut};
+ghost use Rattle.check_rows.specs.Returns.{IsListBack, AreListsBack};
 
 use crate::around::note_firsts;
 use crate::served::Served;
 use airport_file::Airport;
+use conflict_sets::Conflicts;
 use held_spans::HoldsOf;
-use segment_windows::{cut_windows, fill_windows};
+use segment_windows::{cut_windows, fill_windows, give_back};
 use std::alloc::Global;
 use std::cell::Cell;
 use std::mem::replace;
@@ -185,6 +187,26 @@ impl KnownWindows {
         cut_lists(&mut self.lists, conflicting, span);
     }
 
+    /// Gives the known windows what some steps held that the holds do not have. The steps are no longer among these.
+    pub fn give_back<H: HoldsOf>(
+        &mut self,
+        airport: &Airport,
+        holds: &H,
+        clearance: Time,
+        steps: &[Step],
+    )
+        requires arcs { All (λ step. IsTrue (arc_exists (layout_of airport.now) step.arc)) steps.now }
+        requires known { (before : List Hold) × AreKnown (length airport.now.segments) (free_among airport.now before) self.old }
+        ensures { (before : List Hold) → HaveMore (holds_of airport.now.horizon clearance steps.now) (H.held holds.now) before → AreKnown (length airport.now.segments) (free_among airport.now before) self.old → AreKnown (length airport.now.segments) (free_among airport.now (H.held holds.now)) self.new }
+    {
+        for step in steps {
+            let held = step.held(airport.horizon(), clearance);
+            let conflicts = airport.conflicts();
+            let conflicting = conflicts.of(step.arc.segment());
+            give_back_lists(&mut self.lists, conflicts, conflicting, holds, held);
+        }
+    }
+
     /// Forgets the windows of all segments in conflict with those of some steps. The others stay right where the holds change
     /// on the segments of the steps.
     pub fn forget(&mut self, airport: &Airport, steps: &[Step])
@@ -233,7 +255,47 @@ fn cut_lists(lists: &mut Vec<SegmentWindows>, segments: &[Segment], span: Span)
     }
 }
 
+/// Gives what no hold in conflict has of a span back to the lists of some segments.
+fn give_back_lists<H: HoldsOf>(
+    lists: &mut Vec<SegmentWindows>,
+    conflicts: &Conflicts,
+    segments: &[Segment],
+    holds: &H,
+    span: Span,
+)
+    requires exist { All (λ s. s.0 < conflicts.now.segments) segments.now }
+    requires apart { All IsApart lists.old.items }
+    ensures { AreListsBack conflicts.now.sets (H.held holds.now) segments.now span lists.old.items lists.new.items }
+{
+    for segment in segments {
+        let at = segment.0 as usize;
+        if at < lists.len() {
+            lists[at].give_back(span, conflicts, holds, *segment);
+        }
+    }
+}
+
 impl SegmentWindows {
+    /// Gives what no hold in conflict has of a span back to the windows, if they were made. Where memory runs out they are forgotten.
+    fn give_back<H: HoldsOf>(
+        &mut self,
+        span: Span,
+        conflicts: &Conflicts,
+        holds: &H,
+        segment: Segment,
+    )
+        requires on { segment.0 < conflicts.now.segments }
+        requires apart { IsApart self.old }
+        ensures { IsListBack conflicts.now.sets (H.held holds.now) segment span self.old self.new }
+    {
+        if !self.is_made {
+            return;
+        }
+        if give_back(&mut self.windows, span, conflicts, holds, segment).is_err() {
+            self.is_made = false;
+        }
+    }
+
     /// Cuts a span out of the windows, if they were made. Where memory runs out they are forgotten.
     fn cut(&mut self, span: Span)
         requires { IsApart self.old }

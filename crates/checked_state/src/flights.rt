@@ -96,11 +96,12 @@ impl HeldFlights {
         Ok(())
     }
 
-    /// Takes the flight of a name out of force. It needs no memory.
-    pub fn take_out(&mut self, airport: &Airport, name: &Name)
+    /// Takes the flight of a name out of force, and hands it out. It needs no memory.
+    pub fn take_out(&mut self, airport: &Airport, name: &Name) -> Flight
         requires in_force { IsSome (flight_named name.now (state_of self.old).flights) }
         requires alone { party_named name.now (state_of self.old).parties ≡ None }
         requires spans { HasSpansOf airport.now (state_of self.old) self.old }
+        ensures flight { flight_named name.now (state_of self.old).flights ≡ Some result }
         ensures state { state_of self.new ≡ without name.now (state_of self.old) }
         ensures spans { HasSpansOf airport.now (state_of self.new) self.new }
     {
@@ -110,6 +111,7 @@ impl HeldFlights {
         let steps = flight.steps.as_slice();
         self.spans
             .release(&flight.name, airport.horizon(), clearance, steps);
+        flight
     }
 
     /// Takes out the spans of the flight of a name, which stays in force. It needs no memory, and there is room for them then.

@@ -2,8 +2,9 @@
 ghost use Rattle.std.specs.Prelude.{◌≡◌, ◌∷◌, [], Some, None, false, IfOk, IfErr};
 ghost use Rattle.taxi_base.specs.declared.answers.Request.TheVariants as request;
 ghost use Rattle.taxi_base.specs.State.{has_holder};
+ghost use Rattle.taxi_text.specs.declared.command.BatchRequest.TheVariants as requested;
 ghost use Rattle.taxi_text.specs.declared.command.Command.TheVariants as command;
-ghost use Rattle.certificate.specs.Refusals.{first_of, in_force, unknown_class, unknown_node, first_refusal};
+ghost use Rattle.certificate.specs.Refusals.{first_of, in_force, unknown_class, unknown_node, tests_of_words, first_refusal};
 ghost use Rattle.commitments.specs.Book.{Fits};
 ghost use Rattle.command_refusals.specs.Named.{IsTripOf};
 
@@ -57,13 +58,7 @@ pub fn asked_arrival(airport: &Airport, ledger: &Ledger, asked: &Asked) -> Resul
     ensures ok { IfOk result (λ trip. first_refusal airport.now ledger.now.state (command.Arrival asked.now) ≡ None) }
     ensures err { IfErr result (λ why. first_refusal airport.now ledger.now.state (command.Arrival asked.now) ≡ Some why) }
 {
-    let trip = find_trip(airport, ledger, asked)?;
-    if !airport.is_runway(trip.from) {
-        return Err(Refusal::WrongKind);
-    }
-    if !airport.is_stand(trip.to) {
-        return Err(Refusal::WrongKind);
-    }
+    let trip = arrival_trip(airport, ledger, asked)?;
     if is_full(airport, ledger) {
         return Err(Refusal::Full);
     }
@@ -77,15 +72,49 @@ pub fn asked_departure(airport: &Airport, ledger: &Ledger, asked: &Asked) -> Res
     ensures ok { IfOk result (λ trip. first_refusal airport.now ledger.now.state (command.Departure asked.now) ≡ None) }
     ensures err { IfErr result (λ why. first_refusal airport.now ledger.now.state (command.Departure asked.now) ≡ Some why) }
 {
+    let trip = departure_trip(airport, ledger, asked)?;
+    if is_full(airport, ledger) {
+        return Err(Refusal::Full);
+    }
+    Ok(trip)
+}
+
+/// What the words of an arrival name, or why they are refused, but that there is no room for one more.
+pub(crate) fn arrival_trip(
+    airport: &Airport,
+    ledger: &Ledger,
+    asked: &Asked,
+) -> Result<Trip, Refusal>
+    ensures named { IfOk result (IsTripOf airport.now asked.now) }
+    ensures ok { IfOk result (λ trip. first_of (in_force ledger.now.state asked.now.flight ∷ tests_of_words airport.now (requested.Arrival asked.now)) ≡ None) }
+    ensures err { IfErr result (λ why. first_of (in_force ledger.now.state asked.now.flight ∷ tests_of_words airport.now (requested.Arrival asked.now)) ≡ Some why) }
+{
+    let trip = find_trip(airport, ledger, asked)?;
+    if !airport.is_runway(trip.from) {
+        return Err(Refusal::WrongKind);
+    }
+    if !airport.is_stand(trip.to) {
+        return Err(Refusal::WrongKind);
+    }
+    Ok(trip)
+}
+
+/// The same of a departure.
+pub(crate) fn departure_trip(
+    airport: &Airport,
+    ledger: &Ledger,
+    asked: &Asked,
+) -> Result<Trip, Refusal>
+    ensures named { IfOk result (IsTripOf airport.now asked.now) }
+    ensures ok { IfOk result (λ trip. first_of (in_force ledger.now.state asked.now.flight ∷ tests_of_words airport.now (requested.Departure asked.now)) ≡ None) }
+    ensures err { IfErr result (λ why. first_of (in_force ledger.now.state asked.now.flight ∷ tests_of_words airport.now (requested.Departure asked.now)) ≡ Some why) }
+{
     let trip = find_trip(airport, ledger, asked)?;
     if !airport.is_stand(trip.from) {
         return Err(Refusal::WrongKind);
     }
     if !airport.is_runway(trip.to) {
         return Err(Refusal::WrongKind);
-    }
-    if is_full(airport, ledger) {
-        return Err(Refusal::Full);
     }
     Ok(trip)
 }

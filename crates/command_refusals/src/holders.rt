@@ -1,5 +1,5 @@
 //! The names that are taken, and how many holders there may be.
-ghost use Rattle.std.specs.Prelude.{◌≡◌, nat_le};
+ghost use Rattle.std.specs.Prelude.{◌≡◌, ◌+◌, nat_lt, nat_le};
 ghost use Rattle.taxi_base.specs.State.{has_holder, holder_count};
 ghost use Rattle.certificate.specs.Refusals.{most_holders};
 ghost use Rattle.commitments.specs.Book.{Fits};
@@ -24,4 +24,13 @@ pub fn is_full(airport: &Airport, ledger: &Ledger) -> bool
     ensures { result ≡ nat_le most_holders (holder_count ledger.now.state) }
 {
     ledger.parties() + ledger.count() >= MOST_HOLDERS
+}
+
+/// Whether so many more would be too many.
+pub fn is_full_with(airport: &Airport, ledger: &Ledger, more: usize) -> bool
+    requires { Fits airport.now ledger.now }
+    ensures { result ≡ nat_lt most_holders (holder_count ledger.now.state + more) }
+{
+    let holders = ledger.parties() + ledger.count();
+    holders.saturating_add(more) > MOST_HOLDERS
 }

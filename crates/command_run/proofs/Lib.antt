@@ -1,3 +1,4 @@
 pub mod Reading
 pub mod SoFar
 pub mod Stops
+pub mod Supplied

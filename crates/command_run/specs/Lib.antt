@@ -1,3 +1,4 @@
 pub mod Refusals
 pub mod Ended
 pub mod Answered
+pub mod Supplied

@@ -4,6 +4,8 @@
 mod answering;
 pub mod laws;
 mod refused;
+mod whole;
 
 pub use answering::run_commands;
 pub use refused::RunRefused;
+pub use whole::run_all;

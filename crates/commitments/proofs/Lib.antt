@@ -10,3 +10,4 @@ pub mod Conflicts
 pub mod HoldRoom
 pub mod StepsIn
 pub mod LedgerSteps
+mod Returned

@@ -12,6 +12,7 @@ use crate::segment_holds::{Holder, clearance_after};
 use airport_file::Airport;
 use std::alloc::Global;
 use std::marker::Model;
+use std::slice;
 use taxi_base::{Memory, Name, Segment, Span, Step, Time};
 use window_store::{OtherHolds, WindowStore};
 
@@ -126,6 +127,26 @@ impl HeldSegments {
         requires among { AreAmong (steps_with holder.now steps.now) self.old.steps }
         ensures stands { StandsFor airport.now.conflicts airport.now.horizon (map (hold_by airport.now) self.new.steps) self.new.store }
         ensures room { HasRoomFor airport.now.conflicts steps.now self.new.store }
+        ensures kept { KeepsWindows IsClearOf airport.now.conflicts (holds_of airport.now.horizon (clearance_after airport.now holder.now.class) steps.now) self.old.store self.new.store }
+        ensures nodes { KeepsNodes self.old.store self.new.store }
+        ensures steps { AreAsMany self.old.steps (self.new.steps ++ steps_with holder.now steps.now) }
+    {
+        // Step by step, so that what the steps to come hold is found by its time, among what the others hold.
+        for step in steps {
+            self.release_at_once(airport, slice::from_ref(step), holder);
+        }
+    }
+
+    // The same, for few steps: each is compared with those after it.
+    fn release_at_once(&mut self, airport: &Airport, steps: &[Step], holder: &Holder)
+        requires lists { length self.old.store.lists ≡ length airport.now.segments }
+        requires horizon { self.old.store.horizon ≡ airport.now.horizon }
+        requires steps { AreOnSegments (length airport.now.segments) steps.now }
+        requires time { TakeTime steps.now }
+        requires in_time { AreInTime airport.now.horizon steps.now }
+        requires stands { StandsFor airport.now.conflicts airport.now.horizon (map (hold_by airport.now) self.old.steps) self.old.store }
+        requires among { AreAmong (steps_with holder.now steps.now) self.old.steps }
+        ensures stands { StandsFor airport.now.conflicts airport.now.horizon (map (hold_by airport.now) self.new.steps) self.new.store }
         ensures kept { KeepsWindows IsClearOf airport.now.conflicts (holds_of airport.now.horizon (clearance_after airport.now holder.now.class) steps.now) self.old.store self.new.store }
         ensures nodes { KeepsNodes self.old.store self.new.store }
         ensures steps { AreAsMany self.old.steps (self.new.steps ++ steps_with holder.now steps.now) }

@@ -164,10 +164,10 @@ impl SegmentHolds {
         keep_rules(airport);
         let mut first = until;
         for held in self.since(from) {
-            let span = held.span(airport);
-            if first <= span.from {
+            if first <= held.step.enter {
                 return first;
             }
+            let span = held.span(airport);
             let begin = from.max(span.from);
             if begin < span.until {
                 first = first.min(begin);
@@ -182,10 +182,10 @@ impl SegmentHolds {
     {
         keep_rules(airport);
         for held in self.since(from) {
-            let span = held.span(airport);
-            if from < span.from {
+            if from < held.step.enter {
                 return from;
             }
+            let span = held.span(airport);
             if from < span.until {
                 return span.until;
             }
@@ -256,8 +256,22 @@ fn place_for(steps: &[HeldStep], enter: Time) -> usize
     }
 }
 
-// How many of some steps begin before a second.
+// How many of some steps begin before a second. None does where the first one does not: mostly the oldest holder goes first.
 fn begun_before(steps: &[HeldStep], second: u64) -> usize
+    requires { IsNonDecreasingBy (λ held. held.step.enter) steps.now }
+    ensures few { result ≤ length steps.now }
+    ensures before { AllWithin (λ s. s.step.enter < second) steps.now 0 result }
+    ensures after { AllWithin (λ s. second ≤ s.step.enter) steps.now result (length steps.now) }
+{
+    match steps.first() {
+        Some(first) if u64::from(first.step.enter) < second => begun_before_by_halves(
+            steps, second,
+        ),
+        _ => 0,
+    }
+}
+
+fn begun_before_by_halves(steps: &[HeldStep], second: u64) -> usize
     requires { IsNonDecreasingBy (λ held. held.step.enter) steps.now }
     ensures few { result ≤ length steps.now }
     ensures before { AllWithin (λ s. s.step.enter < second) steps.now 0 result }

@@ -1,5 +1,5 @@
 -- Which refusal a choice of nodes is due, where its words name a class and nodes.
-use Rattle.std.proofs.Common.{◌≡◌, ◌∙◌, Bool, true, false, not, List, ◌∷◌, Option, Some, None, is_none, refl, ap}
+use Rattle.std.proofs.Common.{◌≡◌, ◌∙◌, Bool, true, false, not, List, ◌∷◌, Option, Some, is_none, refl, ap}
 use Rattle.std.specs.Prelude.{nat_le}
 use Rattle.std.specs.List.{list_any}
 use Rattle.taxi_base.specs.declared.numbers.Class.{Class}

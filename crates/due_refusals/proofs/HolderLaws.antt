@@ -1,12 +1,10 @@
 -- The first by name of the holders of the segments in conflict with one is the first by name that holds a segment in conflict with it.
-use Rattle.std.proofs.Common.{◌≡◌, ◌∙◌, ℕ, List, ◌∷◌, ◌++◌, map, inl, inr, ◌⊎◌, IsTrue, Option, Some, None, sym, ap, subst}
+use Rattle.std.proofs.Common.{◌≡◌, ◌∙◌, ℕ, List, ◌++◌, map, inl, inr, IsTrue, Option, Some, None, sym, ap, subst}
 use Rattle.std.specs.Prelude.{Contains, flat_map}
-use Rattle.std.specs.List.{list_any}
 use Rattle.std.proofs.lemmas.Bool.{and_from, and_parts}
 use Rattle.std.proofs.lemmas.List.Elements.{Contains-append_cases, Contains-append_left, Contains-append_right}
 use Rattle.taxi_base.specs.declared.numbers.Segment.{Segment}
 use Rattle.taxi_base.specs.declared.answers.Flight.{Flight}
-use Rattle.taxi_base.specs.declared.answers.Party.{Party}
 use Rattle.taxi_base.specs.Airport.{Airport, conflict}
 use Rattle.taxi_base.specs.Windows.{Hold, blocks, span_has}
 use Rattle.taxi_base.specs.State.{State, IsInOrder, flight_holds, party_hold}

@@ -1,8 +1,9 @@
 //! What an arrival or a departure asks for, or why it is refused before any search.
-ghost use Rattle.std.specs.Prelude.{◌≡◌, ◌∷◌, [], Some, None, false, nat_le, IfOk, IfErr};
+ghost use Rattle.std.specs.Prelude.{◌≡◌, ◌∷◌, [], Some, None, false, ◌+◌, nat_lt, nat_le, IfOk, IfErr};
 ghost use Rattle.taxi_base.specs.State.{has_holder, holder_count};
+ghost use Rattle.taxi_text.specs.declared.command.BatchRequest.TheVariants as requested;
 ghost use Rattle.taxi_text.specs.declared.command.Command.TheVariants as command;
-ghost use Rattle.certificate.specs.Refusals.{most_holders, first_of, in_force, unknown_class, unknown_node, first_refusal};
+ghost use Rattle.certificate.specs.Refusals.{most_holders, first_of, in_force, unknown_class, unknown_node, tests_of_words, first_refusal};
 ghost use Rattle.checked_state.specs.Flights.{state_of};
 ghost use Rattle.due_refusals.specs.Asked.{AreNamed};
 
@@ -28,13 +29,7 @@ pub fn named_arrival(airport: &Airport, held: &HeldFlights, asked: &Asked) -> Re
     ensures ok { IfOk result (λ named. first_refusal airport.now (state_of held.now) (command.Arrival asked.now) ≡ None) }
     ensures err { IfErr result (λ why. first_refusal airport.now (state_of held.now) (command.Arrival asked.now) ≡ Some why) }
 {
-    let named = find_named(airport, held, asked)?;
-    if !airport.is_runway(named.from) {
-        return Err(Refusal::WrongKind);
-    }
-    if !airport.is_stand(named.to) {
-        return Err(Refusal::WrongKind);
-    }
+    let named = arrival_words(airport, held, asked)?;
     if is_full(held) {
         return Err(Refusal::Full);
     }
@@ -51,15 +46,49 @@ pub fn named_departure(
     ensures ok { IfOk result (λ named. first_refusal airport.now (state_of held.now) (command.Departure asked.now) ≡ None) }
     ensures err { IfErr result (λ why. first_refusal airport.now (state_of held.now) (command.Departure asked.now) ≡ Some why) }
 {
+    let named = departure_words(airport, held, asked)?;
+    if is_full(held) {
+        return Err(Refusal::Full);
+    }
+    Ok(named)
+}
+
+/// What the words of an arrival name, or why they are refused, but that there is no room for one more.
+pub(crate) fn arrival_words(
+    airport: &Airport,
+    held: &HeldFlights,
+    asked: &Asked,
+) -> Result<Named, Refusal>
+    ensures named { IfOk result (AreNamed airport.now asked.now) }
+    ensures ok { IfOk result (λ named. first_of (in_force (state_of held.now) asked.now.flight ∷ tests_of_words airport.now (requested.Arrival asked.now)) ≡ None) }
+    ensures err { IfErr result (λ why. first_of (in_force (state_of held.now) asked.now.flight ∷ tests_of_words airport.now (requested.Arrival asked.now)) ≡ Some why) }
+{
+    let named = find_named(airport, held, asked)?;
+    if !airport.is_runway(named.from) {
+        return Err(Refusal::WrongKind);
+    }
+    if !airport.is_stand(named.to) {
+        return Err(Refusal::WrongKind);
+    }
+    Ok(named)
+}
+
+/// The same of a departure.
+pub(crate) fn departure_words(
+    airport: &Airport,
+    held: &HeldFlights,
+    asked: &Asked,
+) -> Result<Named, Refusal>
+    ensures named { IfOk result (AreNamed airport.now asked.now) }
+    ensures ok { IfOk result (λ named. first_of (in_force (state_of held.now) asked.now.flight ∷ tests_of_words airport.now (requested.Departure asked.now)) ≡ None) }
+    ensures err { IfErr result (λ why. first_of (in_force (state_of held.now) asked.now.flight ∷ tests_of_words airport.now (requested.Departure asked.now)) ≡ Some why) }
+{
     let named = find_named(airport, held, asked)?;
     if !airport.is_stand(named.from) {
         return Err(Refusal::WrongKind);
     }
     if !airport.is_runway(named.to) {
         return Err(Refusal::WrongKind);
-    }
-    if is_full(held) {
-        return Err(Refusal::Full);
     }
     Ok(named)
 }
@@ -90,4 +119,11 @@ pub(crate) fn is_full(held: &HeldFlights) -> bool
     ensures { result ≡ nat_le most_holders (holder_count (state_of held.now)) }
 {
     held.count() >= MOST_HOLDERS
+}
+
+// So many more would be too many.
+pub(crate) fn is_full_with(held: &HeldFlights, more: usize) -> bool
+    ensures { result ≡ nat_lt most_holders (holder_count (state_of held.now) + more) }
+{
+    held.count().saturating_add(more) > MOST_HOLDERS
 }

@@ -3,6 +3,7 @@
 
 mod again;
 mod asked;
+mod batch;
 mod choice;
 mod faults;
 mod filed;
@@ -12,6 +13,7 @@ mod taken;
 
 pub use again::{divert_refused, reroute_refused};
 pub use asked::{Named, named_arrival, named_departure};
+pub use batch::{NamedBatch, named_batch};
 pub use choice::{NamedAny, named_arrival_any, named_departure_any};
 pub use filed::{Due, find_due};
 pub use shut::{hold_fault, named_party};

@@ -75,7 +75,8 @@ impl Summary {
             | Block::Cancelled { .. }
             | Block::Windows { .. }
             | Block::Occupancy { .. }
-            | Block::Timetable { .. } => (),
+            | Block::Timetable { .. }
+            | Block::Batch { .. } => (),
         }
     }
 }

@@ -4,3 +4,4 @@ pub mod FirstLaws
 pub mod SpanLaws
 pub mod AloneLaws
 pub mod LoopLaws
+mod InOrderLaws

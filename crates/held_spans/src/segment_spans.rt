@@ -1,9 +1,9 @@
 //! The spans for which one segment is held, and by whom.
 ghost use Rattle.std.specs.Prelude.{◌≡◌, ◌+◌, ◌<◌, ◌≤◌, ◌↔◌, ◌∷◌, [], if◌then◌else◌, ℕ, List, map, length, vec_len, vec_capacity, Some, None, slice_get, Contains, IsTrue, IsSome, IfSome, OnOk, OnErr};
-ghost use Rattle.std.specs.List.{insert};
-ghost use Rattle.std.specs.List.Sorted.{IsPermutation};
+ghost use Rattle.std.specs.List.{insert, AllWithin};
+ghost use Rattle.std.specs.List.Sorted.{IsPermutation, IsNonDecreasingBy};
 ghost use Rattle.taxi_base.specs.declared.rows.Span.{Span};
-ghost use Rattle.taxi_base.specs.Windows.{span_has};
+ghost use Rattle.taxi_base.specs.Windows.{span_has, covers};
 ghost use Rattle.held_spans.specs.Holders.{IsFirstOf, IsHolderIn};
 
 use crate::first_name;
@@ -16,18 +16,22 @@ use taxi_base::{Memory, Name, Span, Time};
 pub(crate) struct SegmentSpans {
     spans: Vec<Span>,
     holders: Vec<Name>,
+    // No span is longer.
+    longest: Time,
 }
 
 impl Model for SegmentSpans {
-    ghost use Rattle.std.specs.Prelude.{◌≡◌, ◌-◌, min, length, vec_capacity, vec_len};
+    ghost use Rattle.std.specs.Prelude.{◌≡◌, ◌+◌, ◌-◌, ◌≤◌, min, length, All, vec_capacity, vec_len};
     ghost use Rattle.std.specs.List.{zip};
+    ghost use Rattle.std.specs.List.Sorted.{IsNonDecreasingBy};
     ghost use Rattle.held_spans.specs.Rows.{SpanRows};
 
     ghost Value = { SpanRows };
 
     ghost view = { λ l. record { rows = zip l.spans.items l.holders.items; room = min (vec_capacity l.spans - vec_len l.spans) (vec_capacity l.holders - vec_len l.holders) } };
 
-    ghost invariant = { λ l. length l.holders.items ≡ length l.spans.items };
+    ghost invariant = { λ l. (length l.holders.items ≡ length l.spans.items)
+        × IsNonDecreasingBy (λ span. span.from) l.spans.items × All (λ span. span.until ≤ span.from + l.longest) l.spans.items };
 }
 
 impl SegmentSpans {
@@ -38,6 +42,7 @@ impl SegmentSpans {
         SegmentSpans {
             spans: Vec::new(alloc),
             holders: Vec::new(alloc),
+            longest: 0,
         }
     }
 
@@ -46,6 +51,14 @@ impl SegmentSpans {
         ensures { result.now ≡ map (λ row. row.0) self.now.rows }
     {
         &self.spans
+    }
+
+    /// Those of the spans that may have a second of one span: they have just the seconds of it that all have.
+    pub(crate) fn spans_in(&self, span: Span) -> &[Span]
+        ensures { (t : ℕ) → IsTrue (span_has span t) → covers result.now t ≡ covers (map (λ row. row.0) self.now.rows) t }
+    {
+        let begun = &self.spans[..begun_before(&self.spans, span.until)];
+        &begun[begun_before(begun, span.from.saturating_sub(self.longest))..]
     }
 
     /// Puts a span in. Where memory runs out there are those that were, with no less room.
@@ -59,6 +72,8 @@ impl SegmentSpans {
         self.spans.reserve(1)?;
         self.holders.reserve(1)?;
         let place = place_in_order(&self.spans, span);
+        let length = span.until.saturating_sub(span.from);
+        self.longest = self.longest.max(length);
         insert_reserved(&mut self.spans, place, span);
         insert_reserved(&mut self.holders, place, *holder);
         Ok(())
@@ -80,7 +95,7 @@ impl SegmentSpans {
         ensures there { Contains self.now.rows (record { 0 = span; 1 = holder.now }) → IsSome result }
         ensures place { IfSome result (λ place. slice_get self.now.rows place ≡ Some (record { 0 = span; 1 = holder.now })) }
     {
-        let near = place_before(&self.spans, span);
+        let near = begun_before(&self.spans, span.from);
         if near < self.spans.len() && self.has_at(near, span, holder) {
             return Some(near);
         }
@@ -158,21 +173,37 @@ fn has_second(span: Span, second: Time) -> bool
     span.from <= second && second < span.until
 }
 
-// The place of a span behind those that begin no later, mostly behind all. Spans in order of time are sorted again in few steps.
+// The place of a span among those that begin in order. It is mostly the last.
 fn place_in_order(spans: &[Span], span: Span) -> usize
-    ensures { result ≤ length spans.now }
+    requires { IsNonDecreasingBy (λ other. other.from) spans.now }
+    ensures few { result ≤ length spans.now }
+    ensures before { AllWithin (λ other. other.from ≤ span.from) spans.now 0 result }
+    ensures after { AllWithin (λ other. span.from ≤ other.from) spans.now result (length spans.now) }
 {
     match spans.last() {
-        Some(last) if span.from < last.from => {
-            spans.partition_point(|other| other.from <= span.from)
-        }
+        Some(last) if span.from < last.from => begun_before(spans, span.from),
         _ => spans.len(),
     }
 }
 
-// How many spans stand before the first that begins no sooner.
-fn place_before(spans: &[Span], span: Span) -> usize
-    ensures { result ≤ length spans.now }
+// How many spans begin before a second. None does where the first one does not: mostly the oldest holder goes first.
+fn begun_before(spans: &[Span], second: Time) -> usize
+    requires { IsNonDecreasingBy (λ span. span.from) spans.now }
+    ensures few { result ≤ length spans.now }
+    ensures before { AllWithin (λ span. span.from < second) spans.now 0 result }
+    ensures after { AllWithin (λ span. second ≤ span.from) spans.now result (length spans.now) }
 {
-    spans.partition_point(|other| other.from < span.from)
+    match spans.first() {
+        Some(first) if first.from < second => begun_before_by_halves(spans, second),
+        _ => 0,
+    }
+}
+
+fn begun_before_by_halves(spans: &[Span], second: Time) -> usize
+    requires { IsNonDecreasingBy (λ span. span.from) spans.now }
+    ensures few { result ≤ length spans.now }
+    ensures before { AllWithin (λ span. span.from < second) spans.now 0 result }
+    ensures after { AllWithin (λ span. second ≤ span.from) spans.now result (length spans.now) }
+{
+    spans.partition_point(|span| span.from < second)
 }

@@ -28,6 +28,13 @@ impl HoldsOf for HeldSpans {
             None => &[],
         }
     }
+
+    fn spans_in(&self, segment: Segment, span: Span) -> &[Span] {
+        match self.lists.get(segment.0 as usize) {
+            Some(list) => list.spans_in(span),
+            None => &[],
+        }
+    }
 }
 
 impl HeldSpans {

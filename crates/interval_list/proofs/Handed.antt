@@ -84,7 +84,8 @@ out-tried used old new (Err e) none made same out = subst (AreOut used) (sym sam
 
 block_size-some : (older : ℕ) → 0 < block_size older
 block_size-some zero = omega arith
-block_size-some (suc older) = omega arith
+block_size-some (suc zero) = omega arith
+block_size-some (suc (suc older)) = omega arith
 
 pub newest : (blocks : List Block) (heads older nodes : List Cell) (p : Ptr) (n : ℕ) → AreAll blocks heads nodes → places heads ≡ p ∷ places older → block_size (length older) ≡ n
     → (0 < n) × IsNewest (p, n) blocks nodes

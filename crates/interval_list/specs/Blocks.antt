@@ -38,7 +38,8 @@ IsNewest b blocks cells = (blocks ≡ b ∷ drop 1 blocks) × IsPermutation (pla
 -- a list's first block has a head and one node more, and the others a head and sixteen
 abbrev pub block_size : ℕ → ℕ
 block_size zero = 2
-block_size (suc older) = 17
+block_size (suc zero) = 17
+block_size (suc (suc older)) = 60
 
 -- the blocks that begin at these places, the newest first
 abbrev pub blocks_at : List Ptr → List Block

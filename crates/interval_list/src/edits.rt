@@ -43,8 +43,8 @@ struct Start {
     place: Place,
 }
 
-/// The first window that reaches beyond a second. It is looked for from the end, near which most edits are, since traffic
-/// comes in order of time.
+/// The first window that reaches beyond a second. It is looked for from the end, near which most seconds are taken out, since
+/// traffic comes in order of time.
 fn first_beyond(windows: &Chain, second: Time) -> Start
     ensures inside { result.index ≤ length windows.now }
     ensures place { result.index < length windows.now → result.place.at ≡ place_of windows.now result.index }
@@ -71,6 +71,49 @@ fn first_beyond(windows: &Chain, second: Time) -> Start
         prev: place,
         place: beyond,
     }
+}
+
+/// The same, looked for from the end that is nearer in time, since what is given back was mostly held long ago or just now.
+fn first_beyond_from_nearer(windows: &Chain, second: Time) -> Start
+    ensures inside { result.index ≤ length windows.now }
+    ensures place { result.index < length windows.now → result.place.at ≡ place_of windows.now result.index }
+    ensures prev { 0 < result.index → result.prev.at ≡ place_of windows.now (result.index - 1) }
+    ensures over { 0 < result.index → (node_of windows.now (result.index - 1)).window.until ≤ second }
+{
+    if is_nearer_first(windows, second) {
+        first_beyond_from_first(windows, second)
+    } else {
+        first_beyond(windows, second)
+    }
+}
+
+/// Whether a second is nearer to the first window than to the last.
+fn is_nearer_first(windows: &Chain, second: Time) -> bool {
+    if windows.len() < 2 {
+        return false;
+    }
+    let last = windows.window(windows.last(), windows.len() - 1);
+    second.saturating_sub(windows.top().until) < last.from.saturating_sub(second)
+}
+
+fn first_beyond_from_first(windows: &Chain, second: Time) -> Start
+    ensures inside { result.index ≤ length windows.now }
+    ensures place { result.index < length windows.now → result.place.at ≡ place_of windows.now result.index }
+    ensures prev { 0 < result.index → result.prev.at ≡ place_of windows.now (result.index - 1) }
+    ensures over { 0 < result.index → (node_of windows.now (result.index - 1)).window.until ≤ second }
+{
+    let mut place = windows.first();
+    let mut prev = place;
+    let mut index = 0;
+    while index < windows.len() {
+        if second < windows.window(place, index).until {
+            return Start { index, prev, place };
+        }
+        prev = place;
+        place = windows.next(prev, index);
+        index += 1;
+    }
+    Start { index, prev, place }
 }
 
 /// A gap between two nodes, and the window that is to stand there but for its id.
@@ -119,7 +162,7 @@ fn clear(windows: &mut Chain, spares: &mut Chain, from: Time, until: Time) -> Ga
 {
     let mut from = from;
     let mut until = until;
-    let start = first_beyond(windows, from.saturating_sub(1));
+    let start = first_beyond_from_nearer(windows, from.saturating_sub(1));
     let mut index = start.index;
     let mut next = start.place;
     let mut prev = start.prev;

@@ -16,11 +16,13 @@ use std::marker::Model;
 use std::ptr::null_mut;
 use taxi_base::Memory;
 
-// How many nodes the first block of a list has, and each later one, its head among them. The list of a segment with no traffic
-// needs one node, so the first block is small. `block_size` repeats these numbers.
+// How many nodes the first block of a list has, the second and each later one, its head among them. The list of a segment with no
+// traffic needs one node, so the first block is small. That of a busy one grows in few large steps. `block_size` repeats these numbers.
 const FIRST: usize = 2;
 
-const LATER: usize = 17;
+const SECOND: usize = 17;
+
+const LATER: usize = 60;
 
 /// All blocks, by their heads, the newest first, and their nodes that are not handed out: `left` of them side by side from
 /// `next` on. Where there are none, `next` means nothing.
@@ -97,7 +99,7 @@ impl Stock {
         let head = new_block(self.alloc, older, &mut self.blocks, &mut self.blanks)?;
         let first = self.heads.push(head, blank().window);
         self.next = after(first);
-        self.left = if older == 0 { FIRST - 1 } else { LATER - 1 };
+        self.left = nodes_of(older) - 1;
         Ok(())
     }
 
@@ -125,6 +127,17 @@ impl Stock {
     }
 }
 
+/// How many nodes a block has, its head among them, beside a number of older ones.
+fn nodes_of(older: usize) -> usize
+    ensures { result ≡ block_size older }
+{
+    match older {
+        0 => FIRST,
+        1 => SECOND,
+        _ => LATER,
+    }
+}
+
 /// Makes a block, beside a number of older ones. Its body joins the nodes, and its head comes back.
 fn new_block(
     alloc: Global,
@@ -137,6 +150,10 @@ fn new_block(
 {
     if older == 0 {
         let block = Box::new(alloc, [blank(); FIRST])?;
+        return Ok(blocks.take_apart(Loose::of(block), nodes));
+    }
+    if older == 1 {
+        let block = Box::new(alloc, [blank(); SECOND])?;
         return Ok(blocks.take_apart(Loose::of(block), nodes));
     }
     let block = Box::new(alloc, [blank(); LATER])?;
@@ -154,6 +171,8 @@ fn free_newest(alloc: Global, blocks: &mut Blocks, heads: &mut Chain, nodes: &mu
     let head = heads.pop();
     if older == 0 {
         drop(blocks.put_together::<FIRST>(alloc, head, nodes).into_box());
+    } else if older == 1 {
+        drop(blocks.put_together::<SECOND>(alloc, head, nodes).into_box());
     } else {
         drop(blocks.put_together::<LATER>(alloc, head, nodes).into_box());
     }

@@ -20,7 +20,8 @@ pub struct LabelQueue {
     // A label that is taken out leaves the first place open, and the next one that comes is put there, so that the heap is put in order
     // once for both.
     first: First,
-    // By label: where its entry lies in the heap, while places are kept.
+    // By label: where its entry lies in the heap, while places are kept. The first call that keeps them writes it, so a queue that keeps none
+    // never does.
     places: Vec<u32>,
     // From the first call that may have to lower a key until the queue is emptied by `clear`. Then the least entry lies in the first place.
     keeps_places: bool,
@@ -33,7 +34,7 @@ impl Model for LabelQueue {
 
     ghost Value = { List (Option ℕ) };
 
-    ghost use Rattle.std.specs.Prelude.{◌≡◌, ◌<◌, ◌≤◌, ◌^◌, length, vec_capacity};
+    ghost use Rattle.std.specs.Prelude.{◌<◌, ◌≤◌, ◌^◌, vec_capacity};
     ghost use Rattle.label_queue.specs.First.{IsHeapBelow, entries_by};
     ghost use Rattle.label_queue.specs.Entries.{keys_of, AreDistinct};
     ghost use Rattle.label_queue.specs.Places.{AreKept};
@@ -42,7 +43,7 @@ impl Model for LabelQueue {
 
     ghost invariant = { λ q.
         IsHeapBelow q.first q.heap.items × AreDistinct q.limit q.heap.items × (q.limit ≤ vec_capacity q.heap) × (q.limit < 2 ^ 32)
-        × (length q.places.items ≡ q.limit) × AreKept q.keeps_places q.first q.places.items q.heap.items };
+        × (q.limit ≤ vec_capacity q.places) × AreKept q.limit q.keeps_places q.first q.places.items q.heap.items };
 }
 
 impl LabelQueue {
@@ -54,7 +55,7 @@ impl LabelQueue {
             return Err(Memory::for_so_many(limit));
         }
         let heap = Vec::with_capacity(alloc, limit)?;
-        let places = Vec::from_elem(alloc, 0, limit)?;
+        let places = Vec::with_capacity(alloc, limit)?;
         Ok(LabelQueue {
             heap,
             first: First::Least,
@@ -115,7 +116,7 @@ impl LabelQueue {
     {
         heap::put_in_order(&mut self.heap, self.first);
         self.first = First::Least;
-        heap::note_places(&self.heap, &mut self.places, self.keeps_places);
+        heap::keep_places(&self.heap, &mut self.places, self.limit, self.keeps_places);
         self.keeps_places = true;
         match heap::place_of(&self.heap, &self.places, label as u32) {
             None => self.insert_among(label, key),

@@ -1,3 +1,4 @@
 pub mod LastLine
 pub mod Lines
 pub mod Exit
+pub mod Call

@@ -11,7 +11,7 @@ use Rattle.schedule_import.specs.declared.row.Names.{Names}
 use Rattle.schedule_import.specs.declared.row.Row.{Row}
 use Rattle.schedule_import.specs.declared.row.RowFault.{RowFault}
 use Rattle.schedule_import.specs.declared.row.RowFault.TheVariants as fault
-use Rattle.schedule_import.specs.Times.{second_of}
+use Rattle.civil_times.specs.Times.{second_of}
 use Rattle.schedule_import.specs.Rows.{needs, checks, movement_of, names_of, row_of_words, row_of_fields, row_of, are_known, are_of_kinds, time_within, time_of_row}
 
 pub record AreNames (names : Names) : Type 0 where

@@ -1,5 +1,3 @@
-pub mod Marks
-pub mod Times
 pub mod Rows
 pub mod Answers
 pub mod Schedule

@@ -9,7 +9,7 @@ use Rattle.schedule_import.specs.declared.row.Names.{Names}
 use Rattle.schedule_import.specs.declared.row.Row.{Row}
 use Rattle.schedule_import.specs.declared.row.RowFault.{RowFault}
 use Rattle.schedule_import.specs.declared.row.RowFault.TheVariants as fault
-use Rattle.schedule_import.specs.Times.{second_of}
+use Rattle.civil_times.specs.Times.{second_of}
 
 -- what a value leads to; the fault where there is none
 abbrev pub needs : {A B : Type 0} → Option A → RowFault → (A → Result B RowFault) → Result B RowFault

@@ -4,7 +4,7 @@ use Rattle.airport_file.specs.Reading.{records_of}
 use Rattle.taxi_base.specs.Airport.{Airport}
 use Rattle.schedule_import.specs.declared.import.ScheduleRefused.{ScheduleRefused}
 use Rattle.schedule_import.specs.declared.import.ScheduleRefused.TheVariants.{FirstRow, BadStart}
-use Rattle.schedule_import.specs.Times.{second_of}
+use Rattle.civil_times.specs.Times.{second_of}
 use Rattle.schedule_import.specs.Answers.{answers_from}
 
 abbrev pub is_schedule : List ℕ → List ℕ → Bool

@@ -1,7 +1,7 @@
 //! The line that answers a record.
 ghost use Rattle.std.specs.Prelude.{◌≡◌, ◌+◌, ◌∷◌, ◌++◌, [], map, decimal, OnOk};
 ghost use Rattle.std.specs.List.{join_with_byte};
-ghost use Rattle.schedule_import.specs.Times.{IsSecond};
+ghost use Rattle.civil_times.specs.Times.{IsSecond};
 ghost use Rattle.schedule_import.specs.Rows.{time_of_row};
 ghost use Rattle.schedule_import.specs.Answers.{fault_word, movement_word, command_line, comment_line, line_of_time, line_of};
 

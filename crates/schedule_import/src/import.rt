@@ -1,13 +1,13 @@
 //! From the bytes of a schedule to the text of its commands.
 ghost use Rattle.std.specs.Prelude.{◌≡◌, ◌+◌, ◌<◌, ◌^◌, Ok, Err, length, map, IfOk, IfSome};
 ghost use Rattle.csv.specs.Records.{fields_of};
-ghost use Rattle.schedule_import.specs.Times.{IsSecond};
+ghost use Rattle.civil_times.specs.Times.{IsSecond};
 ghost use Rattle.schedule_import.specs.Answers.{answers_from};
 ghost use Rattle.schedule_import.specs.Schedule.{is_schedule, is_first_row, start_by, start_of, after_first, import_of_records, import_of};
 
 use crate::answer::push_answer;
-use crate::times::second_of;
 use airport_file::{Airport, all_records, fields_of};
+use civil_times::second_of;
 use csv::ByteRecord;
 use std::alloc::Global;
 use taxi_base::Memory;

@@ -5,7 +5,6 @@ mod answer;
 mod import;
 mod laws;
 mod row;
-mod times;
 
 pub use import::{ScheduleRefused, import_schedule};
 pub use laws::each_accepted_row_is_one_command;

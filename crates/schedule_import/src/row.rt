@@ -1,10 +1,10 @@
 //! The rows of a schedule: what each says, and whether the airport can take it.
 ghost use Rattle.std.specs.Prelude.{◌≡◌, ◌-ℤ◌, map, IfOk};
-ghost use Rattle.schedule_import.specs.Times.{IsSecond};
+ghost use Rattle.civil_times.specs.Times.{IsSecond};
 ghost use Rattle.schedule_import.specs.Rows.{movement_named, movement_of, names_of, row_of_words, row_of_fields, row_of, are_known, are_of_kinds, time_within, time_of_row};
 
-use crate::times::second_of;
 use airport_file::Airport;
+use civil_times::second_of;
 use taxi_base::{Name, Time};
 use taxi_text::read_number;
 

@@ -119,7 +119,7 @@ busy-more holds segments i busy spans new d on is some same held = (
       rw (is, list_any-append (λ w. span_has w t) busy (filter is_some_time spans), same t, covers-some spans t, held t) (sym (list_any_more (λ s. held_at holds s t) segments i d on)),
 )
 
-held_in_all : (sets : List (List Segment)) (holds : List Hold) (s : Segment) (rows : List Segment) (t : ℕ) → AreConflicts sets s rows
+pub held_in_all : (sets : List (List Segment)) (holds : List Hold) (s : Segment) (rows : List Segment) (t : ℕ) → AreConflicts sets s rows
     → list_any (λ r. held_at holds r t) rows ≡ list_any (blocks sets s t) holds
 held_in_all sets holds s rows t all =
     same_answer (list_any (λ r. held_at holds r t) rows) (list_any (blocks sets s t) holds)

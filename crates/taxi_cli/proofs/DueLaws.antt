@@ -14,33 +14,11 @@ use Rattle.program_words.specs.Verb.{FileNames, Traffic, Verb, Route, Check, Gen
 use Rattle.program_files.specs.Inputs.{airport_limit, commands_limit, transcript_limit, IsJudged, AreAccepted, IsRefused, IsReadFault, IsRunTooLarge, IsTooLarge}
 use Rattle.text_verbs.specs.Texts.{IsImported}
 use Rattle.taxi_cli.specs.Outcomes.{IsDoneText, IsWrongText, IsScheduleRefusedText}
-use Rattle.taxi_cli.specs.Due.{IsDueOfFile, IsDueOfJudgement, IsDueOfAirport, IsDueOfTranscript, IsDueOfImport, IsDueOfRun, IsDueOf}
+use Rattle.program_files.specs.Due.{IsDueOfFile}
+use Rattle.program_files.proofs.DueLaws.{file-due, longer-due, judged-due, run-due, run-large}
+use Rattle.taxi_cli.specs.Due.{IsDueOfTranscript, IsDueOfImport, IsDueOf}
 use Rattle.taxi_cli.specs.Halts.{IsLargeText}
 use Rattle.taxi_cli.specs.Endings.{Call, Ends}
-
-file-due : (files : Files) (name bytes : List ℕ) (limit : ℕ) (Within : List ℕ → Type 0) (due : Status)
-    → IsFile (Some files) name bytes → length bytes ≤ limit → Within bytes → IsDueOfFile (file_of files name) limit Within due
-file-due files name bytes limit Within due file within holds = subst (λ (f : Option (List ℕ)). IsDueOfFile f limit Within due) (sym file) (inr (within, holds))
-
-longer-due : (files : Files) (name : List ℕ) (limit : ℕ) (Within : List ℕ → Type 0)
-    → IsLonger (Some files) name limit → IsDueOfFile (file_of files name) limit Within status.TooLarge
-longer-due files name limit Within longer = subst (λ (f : Option (List ℕ)). IsDueOfFile f limit Within status.TooLarge) (sym longer.1) (inl (longer.2, refl))
-
-judged-due : (files : Files) (name : List ℕ) (judgement : Result Airport RecordFault) (Accepted : Airport → Type 0) (due : Status)
-    → IsJudged (Some files) name judgement → IsDueOfJudgement judgement Accepted due → IsDueOfAirport (file_of files name) Accepted due
-judged-due files name judgement Accepted due judged holds =
-    file-due files name judged.bytes airport_limit _ due judged.file judged.within
-    (subst (λ (j : Result Airport RecordFault). IsDueOfJudgement j Accepted due) (sym judged.judged) holds)
-
-run-due : (files : Files) (names : FileNames) (airport : Airport) (commands : List ℕ) (Accepted : Airport → List ℕ → Type 0) (due : Status)
-    → AreAccepted (Some files) names airport commands → Accepted airport commands → IsDueOfRun files names Accepted due
-run-due files names airport commands Accepted due accepted holds =
-    judged-due files names.airport (Ok airport) _ due accepted.accepted (file-due files names.commands commands commands_limit _ due accepted.file accepted.within holds)
-
-run-large : (files : Files) (names : FileNames) (Accepted : Airport → List ℕ → Type 0) → IsRunTooLarge (Some files) names → IsDueOfRun files names Accepted status.TooLarge
-run-large files names Accepted (inl longer) = longer-due files names.airport airport_limit _ longer
-run-large files names Accepted (inr (airport, accepted, longer)) =
-    judged-due files names.airport (Ok airport) _ status.TooLarge accepted (longer-due files names.commands commands_limit _ longer)
 
 -- what is due of a check where its airport and commands are accepted
 abbrev OfCheck : Files → List ℕ → Status → Airport → List ℕ → Type 0

@@ -29,32 +29,22 @@ use Rattle.transcript_check.specs.declared.checking.Verdict.TheVariants as verdi
 use Rattle.transcript_check.specs.Verdicts.{IsVerdict}
 use Rattle.program_files.specs.Inputs.{AreToCheck, IsTooLarge}
 use Rattle.taxi_cli.specs.Halts.{IsFaultText, IsLargeText}
+pub use Rattle.program_endings.proofs.EndingLaws.{IsTaken, writing-taken}
+use Rattle.program_endings.proofs.EndingLaws.{writing-ends_as, last-ends_as}
 use Rattle.taxi_cli.specs.Endings.{Call, IsDueText, IsWhole, Ends}
 use Rattle.program_endings.specs.LastLine.{status_after, IsWriting, EndsWith}
-
--- what is true of the writing of a text, whatever pieces it came in
-pub record IsTaken (text : List ℕ) (faults : ℕ × ℕ) (taken : Outputs) (written : Result (Unit {0}) Trouble) : Type 0 where
-  pub whole : OnOk written (Grew taken.0 taken.1 text)
-  pub front : OnErr written (GrewInPart taken.0 taken.1 text)
-  pub failed : IsErrOf written trouble.Failed → Rose faults.0 faults.1
-
-pub writing-taken : (text : List ℕ) (faults : ℕ × ℕ) (taken : Outputs) (written : Result (Unit {0}) Trouble) → IsWriting text faults taken written → IsTaken text faults taken written
-writing-taken text faults taken written writing = record { whole = writing.whole; front = writing.front; failed = writing.failed }
 
 -- the writing of the text that is due ends the call
 pub writing-ends : (call : Call) (asked : Option Verb) (whole : Status) (text : List ℕ) (written : Result (Unit {0}) Trouble)
     → IsDueText call asked whole text → IsTaken text call.writes call.taken written → (IsWhole call asked whole → Ends call asked whole)
     → Ends call asked (status_after written whole)
-writing-ends call asked whole text (Ok done) due writing ends = ends (text, due, writing.whole)
-writing-ends call asked whole text (Err trouble.Failed) due writing ends = (writing.failed refl, (whole, text, due, writing.front))
-writing-ends call asked whole text (Err trouble.Memory) due writing ends = inr (whole, text, due, writing.front)
+writing-ends call asked whole text written due writing ends = writing-ends_as (IsDueText call asked) call.writes call.taken whole text written due writing ends
 
 -- the same, where the writing of a line decided the status, and the line is the text that is due
 pub last-ends : (call : Call) (asked : Option Verb) (whole : Status) (text line : List ℕ) (status : Status)
     → IsDueText call asked whole text → line ≡ text → EndsWith line whole call.writes call.taken status → (IsWhole call asked whole → Ends call asked whole)
     → Ends call asked status
-last-ends call asked whole text line status due same ends as_whole =
-    rw ends.2 (writing-ends call asked whole line ends.0 (rw same due) (writing-taken line call.writes call.taken ends.0 ends.1) as_whole)
+last-ends call asked whole text line status due same ends as_whole = last-ends_as (IsDueText call asked) call.writes call.taken whole text line status due same ends as_whole
 
 -- the writing of what a check finds ends the call
 pub right-ends : (call : Call) (names : FileNames) (transcript : List ℕ) (airport : Airport) (commands bytes : List ℕ) (count : ℕ) (line : List ℕ) (status : Status)

@@ -1,8 +1,11 @@
 -- From runs to the headline.
-use Rattle.std.proofs.Common.{◌≡◌, ◌≤◌, ◌↔◌, ◌⊎◌, inl, inr, ◌∷◌, ◌∙◌, [], ℕ, List, length, All, Option, Some, None, option_and_then, Result, Ok, Err, refl, sym, ap, subst, arith}
-use Rattle.std.specs.Prelude.{⊤}
-use Rattle.std.specs.Option.{option_map_or}
-use Rattle.std.proofs.lemmas.List.Elements.{All-cons, All-nil, All-head}
+use Rattle.std.proofs.Common.{◌≡◌, ◌≤◌, ◌↔◌, ◌⊎◌, inl, inr, ◌∷◌, ◌∙◌, [], ℕ, List, length, map, get_or, All, IsTrue, Option, Some, None, is_some, option_and_then, Result, Ok, Err, refl, sym, ap, subst, arith, bytes_eq}
+use Rattle.std.specs.Prelude.{⊤, MatchOption, IsPermutation, flat_map}
+use Rattle.std.specs.Cmp.Lexicographic.{bytes_decides}
+use Rattle.std.proofs.lemmas.Bool.{cases_Bool}
+use Rattle.std.proofs.lemmas.Option.{none-some}
+use Rattle.std.proofs.lemmas.List.Sorted.{IsPermutation-sym, All-permutation}
+use Rattle.std.proofs.lemmas.List.Elements.{All-cons, All-nil, All-head, All-tail, All-weaker}
 use Rattle.std.proofs.lemmas.List.{length-append}
 use Rattle.taxi_base.specs.declared.answers.Request.{Request}
 use Rattle.taxi_base.specs.declared.answers.Request.TheVariants as request
@@ -13,7 +16,10 @@ use Rattle.taxi_base.specs.Airport.{Airport, IsWellFormed}
 use Rattle.taxi_base.specs.Again.{IsBestFor}
 use Rattle.taxi_base.specs.State.{State, no_holder, IsSound}
 use Rattle.taxi_base.proofs.StateLaws.{IsClashFree-feasible}
+use Rattle.taxi_base.proofs.NamedLists as lists
+use Rattle.taxi_text.specs.declared.command.BatchRequest.{BatchRequest}
 use Rattle.taxi_text.specs.declared.command.Command.{Command}
+use Rattle.taxi_text.specs.declared.command.Command.TheVariants as command
 use Rattle.taxi_text.specs.Commands.{command_of}
 use Rattle.taxi_text.specs.Lines.{commands_of}
 use Rattle.taxi_io.specs.Counts.{Rose}
@@ -23,16 +29,23 @@ use Rattle.airport_file.specs.Reading.{RecordFault, airport_of}
 use Rattle.airport_file.proofs.AcceptedLaws.{accepted-well}
 use Rattle.certificate.specs.declared.block.Block.{Block}
 use Rattle.certificate.specs.declared.block.Block.TheVariants as block
-use Rattle.certificate.specs.Printable.{IsPrintable}
-use Rattle.certificate.specs.CarriedOut.{second_of}
+use Rattle.certificate.specs.declared.entries.Entry.{Entry}
+use Rattle.certificate.specs.declared.entries.Entry.TheVariants as entry
+use Rattle.certificate.specs.declared.wish.Wish.{Wish}
+use Rattle.certificate.specs.Printable.{IsPrintable, IsTold}
+use Rattle.certificate.specs.Asked.{asked_in}
+use Rattle.certificate.specs.Batches.{wishes_of, wish_named, names_of, TellsBatch}
+use Rattle.certificate.specs.CarriedOut.{second_of, IsCarriedOut}
 use Rattle.certificate.specs.Refusals.{first_refusal}
 use Rattle.certificate.specs.Replies.{IsAnswered, HaveNames}
-use Rattle.certificate.specs.Passes.{KeepsReply, IsOfDueForm, IsFormOf, IsBestTold}
+use Rattle.certificate.specs.Passes.{KeepsReply, IsAsAskedAlone, IsAsAsked, IsOfDueForm, IsFormOf, IsBestTold, TellsBest}
 use Rattle.certificate.specs.declared.rule.Rule.TheVariants as rule
-use Rattle.certificate.specs.Sought.{Sought, sought_of, sought_by, IsWalkFor}
-use Rattle.certificate.specs.Turns.{Turn, turns_of}
+use Rattle.certificate.specs.Sought.{Sought, sought_of, sought_wish, IsWalkFor}
+use Rattle.certificate.specs.Turns.{Turn, told_of, told_in, after_told, turns_of}
 use Rattle.certificate.proofs.PassLaws.{reply-passes}
 use Rattle.certificate.proofs.BestLaws.{passed-best}
+use Rattle.certificate.proofs.BatchNames.{wishes-names}
+use Rattle.certificate.proofs.BatchTurns.{block_of, turns_from, turns-cons, batch-turns}
 use Rattle.certificate.proofs.TurnLaws.{all-one, one_turn}
 use Rattle.program_endings.specs.declared.status.Status.{Status}
 use Rattle.program_endings.specs.declared.status.Status.TheVariants as status
@@ -76,32 +89,129 @@ none-answers s labels best = record {
   no_route = (λ told. best, λ none. tt);
 }
 
+-- what is told of a search: a route, or that there is none
+abbrev IsOfSearch : Block → Type 0
+IsOfSearch (block.Route name second steps labels) = ⊤
+IsOfSearch (block.NoRoute labels) = ⊤
+IsOfSearch _ = ⊥
+
+entries-of_searches : (entries : List (List ℕ × Entry)) → All IsOfSearch (flat_map told_of entries)
+entries-of_searches [] = All-nil IsOfSearch
+entries-of_searches ((name, entry.Route second steps labels) ∷ entries) = All-cons IsOfSearch (block.Route name second steps labels) (flat_map told_of entries) tt (entries-of_searches entries)
+entries-of_searches ((name, entry.NoRoute labels) ∷ entries) = All-cons IsOfSearch (block.NoRoute labels) (flat_map told_of entries) tt (entries-of_searches entries)
+entries-of_searches ((name, entry.Dropped) ∷ entries) = entries-of_searches entries
+
+told-of_searches : (b : Block) → All IsOfSearch (told_in b)
+told-of_searches (block.Route name second steps labels) = all-one IsOfSearch (block.Route name second steps labels) tt
+told-of_searches (block.NoRoute labels) = all-one IsOfSearch (block.NoRoute labels) tt
+told-of_searches (block.Batch total entries) = entries-of_searches entries
+told-of_searches (block.Refused why) = All-nil IsOfSearch
+told-of_searches (block.Filed name start end) = All-nil IsOfSearch
+told-of_searches (block.Cancelled name) = All-nil IsOfSearch
+told-of_searches (block.Windows segment windows) = All-nil IsOfSearch
+told-of_searches (block.Occupancy segment held) = All-nil IsOfSearch
+told-of_searches (block.Timetable flights) = All-nil IsOfSearch
+
+of_mapped : {X Y : Type 0} (P : Y → Type 0) (f : X → Y) (xs : List X) → All P (map f xs) → All (λ x. P (f x)) xs
+of_mapped P f [] all = All-nil (λ x. P (f x))
+of_mapped P f (x ∷ xs) all = All-cons (λ x. P (f x)) x xs (All-head P (f x) (map f xs) all) (of_mapped P f xs (All-tail P (f x) (map f xs) all))
+
 -- what is told of the searches is best, so each is answered
-abbrev IsBestTurn : Turn → Type 0
-IsBestTurn turn = IsBestTold turn.sought turn.told
+turn-answers : (s : Sought) (told : Block) → IsOfSearch told → IsBestTold s told → AnswersSearch (record { sought = s; told = told })
+turn-answers s (block.Route name second steps labels) is best = route-answers s name second steps labels best
+turn-answers s (block.NoRoute labels) is best = none-answers s labels best
+turn-answers s (block.Refused why) is best = absurd is
+turn-answers s (block.Filed name start end) is best = absurd is
+turn-answers s (block.Cancelled name) is best = absurd is
+turn-answers s (block.Windows segment windows) is best = absurd is
+turn-answers s (block.Occupancy segment held) is best = absurd is
+turn-answers s (block.Timetable flights) is best = absurd is
+turn-answers s (block.Batch total entries) is best = absurd is
 
-abbrev turns_by : Block → Option Sought → List Turn
-turns_by told o = option_map_or (λ s. record { sought = s; told = told } ∷ []) o []
+searches-answered : (airport : Airport) (state : State) (line : List ℕ) (b : Block) → TellsBest airport state line b → All AnswersSearch (turns_of airport state line b)
+searches-answered airport state line b tells =
+    let turns : List Turn = turns_of airport state line b in
+    let of_search : All (λ (t : Turn). IsOfSearch t.told) turns =
+    of_mapped IsOfSearch (λ (t : Turn). t.told) turns (subst (All IsOfSearch) (sym tells.all_told) (told-of_searches b)) in
+    λ k d low. turn-answers (get_or turns k d).sought (get_or turns k d).told (of_search k d low) (tells.best k d low)
 
-searches-answered : (airport : Airport) (state : State) (line : List ℕ) (b : Block) → All IsBestTurn (turns_of airport state line b) → All AnswersSearch (turns_of airport state line b)
-searches-answered airport state line b best = go b best where
-  of_one : (told : Block) → ((s : Sought) → IsBestTold s told → AnswersSearch (record { sought = s; told = told })) → (o : Option Sought) → All IsBestTurn (turns_by told o) → All AnswersSearch (turns_by told o)
-  of_one told each None best = All-nil AnswersSearch
-  of_one told each (Some s) best = all-one AnswersSearch (record { sought = s; told = told }) (each s (All-head IsBestTurn (record { sought = s; told = told }) [] best))
+-- ---- what is asked
 
-  go : (b : Block) → All IsBestTurn (turns_of airport state line b) → All AnswersSearch (turns_of airport state line b)
-  go (block.Route name second steps labels) best = of_one (block.Route name second steps labels) (λ s. route-answers s name second steps labels) (sought_by airport state line) best
-  go (block.NoRoute labels) best = of_one (block.NoRoute labels) (λ s. none-answers s labels) (sought_by airport state line) best
-  go (block.Refused why) best = All-nil AnswersSearch
-  go (block.Filed name start end) best = All-nil AnswersSearch
-  go (block.Cancelled name) best = All-nil AnswersSearch
-  go (block.Windows segment windows) best = All-nil AnswersSearch
-  go (block.Occupancy segment held) best = All-nil AnswersSearch
-  go (block.Timetable flights) best = All-nil AnswersSearch
+-- where a walk is sought, a block of due form tells of it
+alone-form : (airport : Airport) (state : State) (command : Command) (s : Sought) (b : Block) → sought_of airport state command ≡ Some s → IsAsAskedAlone airport state command b → IsFormOf s b
+alone-form airport state command s b is asked =
+    subst (λ (o : Option Sought). MatchOption o ((after : State) × IsCarriedOut airport state command b after) (λ t. IsFormOf t b)) is asked
 
-due-form : (airport : Airport) (state : State) (line : List ℕ) (command : Command) (s : Sought) (b : Block) → command_of line ≡ Some command
-    → first_refusal airport state command ≡ None → sought_of airport state command ≡ Some s → IsOfDueForm airport state line b → IsFormOf s b
-due-form airport state line command s b read none is form = rw is at (rw none at (rw read at form))
+asked-form : (airport : Airport) (state : State) (command : Command) (s : Sought) (b : Block) → sought_of airport state command ≡ Some s → IsAsAsked airport state command b → IsFormOf s b
+asked-form airport state (command.Batch requests) s b is asked = absurd (none-some s is)
+asked-form airport state (command.File filed) s b is asked = alone-form airport state (command.File filed) s b is asked
+asked-form airport state (command.Arrival words) s b is asked = alone-form airport state (command.Arrival words) s b is asked
+asked-form airport state (command.Departure words) s b is asked = alone-form airport state (command.Departure words) s b is asked
+asked-form airport state (command.ArrivalAny words) s b is asked = alone-form airport state (command.ArrivalAny words) s b is asked
+asked-form airport state (command.DepartureAny words) s b is asked = alone-form airport state (command.DepartureAny words) s b is asked
+asked-form airport state (command.Cancel name) s b is asked = alone-form airport state (command.Cancel name) s b is asked
+asked-form airport state (command.Reroute name time) s b is asked = alone-form airport state (command.Reroute name time) s b is asked
+asked-form airport state (command.Divert name time node) s b is asked = alone-form airport state (command.Divert name time node) s b is asked
+asked-form airport state (command.Windows segment) s b is asked = alone-form airport state (command.Windows segment) s b is asked
+asked-form airport state (command.Occupancy segment) s b is asked = alone-form airport state (command.Occupancy segment) s b is asked
+asked-form airport state command.Timetable s b is asked = alone-form airport state command.Timetable s b is asked
+asked-form airport state (command.Work shut) s b is asked = alone-form airport state (command.Work shut) s b is asked
+asked-form airport state (command.WorkDone name) s b is asked = alone-form airport state (command.WorkDone name) s b is asked
+
+due-asked : (airport : Airport) (state : State) (line : List ℕ) (command : Command) (b : Block) → command_of line ≡ Some command → first_refusal airport state command ≡ None
+    → IsOfDueForm airport state line b → IsAsAsked airport state command b
+due-asked airport state line command b read none form = rw none at (rw read at form)
+
+-- ---- the searches of a batch
+
+-- each name of the wishes finds one of them
+names-found : (wishes : List Wish) → All (λ n. IsTrue (is_some (wish_named n wishes))) (names_of wishes)
+names-found [] = All-nil _
+names-found (wish ∷ wishes) =
+    let itself : IsTrue (bytes_eq wish.name wish.name) = (bytes_decides wish.name wish.name).1 refl in
+    All-cons (λ n. IsTrue (is_some (wish_named n (wish ∷ wishes)))) wish.name (names_of wishes) (rw itself refl)
+    (All-weaker (λ n. IsTrue (is_some (wish_named n wishes))) (λ n. IsTrue (is_some (wish_named n (wish ∷ wishes))))
+    (λ n there. elim (cases_Bool (bytes_eq wish.name n)) [ inl here ↦ rw here refl | inr other ↦ rw other there ]) (names_of wishes) (names-found wishes))
+
+module _ (airport : Airport) (requests : List BatchRequest) (wishes : List Wish) (known : wishes_of airport requests ≡ Some wishes) where
+  -- one for each entry, for the flight of its name
+  searches-names : (state : State) (entries : List (List ℕ × Entry)) → All IsTold entries → All (λ (told : List ℕ × Entry). IsTrue (is_some (wish_named told.0 wishes))) entries
+      → map (λ turn. turn.sought.name) (turns_from airport requests wishes known state entries) ≡ map (λ told. told.0) entries
+  searches-names state [] are found = refl
+  searches-names state (told ∷ entries) are found =
+      go (λ s. searches-names s entries (All-tail IsTold told entries are) (All-tail (λ (t : List ℕ × Entry). IsTrue (is_some (wish_named t.0 wishes))) told entries found)) (wish_named told.0 wishes) refl
+      (All-head (λ (t : List ℕ × Entry). IsTrue (is_some (wish_named t.0 wishes))) told entries found)
+    where
+      go : ((s : State) → map (λ turn. turn.sought.name) (turns_from airport requests wishes known s entries) ≡ map (λ (t : List ℕ × Entry). t.0) entries)
+          → (o : Option Wish) → wish_named told.0 wishes ≡ o → IsTrue (is_some o)
+          → map (λ turn. turn.sought.name) (turns_from airport requests wishes known state (told ∷ entries)) ≡ map (λ (t : List ℕ × Entry). t.0) (told ∷ entries)
+      go later None named there = absurd (cc there)
+      go later (Some wish) named there =
+          let first : wish.name ≡ told.0 = lists.find-named (λ (w : Wish). w.name) told.0 wishes wish named in
+          let rest = later (after_told (sought_wish airport state wish) (block_of told)) in
+          ap (map (λ (turn : Turn). turn.sought.name)) (turns-cons airport requests wishes known state told entries wish (All-head IsTold told entries are) named) ∙ (λ i. first i ∷ rest i)
+
+batch-searches : (airport : Airport) (state : State) (line : List ℕ) (requests : List BatchRequest) (b : Block) → command_of line ≡ Some (command.Batch requests) → TellsBatch airport requests b
+    → IsPermutation (map (λ turn. turn.sought.name) (turns_of airport state line b)) (map (λ request. (asked_in request).flight) requests)
+batch-searches airport state line requests (block.Batch total entries) read tells =
+    let wishes : List Wish = tells.0 in
+    let back = IsPermutation-sym (map (λ told. told.0) entries) (names_of wishes) tells.2 in
+    let found = All-permutation (λ n. IsTrue (is_some (wish_named n wishes))) (names_of wishes) (map (λ told. told.0) entries) back (names-found wishes) in
+    let names : map (λ turn. turn.sought.name) (turns_of airport state line (block.Batch total entries)) ≡ map (λ (told : List ℕ × Entry). told.0) entries =
+    ap (map (λ (turn : Turn). turn.sought.name)) (batch-turns airport state line requests total entries read)
+    ∙ searches-names airport requests wishes tells.1 state entries tells.3 (of_mapped (λ n. IsTrue (is_some (wish_named n wishes))) (λ (told : List ℕ × Entry). told.0) entries found) in
+    subst (λ (ns : List (List ℕ)). IsPermutation ns (map (λ (request : BatchRequest). (asked_in request).flight) requests)) (sym names)
+    (subst (IsPermutation (map (λ (told : List ℕ × Entry). told.0) entries)) (wishes-names airport requests wishes tells.1) tells.2)
+batch-searches airport state line requests (block.Route name second steps labels) read tells = absurd tells
+batch-searches airport state line requests (block.NoRoute labels) read tells = absurd tells
+batch-searches airport state line requests (block.Refused why) read tells = absurd tells
+batch-searches airport state line requests (block.Filed name start end) read tells = absurd tells
+batch-searches airport state line requests (block.Cancelled name) read tells = absurd tells
+batch-searches airport state line requests (block.Windows segment windows) read tells = absurd tells
+batch-searches airport state line requests (block.Occupancy segment held) read tells = absurd tells
+batch-searches airport state line requests (block.Timetable flights) read tells = absurd tells
+
+-- ---- one command in its turn
 
 answers-command : (airport : Airport) (state : State) (line : List ℕ) (b : Block) (after : State) → IsWellFormed airport → IsSound airport state
     → IsAnswered airport state line b after → AnswersCommand airport state line b after
@@ -110,9 +220,10 @@ answers-command airport state line b after well sound answered =
     let best = passed-best airport state well sound line b after passed in
     record {
       answers = answered.reply;
-      searches = searches-answered airport state line b best.best;
+      searches = searches-answered airport state line b best;
       all_told = best.all_told;
       searched = λ command read none s is memory. searched command read none s is memory (passed.keeps rule.Reply);
+      batched = λ requests read none memory. batched requests read none memory (passed.keeps rule.Reply);
       clash_free = answered.clash_free;
       passes = passed;
     }
@@ -121,7 +232,12 @@ answers-command airport state line b after well sound answered =
         → (b ≡ block.Refused refusal.Memory → ⊥) → KeepsReply airport state line b → turns_of airport state line b ≡ record { sought = s; told = b } ∷ []
     searched command read none s is memory (inl want) = absurd (memory want.1)
     searched command read none s is memory (inr form) =
-        one_turn airport state line s (ap (option_and_then (sought_of airport state)) read ∙ is) b (due-form airport state line command s b read none is form)
+        one_turn airport state line s (ap (option_and_then (sought_of airport state)) read ∙ is) b (asked-form airport state command s b is (due-asked airport state line command b read none form))
+
+    batched : (requests : List BatchRequest) → command_of line ≡ Some (command.Batch requests) → first_refusal airport state (command.Batch requests) ≡ None → (b ≡ block.Refused refusal.Memory → ⊥)
+        → KeepsReply airport state line b → IsPermutation (map (λ turn. turn.sought.name) (turns_of airport state line b)) (map (λ request. (asked_in request).flight) requests)
+    batched requests read none memory (inl want) = absurd (memory want.1)
+    batched requests read none memory (inr form) = batch-searches airport state line requests b read (due-asked airport state line (command.Batch requests) b read none form)
 
 -- ---- a run
 

@@ -2,7 +2,7 @@
 -- an arrival's route is feasible among the commitments then standing and no feasible walk ends earlier; a departure's is
 -- feasible and none pushes back later; no-route comes exactly when no feasible walk exists; no two aircraft ever hold
 -- conflicting segments at one moment; and the checker accepts the transcript.
-use Rattle.std.specs.Prelude.{◌≡◌, ◌↔◌, ◌⊎◌, ℕ, List, [], ◌∷◌, map, All, Option, Some, None, ⊤}
+use Rattle.std.specs.Prelude.{◌≡◌, ◌↔◌, ◌⊎◌, ℕ, List, [], ◌∷◌, map, All, IsPermutation, Option, Some, None, ⊤}
 use Rattle.taxi_base.specs.declared.answers.Request.{Request}
 use Rattle.taxi_base.specs.declared.answers.Request.TheVariants as request
 use Rattle.taxi_base.specs.declared.answers.Refusal.TheVariants as refusal
@@ -11,7 +11,9 @@ use Rattle.taxi_base.specs.declared.rows.LabelRow.{LabelRow}
 use Rattle.taxi_base.specs.Airport.{Airport}
 use Rattle.taxi_base.specs.Walks.{EndsEarliest, BeginsLatest, begin_of, end_of}
 use Rattle.taxi_base.specs.State.{State, no_holder, IsClashFree}
+use Rattle.taxi_text.specs.declared.command.BatchRequest.{BatchRequest}
 use Rattle.taxi_text.specs.declared.command.Command.{Command}
+use Rattle.taxi_text.specs.declared.command.Command.TheVariants as command
 use Rattle.taxi_text.specs.Commands.{command_of}
 use Rattle.taxi_text.specs.Lines.{commands_of}
 use Rattle.taxi_io.specs.Counts.{Rose}
@@ -19,6 +21,7 @@ use Rattle.taxi_io.specs.Files.{Files}
 use Rattle.taxi_io.specs.Written.{Grew, GrewInPart}
 use Rattle.certificate.specs.declared.block.Block.{Block}
 use Rattle.certificate.specs.declared.block.Block.TheVariants.{Refused, Route, NoRoute}
+use Rattle.certificate.specs.Asked.{asked_in}
 use Rattle.certificate.specs.Refusals.{first_refusal}
 use Rattle.certificate.specs.Replies.{IsReply}
 use Rattle.certificate.specs.Passes.{IsPassed}
@@ -64,6 +67,10 @@ pub record AnswersCommand (airport : Airport) (state : State) (line : List ℕ) 
   pub searched : (command : Command) → command_of line ≡ Some command → first_refusal airport state command ≡ None
       → (sought : Sought) → sought_of airport state command ≡ Some sought → (block ≡ Refused refusal.Memory → ⊥)
       → turns_of airport state line block ≡ record { sought = sought; told = block } ∷ []
+  -- so is each request of a batch that is refused nothing and finds memory, once and in some order
+  pub batched : (requests : List BatchRequest) → command_of line ≡ Some (command.Batch requests) → first_refusal airport state (command.Batch requests) ≡ None
+      → (block ≡ Refused refusal.Memory → ⊥)
+      → IsPermutation (map (λ turn. turn.sought.name) (turns_of airport state line block)) (map (λ request. (asked_in request).flight) requests)
   -- no two aircraft hold conflicting segments at one moment
   pub clash_free : IsClashFree airport after
   -- the checker accepts the block

@@ -2,9 +2,9 @@ pub mod DueLaws
 pub mod TakenOut
 pub mod AnswerLaws
 pub mod Told
-pub mod SearchedLaws
 pub mod RouteLaws
 pub mod RoutedDue
 mod ChosenDue
 pub mod ReroutedDue
 pub mod ReroutedTold
+pub mod BatchLaws

@@ -31,9 +31,11 @@ module _ (old new : EngineState) (asked : Asked) (trip : Trip) (named : IsTripOf
           request = asks;
           class_known = named.class_known;
           nodes_known = rw (named.from_known, named.to_known, named.time, named.slack) refl;
-          found = told.0;
-          answers = subst (λ r. IfOk r (AnswersRequest (conditions_in old.airport trip.class old.state) asks)) told.1 answers;
-          reply = (refl, refl);
+          routed = record {
+            found = told.0;
+            answers = subst (λ r. IfOk r (AnswersRequest (conditions_in old.airport trip.class old.state) asks)) told.1 answers;
+            reply = (refl, refl);
+          };
         });
         done = told.2;
       })
@@ -51,9 +53,11 @@ module _ (old new : EngineState) (asked : Asked) (trip : Trip) (named : IsTripOf
           request = asks;
           class_known = named.class_known;
           nodes_known = rw (named.from_known, named.to_known, named.time, named.slack) refl;
-          found = told.0;
-          answers = subst (λ r. IfOk r (AnswersRequest (conditions_in old.airport trip.class old.state) asks)) told.1 answers;
-          reply = (refl, refl);
+          routed = record {
+            found = told.0;
+            answers = subst (λ r. IfOk r (AnswersRequest (conditions_in old.airport trip.class old.state) asks)) told.1 answers;
+            reply = (refl, refl);
+          };
         });
         done = told.2;
       })

@@ -6,15 +6,10 @@ use Rattle.taxi_base.specs.Windows.{is_free}
 use Rattle.taxi_base.specs.State.{holds_in}
 use Rattle.taxi_base.proofs.WindowLaws.{AreWindows-same}
 use Rattle.window_store.specs.Store.{spans_at}
-use Rattle.window_store.specs.Stands.{StandsFor}
-use Rattle.commitments.specs.Book.{Book, without_lifted, Fits}
+use Rattle.commitments.specs.Book.{Book, Fits}
 use Rattle.certificate.specs.CarriedOut.{windows_among}
 use Rattle.certificate.proofs.WindowsTold.{windows_among-are}
-
--- with no flight lifted the windows are those that all flights leave
-pub all_stand : (airport : Airport) (book : Book) → Fits airport book → book.lifted ≡ None → StandsFor airport.conflicts airport.horizon (holds_in airport book.state) book.store
-all_stand airport book fits unlifted =
-    subst (λ name. StandsFor airport.conflicts airport.horizon (holds_in airport (without_lifted name book.state)) book.store) unlifted fits.stands
+use Rattle.sequence_exchange.proofs.SearchedLaws.{all_stand}
 
 pub windows-told : (airport : Airport) (book : Book) (segment : Segment) → Fits airport book → book.lifted ≡ None → segment.0 < length airport.segments
     → spans_at book.store segment ≡ windows_among airport book.state segment

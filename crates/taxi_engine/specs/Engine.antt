@@ -26,6 +26,7 @@ abbrev pub MayWantMemory : Airport → State → Command → Type 0
 MayWantMemory airport state (command.File filed) = ⊤
 MayWantMemory airport state (command.ArrivalAny asked) = ⊤
 MayWantMemory airport state (command.DepartureAny asked) = ⊤
+MayWantMemory airport state (command.Batch requests) = ⊤
 MayWantMemory airport state (command.Cancel flight) = ⊥
 MayWantMemory airport state (command.WorkDone name) = ⊥
 MayWantMemory airport state other = first_refusal airport state other ≡ None

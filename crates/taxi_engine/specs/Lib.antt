@@ -3,3 +3,4 @@ pub mod Done
 pub mod Routed
 pub mod Rerouted
 pub mod Choosing
+pub mod Batched

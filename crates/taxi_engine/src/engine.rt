@@ -76,6 +76,21 @@ impl Engine {
         &self.ledger
     }
 
+    /// The airport and the ledger, as the last answer left them.
+    pub fn into_parts(self) -> (Airport, Ledger)
+        ensures airport { result.0 ≡ self.airport }
+        ensures state { result.1.state ≡ self.state }
+        ensures fits { Fits self.airport result.1 }
+        ensures unlifted { result.1.lifted ≡ None }
+    {
+        let Engine {
+            airport,
+            ledger,
+            ..
+        } = self;
+        (airport, ledger)
+    }
+
     /// The text of the reply to the last command; empty before the first.
     pub fn reply(&self) -> &[u8]
         ensures { result.now ≡ self.now.reply }
@@ -108,6 +123,7 @@ impl Engine {
             Command::Departure(asked) => self.route_departure(asked),
             Command::ArrivalAny(asked) => self.route_arrival_any(asked),
             Command::DepartureAny(asked) => self.route_departure_any(asked),
+            Command::Batch(requests) => self.route_batch(requests.as_slice()),
             Command::Cancel { flight } => self.cancel(flight),
             Command::Reroute { flight, time } => self.reroute(flight, *time),
             Command::Divert { flight, time, node } => self.divert(flight, *time, node),

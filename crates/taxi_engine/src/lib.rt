@@ -1,6 +1,7 @@
 //! The engine: one command in, one reply out, over the flights and work parties in force.
 #![tactic(auto)]
 
+mod batching;
 mod cancelling;
 mod choosing;
 mod engine;

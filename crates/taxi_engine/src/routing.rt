@@ -16,16 +16,12 @@ ghost use Rattle.taxi_engine.specs.Routed.{IsNew, IsWalkOn, IsToldOrMemory, IsFo
 
 use crate::Engine;
 use crate::reply::ReplyText;
-use crate::texts::second_of;
 use airport_file::Airport;
-use backward_search::{Departure, depart};
-use certificate::Block;
-use command_refusals::{Trip, asked_arrival, asked_departure};
+use certificate::{Block, Wish};
+use command_refusals::{asked_arrival, asked_departure};
 use commitments::Ledger;
-use forward_search::{Start, arrive};
-use place_cells::SearchRoom;
-use std::alloc::Global;
-use taxi_base::{Class, Flight, Found, LabelRow, List, Memory, Name, Refusal, Request};
+use sequence_exchange::{find_route, second_of};
+use taxi_base::{Flight, Found, LabelRow, List, Memory, Refusal};
 use taxi_text::Asked;
 
 impl Engine {
@@ -38,9 +34,14 @@ impl Engine {
     {
         match asked_arrival(&self.airport, &self.ledger, asked) {
             Ok(trip) => {
+                let wish = Wish {
+                    name: asked.flight,
+                    class: trip.class,
+                    request: trip.arrival(),
+                };
                 let (airport, ledger) = (&self.airport, &self.ledger);
-                let found = find_arrival(self.alloc, &mut self.room, airport, ledger, &trip);
-                self.tell_found(&asked.flight, trip.class, trip.arrival(), found);
+                let found = find_route(self.alloc, &mut self.room, airport, ledger, &wish);
+                self.tell_found(&wish, found);
             }
             Err(why) => self.refuse(&why),
         }
@@ -54,35 +55,34 @@ impl Engine {
     {
         match asked_departure(&self.airport, &self.ledger, asked) {
             Ok(trip) => {
+                let wish = Wish {
+                    name: asked.flight,
+                    class: trip.class,
+                    request: trip.departure(),
+                };
                 let (airport, ledger) = (&self.airport, &self.ledger);
-                let found = find_departure(self.alloc, &mut self.room, airport, ledger, &trip);
-                self.tell_found(&asked.flight, trip.class, trip.departure(), found);
+                let found = find_route(self.alloc, &mut self.room, airport, ledger, &wish);
+                self.tell_found(&wish, found);
             }
             Err(why) => self.refuse(&why),
         }
     }
 
-    // Tells what was found for the request of a new flight, which goes in force where there is a route.
-    fn tell_found(
-        &mut self,
-        flight: &Name,
-        class: Class,
-        request: Request,
-        found: Result<Found, Memory>,
-    )
-        requires name { IsName flight.now }
-        requires new { IsNew self.old.state flight.now }
-        requires answers { IfOk found (AnswersRequest (conditions_in self.old.airport class self.old.state) request) }
-        ensures { IsFoundTold flight.now class request found self.old self.new }
+    // Tells what was found for a new flight, which goes in force where there is a route.
+    fn tell_found(&mut self, wish: &Wish, found: Result<Found, Memory>)
+        requires name { IsName wish.now.name }
+        requires new { IsNew self.old.state wish.now.name }
+        requires answers { IfOk found (AnswersRequest (conditions_in self.old.airport wish.now.class self.old.state) wish.now.request) }
+        ensures { IsFoundTold wish.now.name wish.now.class wish.now.request found self.old self.new }
     {
         // The airport keeps its rules, so each label is of one of its arcs.
         let _ = self.airport.horizon();
         match found {
             Ok(Found::Route { steps, labels }) => {
                 let flight = Flight {
-                    name: *flight,
-                    class,
-                    request,
+                    name: wish.name,
+                    class: wish.class,
+                    request: wish.request,
                     steps,
                 };
                 self.take_route(flight, &labels);
@@ -119,53 +119,6 @@ impl Engine {
             self.refuse(&Refusal::Memory);
         }
     }
-}
-
-// Searches for an arrival among the holders in force.
-fn find_arrival(
-    alloc: Global,
-    room: &mut SearchRoom,
-    airport: &Airport,
-    ledger: &Ledger,
-    trip: &Trip,
-) -> Result<Found, Memory>
-    requires fits { Fits airport.now ledger.now }
-    requires unlifted { ledger.now.lifted ≡ None }
-    requires time { IsShort trip.now.time }
-    requires slack { IsShort trip.now.slack }
-    ensures { IfOk result (AnswersRequest (conditions_in airport.now trip.now.class ledger.now.state) (Request.Arrival trip.now.from trip.now.to trip.now.time trip.now.slack)) }
-{
-    let start = Start::Node {
-        from: trip.from,
-        earliest: trip.time,
-        latest: trip.time + trip.slack,
-    };
-    let store = ledger.store();
-    arrive(alloc, room, airport, store, start, trip.class, trip.to)
-}
-
-// Searches for a departure among the holders in force.
-fn find_departure(
-    alloc: Global,
-    room: &mut SearchRoom,
-    airport: &Airport,
-    ledger: &Ledger,
-    trip: &Trip,
-) -> Result<Found, Memory>
-    requires fits { Fits airport.now ledger.now }
-    requires unlifted { ledger.now.lifted ≡ None }
-    requires time { IsShort trip.now.time }
-    ensures { IfOk result (AnswersRequest (conditions_in airport.now trip.now.class ledger.now.state) (Request.Departure trip.now.from trip.now.to trip.now.time trip.now.slack)) }
-{
-    let earliest_out = trip.time.saturating_sub(trip.slack);
-    let departure = Departure {
-        class: trip.class,
-        from: trip.from,
-        earliest_out,
-        latest_out: trip.time,
-    };
-    let store = ledger.store();
-    depart(alloc, room, airport, store, departure, trip.to)
 }
 
 /// Makes room for a new flight in the ledger, and writes its route as the reply.

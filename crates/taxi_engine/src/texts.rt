@@ -1,13 +1,12 @@
 //! The texts of short replies.
-ghost use Rattle.std.specs.Prelude.{◌≡◌, ◌≤◌, ◌<◌, length, false};
+ghost use Rattle.std.specs.Prelude.{◌≡◌, ◌≤◌, length, false};
 ghost use Rattle.taxi_base.specs.Walks.{begin_of, end_of};
 ghost use Rattle.certificate.specs.declared.block.Block.TheVariants.{Refused, Filed, Cancelled};
 ghost use Rattle.certificate.specs.Texts.{is_long, block_text};
-ghost use Rattle.certificate.specs.CarriedOut.{second_of};
 
 use airport_file::Airport;
 use certificate::{Block, print_short};
-use taxi_base::{Flight, Name, Party, Refusal, Request, Step, Time, begin_of, end_of};
+use taxi_base::{Flight, Name, Party, Refusal, begin_of, end_of};
 use taxi_text::ShortText;
 
 /// The reply where a route is filed.
@@ -52,17 +51,6 @@ pub(crate) fn refused_text(airport: &Airport, why: &Refusal) -> ShortText
     ensures { result ≡ block_text airport.now (Refused why.now) }
 {
     text_of(airport, &Block::Refused(*why))
-}
-
-/// The second that is told with a route: where a departure begins, and where an arrival ends.
-pub(crate) fn second_of(request: &Request, steps: &[Step]) -> Time
-    requires { 0 < length steps.now }
-    ensures { result ≡ second_of request.now steps.now }
-{
-    match request {
-        Request::Departure { .. } => begin_of(steps),
-        _ => end_of(steps),
-    }
 }
 
 // The text of a short block.

@@ -5,5 +5,6 @@ mod Stored
 mod Gathering
 mod FiledSteps
 mod ChosenNames
+mod BatchRequests
 pub mod ArcWords
 pub mod FirstPlace

@@ -3,8 +3,10 @@ use Rattle.std.specs.Prelude.{ℕ, Bool, ◌&&◌, ◌==◌, nat_lt, nat_le, dro
 use Rattle.taxi_text.specs.declared.command.FiledStep.{FiledStep}
 use Rattle.taxi_text.specs.declared.command.Asked.{Asked}
 use Rattle.taxi_text.specs.declared.command.AskedAny.{AskedAny}
+use Rattle.taxi_text.specs.declared.command.BatchRequest.{BatchRequest}
+use Rattle.taxi_text.specs.declared.command.BatchRequest.TheVariants as requested
 use Rattle.taxi_text.specs.declared.command.Command.{Command}
-use Rattle.taxi_text.specs.declared.command.Command.TheVariants.{File, Arrival, Departure, Cancel, Reroute, Divert, Windows, Occupancy, Timetable, Work, WorkDone, ArrivalAny, DepartureAny}
+use Rattle.taxi_text.specs.declared.command.Command.TheVariants.{File, Arrival, Departure, Cancel, Reroute, Divert, Windows, Occupancy, Timetable, Work, WorkDone, ArrivalAny, DepartureAny, Batch}
 use Rattle.taxi_text.specs.Words.{words_of}
 use Rattle.taxi_text.specs.Fields.{name_of, number_of, arc_word_of}
 
@@ -133,6 +135,27 @@ arrival_any_of words = asked_any_of words >>= (λ a. Some (ArrivalAny a))
 abbrev pub departure_any_of : List (List ℕ) → Option Command
 departure_any_of words = asked_any_of words >>= (λ a. Some (DepartureAny a))
 
+-- `arrival` or `departure`, and six words
+abbrev pub request_of : List ℕ → List (List ℕ) → Option BatchRequest
+request_of verb words =
+    if bytes_eq verb (codes "arrival") then asked_of words >>= (λ a. Some (requested.Arrival a))
+    else (if bytes_eq verb (codes "departure") then asked_of words >>= (λ a. Some (requested.Departure a))
+    else None)
+
+-- groups of seven words, each a request
+abbrev pub requests_of : List (List ℕ) → Option (List BatchRequest)
+requests_of [] = Some []
+requests_of (verb ∷ flight ∷ class ∷ from ∷ to ∷ time ∷ slack ∷ words) =
+    request_of verb (flight ∷ class ∷ from ∷ to ∷ time ∷ slack ∷ []) >>= (λ request. requests_of words >>= (λ requests. Some (request ∷ requests)))
+requests_of _ = None
+
+-- a batch has 2 to 6 requests
+abbrev pub is_batch_count : ℕ → Bool
+is_batch_count count = nat_le 2 count && nat_le count 6
+
+abbrev pub batch_of : List (List ℕ) → Option Command
+batch_of words = requests_of words >>= (λ requests. if is_batch_count (length requests) then Some (Batch requests) else None)
+
 -- ---- the line
 
 -- the forms that end in no list, by their first word
@@ -157,7 +180,8 @@ command_of_words (verb ∷ words) =
     if bytes_eq verb (codes "file") then file_of words
     else (if bytes_eq verb (codes "arrival-any") then arrival_any_of words
     else (if bytes_eq verb (codes "departure-any") then departure_any_of words
-    else unlisted_of verb words))
+    else (if bytes_eq verb (codes "batch") then batch_of words
+    else unlisted_of verb words)))
 
 -- the command that a line is; none where the line is not in the grammar
 unfoldable pub command_of : List ℕ → Option Command
@@ -168,4 +192,5 @@ abbrev pub EndsInList : Command → Type 0
 EndsInList (File filed) = ⊤
 EndsInList (ArrivalAny asked) = ⊤
 EndsInList (DepartureAny asked) = ⊤
+EndsInList (Batch requests) = ⊤
 EndsInList _ = ⊥

@@ -52,6 +52,13 @@ pub struct Shut {
     pub until: Time,
 }
 
+/// A request of a batch, as it would be asked for on a line of its own.
+#[derive(Clone, Copy, Debug, PartialEq, Eq)]
+pub enum BatchRequest {
+    Arrival(Asked),
+    Departure(Asked),
+}
+
 /// What a line asks for. Names are as written: no airport is consulted.
 #[derive(Drop)]
 pub enum Command {
@@ -86,6 +93,8 @@ pub enum Command {
     ArrivalAny(AskedAny),
     /// A departure that may be led to any of several runway nodes.
     DepartureAny(AskedAny),
+    /// 2 to 6 arrivals and departures, to be served in an order that no exchange of neighbours betters.
+    Batch(List<BatchRequest>),
 }
 
 /// Why no command was read.

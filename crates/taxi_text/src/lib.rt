@@ -1,6 +1,7 @@
 //! The texts that the router reads and writes: lines, words, numbers and commands.
 #![tactic(auto)]
 
+mod batch;
 mod choice;
 mod command;
 mod fields;
@@ -14,7 +15,7 @@ mod reader;
 mod texts;
 mod word;
 
-pub use command::{Asked, AskedAny, Command, CommandRefused, Filed, FiledStep, Shut};
+pub use command::{Asked, AskedAny, BatchRequest, Command, CommandRefused, Filed, FiledStep, Shut};
 pub use fields::{read_arc_word, read_number};
 pub use laws::{arc_words_are_read_again, lines_come_in_turn, numbers_are_read_again};
 pub use line::{LineSlices, lines, skipped};

@@ -1,10 +1,11 @@
 //! From a line to its command.
-ghost use Rattle.std.specs.Prelude.{◌≡◌, ◌↔◌, ◌==◌, Some, None, IfOk, IsSomeAnd, length, drop};
+ghost use Rattle.std.specs.Prelude.{◌≡◌, ◌↔◌, ◌==◌, Some, None, IfOk, IsSome, IsSomeAnd, length, take, drop};
 ghost use Rattle.taxi_text.specs.Commands.{command_of, EndsInList, file_of, unlisted_of, asked_of, arrival_of, departure_of, cancel_of, reroute_of, divert_of, windows_of, occupancy_of, timetable_of, work_of, work_done_of, first_as, the_end};
 ghost use Rattle.taxi_text.specs.Fields.{name_of, number_of};
 ghost use Rattle.taxi_text.specs.Reading.{IsReading};
 ghost use Rattle.taxi_text.specs.Words.{words_left};
 
+use crate::batch::read_batch;
 use crate::choice::{read_arrival_any, read_departure_any};
 use crate::command::{Asked, Command, CommandRefused, Filed, Shut};
 use crate::fields::read_number;
@@ -33,6 +34,9 @@ pub fn read_command(alloc: Global, line: &[u8]) -> Result<Command, CommandRefuse
     }
     if verb == b"departure-any".as_slice() {
         return read_departure_any(alloc, &mut words);
+    }
+    if verb == b"batch".as_slice() {
+        return read_batch(alloc, &mut words);
     }
     match read_unlisted(verb, &mut words) {
         Some(command) => Ok(command),
@@ -92,21 +96,29 @@ fn read_unlisted(verb: &[u8], words: &mut WordSlices<'_>) -> Option<Command>
 fn read_asked(words: &mut WordSlices<'_>) -> Option<Asked>
     ensures { result ≡ asked_of (words_left words.old) }
 {
+    let asked = next_asked(words)?;
+    at_end(words, asked)
+}
+
+// What the next six words ask for.
+pub(crate) fn next_asked(words: &mut WordSlices<'_>) -> Option<Asked>
+    ensures value { result ≡ asked_of (take 6 (words_left words.old)) }
+    ensures rest { IsSome result → words_left words.new ≡ drop 6 (words_left words.old) }
+{
     let flight = next_name(words)?;
     let class = next_name(words)?;
     let from = next_name(words)?;
     let to = next_name(words)?;
     let time = next_number(words)?;
     let slack = next_number(words)?;
-    let asked = Asked {
+    Some(Asked {
         flight,
         class,
         from,
         to,
         time,
         slack,
-    };
-    at_end(words, asked)
+    })
 }
 
 fn read_arrival(words: &mut WordSlices<'_>) -> Option<Command>

@@ -12,11 +12,11 @@ use std::alloc::Global;
 use std::marker::Model;
 use taxi_base::{Memory, Span, Time};
 
-// A row has room for so many windows more than there are nodes, so that it rarely grows.
+// A row that grows gets room for twice the nodes and so many windows more, so that it rarely grows.
 const AT_ONCE: usize = 16;
 
 /// A segment's free windows, also in a row, and the number of spans for which it is held. The row has room for the windows of all nodes,
-/// and for few more.
+/// and for no more than twice as many and sixteen.
 #[derive(Drop)]
 pub(crate) struct SegmentWindows {
     intervals: IntervalList,
@@ -25,7 +25,7 @@ pub(crate) struct SegmentWindows {
 }
 
 impl Model for SegmentWindows {
-    ghost use Rattle.std.specs.Prelude.{◌≡◌, ◌+◌, ◌^◌, ◌<◌, ◌≤◌, length, vec_capacity};
+    ghost use Rattle.std.specs.Prelude.{◌≡◌, ◌+◌, ◌*◌, ◌^◌, ◌<◌, ◌≤◌, length, vec_capacity};
     ghost use Rattle.interval_list.specs.Intervals.{IsNormal, spans_of};
     ghost use Rattle.window_store.specs.Spans.{Listed};
 
@@ -35,7 +35,7 @@ impl Model for SegmentWindows {
 
     ghost invariant = { λ l. IsNormal l.intervals × (length l.intervals.windows + length l.intervals.spare < 2 ^ 64)
         × (l.row.items ≡ spans_of l.intervals.windows) × (length l.intervals.windows + length l.intervals.spare ≤ vec_capacity l.row)
-        × (vec_capacity l.row ≤ length l.intervals.windows + length l.intervals.spare + 16) };
+        × (vec_capacity l.row ≤ 2 * (length l.intervals.windows + length l.intervals.spare) + 16) };
 }
 
 impl SegmentWindows {
@@ -49,7 +49,7 @@ impl SegmentWindows {
         ensures next { IfOk result (λ l. ids.new.next ≡ ids.old.next + 1) }
         ensures err { OnErr result (ids.old.next ≤ ids.new.next) }
     {
-        let mut row = Vec::with_capacity(alloc, 1)?;
+        let mut row = Vec::with_capacity(alloc, AT_ONCE)?;
         let mut intervals = IntervalList::new(alloc);
         intervals.reserve(ids, 1)?;
         intervals.add(0, horizon);
@@ -116,8 +116,9 @@ impl SegmentWindows {
         ensures below { All (λ id. id < ids.new.next) (owned self.new.intervals) }
     {
         let spare = self.intervals.spare();
-        if self.row.capacity() == self.intervals.len() + spare {
-            self.row.reserve_exact(spare + AT_ONCE)?;
+        let nodes = self.intervals.len() + spare;
+        if self.row.capacity() == nodes {
+            self.row.reserve_exact(spare + nodes + AT_ONCE)?;
         }
         self.intervals.draw(ids)
     }

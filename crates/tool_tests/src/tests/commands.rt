@@ -5,7 +5,7 @@ use taxi_base::{Memory, Time};
 use taxi_text::{Command, CommandRefused, push_bytes, read_command};
 
 // A line, its first word, its numbers, and how many steps or nodes it lists.
-const FORMS: [(&[u8], &str, Time, Time, usize); 13] = [
+const FORMS: [(&[u8], &str, Time, Time, usize); 14] = [
     (b"file F1 M 007 A+ 30 B-- 60", "file", 7, 0, 2),
     (b"arrival F1 M R S1 0 600", "arrival", 0, 600, 0),
     (b"departure F1 M S1 R 900 60", "departure", 900, 60, 0),
@@ -30,6 +30,13 @@ const FORMS: [(&[u8], &str, Time, Time, usize); 13] = [
         200,
         60,
         1,
+    ),
+    (
+        b"batch arrival F1 M R S1 100 60 departure G1 M S2 R 400 0",
+        "batch",
+        0,
+        0,
+        2,
     ),
 ];
 
@@ -73,6 +80,7 @@ fn form_of(command: &Command) -> (&'static str, Time, Time, usize) {
             let listed = asked.nodes.as_slice().len();
             ("departure-any", asked.time, asked.slack, listed)
         }
+        Command::Batch(requests) => ("batch", 0, 0, requests.as_slice().len()),
     }
 }
 
@@ -116,6 +124,7 @@ fn lists_have_a_greatest_length(rt: HostRuntime) -> Result<(), Fail> {
         (b"file F1 M 0".as_slice(), b" A+ 1".as_slice(), 256u32),
         (b"arrival-any F1 M R 0 0", b" S1", 16),
         (b"departure-any G1 M S2 200 60", b" R", 16),
+        (b"batch", b" arrival F1 M R S1 0 0", 6),
     ] {
         let whole = longer(alloc, front, piece, most)?;
         assert!(rt; read_command(alloc, &whole).is_ok());

@@ -1,16 +1,11 @@
-use Rattle.std.proofs.Common.{ltb, rules}
-use Rattle.std.proofs.lemmas.Bool.{ltb-true, ltb-false}
-use Rattle.std.proofs.lemmas.List.Sorted.{IsPartitionedBy-ltb}
-use Rattle.std.proofs.lemmas.Fn.{always_returns_same}
-use Rattle.commitments.specs.declared.segment_holds.HeldStep.{HeldStep}
+-- Where the first does not begin before, none does, since they begin in order.
+use Rattle.std.proofs.Common.{◌≡◌, get_or, sym, arith}
+use Rattle.std.proofs.lemmas.Option.{get_or_from_slice_get}
 use Rattle.commitments.proofs.segment_holds.begun_before.Goals as goal
 
-pub returns-clause-before : goal.returns-clause-before
-returns-clause-before c k d from low =
-    let point = c.partition_point.ensures.partitioned (λ x. ltb x.step.enter c.args.second) (always_returns_same _ _ _ (λ a r f k. search (rules))) (IsPartitionedBy-ltb (λ (held : HeldStep). held.step.enter) c.args.steps.now c.args.second c.requires) in
-    ltb-true _ _ (point.0 k d from low)
-
-pub returns-clause-after : goal.returns-clause-after
-returns-clause-after c k d from low =
-    let point = c.partition_point.ensures.partitioned (λ x. ltb x.step.enter c.args.second) (always_returns_same _ _ _ (λ a r f k. search (rules))) (IsPartitionedBy-ltb (λ (held : HeldStep). held.step.enter) c.args.steps.now c.args.second c.requires) in
-    ltb-false _ _ (point.1 k d from low)
+pub returns-in_default-clause-after : goal.returns-in_default-clause-after
+returns-in_default-clause-after c k d from low =
+    let steps = c.args.steps.now in
+    let rising = c.requires 0 k d (omega arith) low in
+    let first : get_or steps 0 d ≡ c.in-Some.first.now = get_or_from_slice_get steps 0 c.in-Some.first.now d (sym c.in-Some.ensures.value) in
+    omega (arith, (rw first at rising))

@@ -1,8 +1,16 @@
-use Rattle.taxi_base.proofs.AirportLaws.{node_named-exists}
+use Rattle.std.proofs.Common.{◌∙◌, ◌∷◌, [], Some, sym, ap}
+use Rattle.std.proofs.lemmas.Result.{err_from_is_err_and}
+use Rattle.taxi_text.specs.declared.command.BatchRequest.TheVariants as requested
+use Rattle.certificate.specs.Refusals.{in_force, tests_of_words, full}
+use Rattle.certificate.proofs.RequestTests.{stopped}
+use Rattle.checked_state.specs.Flights.{state_of}
 use Rattle.due_refusals.proofs.asked.named_arrival.Goals as goal
 
-pub is_runway-requires : goal.is_runway-requires
-is_runway-requires c = node_named-exists c.args.airport.now c.args.asked.now.from c.in_ok-named.named.from c.in_ok-named.ensures.named.from_known
-
-pub is_stand-requires : goal.is_stand-requires
-is_stand-requires c = node_named-exists c.args.airport.now c.args.asked.now.to c.in_ok-named.named.to c.in_ok-named.ensures.named.to_known
+pub returns-in_err-named-clause-err : goal.returns-in_err-named-clause-err
+returns-in_err-named-clause-err c =
+    let state = state_of c.args.held.now in
+    let asked = c.args.asked.now in
+    let err = err_from_is_err_and c.from_residual.result c.from_residual.ensures.1 in
+    rw err.1
+    (stopped (in_force state asked.flight ∷ tests_of_words c.args.airport.now (requested.Arrival asked)) (full state ∷ []) c.in_err-named.field-0.0 c.in_err-named.ensures.err
+    ∙ ap (λ why. Some why) (sym err.2))

@@ -19,7 +19,7 @@ read cells i = item-map (λ (x : Cell). x.1.window) no_cell cells i
 
 pub loop-index-init : goal.loop-index-init
 loop-index-init c =
-    let cells = c.args.windows.now in let start = c.first_beyond-start in (
+    let cells = c.args.windows.now in let start = c.first_beyond_from_nearer-start in (
       (start.ensures.inside, start.ensures.prev, start.ensures.place),
       refl,
       same-refl cells c.args.spares.now,

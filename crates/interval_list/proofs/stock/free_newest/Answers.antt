@@ -11,9 +11,16 @@ put_together-requires c =
     let known = newest c.args.blocks.now.blocks heads older c.args.nodes.now.cells c.pop-head.result.at 2 c.requires.all c.pop-head.ensures.places (ap block_size none) in
     (omega arith, known)
 
-pub put_together-requires-else-older-eq0 : goal.put_together-requires-else-older-eq0
-put_together-requires-else-older-eq0 c =
+pub put_together-requires-then-older-eq1 : goal.put_together-requires-then-older-eq1
+put_together-requires-then-older-eq1 c =
     let heads = c.args.heads.now in let older = c.pop-head.new.self in
-    let some : length older ≡ suc (length older - 1) = omega (arith, c.if-older-eq0.false, c.len-older.ensures, length-places heads, length-places older, ap length c.pop-head.ensures.places) in
-    let known = newest c.args.blocks.now.blocks heads older c.args.nodes.now.cells c.pop-head.result.at 17 c.requires.all c.pop-head.ensures.places (ap block_size some) in
+    let one : length older ≡ 1 = omega (arith, c.if-older-eq1.true, c.len-older.ensures, length-places heads, length-places older, ap length c.pop-head.ensures.places) in
+    let known = newest c.args.blocks.now.blocks heads older c.args.nodes.now.cells c.pop-head.result.at 17 c.requires.all c.pop-head.ensures.places (ap block_size one) in
+    (omega arith, known)
+
+pub put_together-requires-else-older-eq1 : goal.put_together-requires-else-older-eq1
+put_together-requires-else-older-eq1 c =
+    let heads = c.args.heads.now in let older = c.pop-head.new.self in
+    let more : length older ≡ suc (suc (length older - 2)) = omega (arith, c.if-older-eq0.false, c.if-older-eq1.false, c.len-older.ensures, length-places heads, length-places older, ap length c.pop-head.ensures.places) in
+    let known = newest c.args.blocks.now.blocks heads older c.args.nodes.now.cells c.pop-head.result.at 60 c.requires.all c.pop-head.ensures.places (ap block_size more) in
     (omega arith, known)

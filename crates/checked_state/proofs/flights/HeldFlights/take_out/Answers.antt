@@ -24,6 +24,13 @@ release-requires c =
           c.horizon.ensures.horizon c.clearance-clearance.ensures.clearance c.as_slice-steps.ensures c.requires.spans.holders,
     )
 
+pub returns-clause-flight : goal.returns-clause-flight
+returns-clause-flight c =
+    let flights = flights_of c.args.self.now.flights in
+    let name = c.args.name.now in
+    let place = place-at (λ (f : Flight). f.name) flights name c.place_of.result (Ok c.unwrap-place.result) c.place_of.ensures c.unwrap-place.ensures in
+    named-at (λ (f : Flight). f.name) flights name c.args.self.now.flights.ordered c.unwrap-place.result place c.remove-flight.result c.remove-flight.ensures.value
+
 pub returns-clause-state : goal.returns-clause-state
 returns-clause-state c =
     let flights = flights_of c.args.self.now.flights in

@@ -1,16 +1,15 @@
-use Rattle.std.proofs.Common.{◌∙◌, sym, ap, ◌≡◌, get_or, arith}
+use Rattle.std.proofs.Common.{sym, ap, ◌≡◌, get_or, arith}
 use Rattle.std.proofs.lemmas.List.{take_all}
-use Rattle.taxi_base.specs.declared.rows.Span.{Span}
 use Rattle.commitments.specs.declared.segment_holds.HeldStep.{HeldStep}
 use Rattle.commitments.proofs.OneSegment.{first-since, first-stopped}
 use Rattle.commitments.proofs.segment_holds.SegmentHolds.first_held.Goals as goal
 
-pub returns-then-first-span : goal.returns-then-first-span
-returns-then-first-span c =
+pub returns-then-first-held : goal.returns-then-first-held
+returns-then-first-held c =
     let rest = c.since-held-items.result.now in
-    let begins : c.span-span.result.from ≡ (get_or rest c.loop-held.held-index c.held-item.result).step.enter = ap (λ (s : Span). s.from) c.span-span.ensures ∙ ap (λ (held : HeldStep). held.step.enter) c.held-item.is in
+    let begins : c.held-item.result.step.enter ≡ (get_or rest c.loop-held.held-index c.held-item.result).step.enter = ap (λ (held : HeldStep). held.step.enter) c.held-item.is in
     first-stopped c.args.airport.now c.keep_rules.ensures c.args.self.now.steps rest c.args.from c.args.until c.since-held-items.ensures c.loop-held.first c.loop-held.held-index c.held-item.result c.loop-held-test.true
-    (omega (arith, begins, c.if-first-span.true)) c.loop-held.invariant
+    (omega (arith, begins, c.if-first-held.true)) c.loop-held.invariant
 
 pub returns : goal.returns
 returns c =

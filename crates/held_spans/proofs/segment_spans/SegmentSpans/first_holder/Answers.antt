@@ -13,14 +13,14 @@ no_row = (record { from = 0; until = 0 }, [])
 
 pub holder_at-requires : goal.holder_at-requires
 holder_at-requires c =
-    let many = rows-length c.self.inside.spans.items c.self.inside.holders.items c.args.self.now.rows (ap (λ (l : SpanRows). l.rows) c.self.view_is) c.self.invariant in
+    let many = rows-length c.self.inside.spans.items c.self.inside.holders.items c.args.self.now.rows (ap (λ (l : SpanRows). l.rows) c.self.view_is) c.self.invariant.0 in
     omega (arith, many, c.self.inside.spans.ok, c.len-place-end.ensures, c.loop-place-test.true)
 
 pub loop-place-preserved : goal.loop-place-preserved
 loop-place-preserved c =
     let rows = c.args.self.now.rows in
     let place = c.loop-place.place in
-    let many = rows-length c.self.inside.spans.items c.self.inside.holders.items rows (ap (λ (l : SpanRows). l.rows) c.self.view_is) c.self.invariant in
+    let many = rows-length c.self.inside.spans.items c.self.inside.holders.items rows (ap (λ (l : SpanRows). l.rows) c.self.view_is) c.self.invariant.0 in
     let low : place < length rows = omega (arith, many, c.self.inside.spans.ok, c.len-place-end.ensures, c.loop-place-test.true) in
     rw c.first_name-first.ensures
     (row-more c.args.second rows place no_row low c.loop-place.first c.holder_at.result c.loop-place.invariant (c.holder_at.ensures (get_or rows place no_row) (slice_get-get_or rows place no_row low)))
@@ -28,6 +28,6 @@ loop-place-preserved c =
 pub returns : goal.returns
 returns c =
     let rows = c.args.self.now.rows in
-    let many = rows-length c.self.inside.spans.items c.self.inside.holders.items rows (ap (λ (l : SpanRows). l.rows) c.self.view_is) c.self.invariant in
+    let many = rows-length c.self.inside.spans.items c.self.inside.holders.items rows (ap (λ (l : SpanRows). l.rows) c.self.view_is) c.self.invariant.0 in
     let past : length rows ≤ c.loop-place.place = omega (arith, many, c.self.inside.spans.ok, c.len-place-end.ensures, c.loop-place-test.false) in
     subst (λ (some : List (Span × List ℕ)). IsFirstOf (IsHolderIn some c.args.second) c.loop-place.first) (take_all c.loop-place.place rows past) c.loop-place.invariant

@@ -8,19 +8,19 @@ use Rattle.held_spans.proofs.segment_spans.SegmentSpans.has_at.Goals as goal
 
 pub index-requires : goal.index-requires
 index-requires c =
-    let many = rows-length c.self.inside.spans.items c.self.inside.holders.items c.args.self.now.rows (ap (λ (l : SpanRows). l.rows) c.self.view_is) c.self.invariant in
+    let many = rows-length c.self.inside.spans.items c.self.inside.holders.items c.args.self.now.rows (ap (λ (l : SpanRows). l.rows) c.self.view_is) c.self.invariant.0 in
     omega (arith, many, c.self.inside.spans.ok, c.requires)
 
 pub index-requires-then-is_same_span : goal.index-requires-then-is_same_span
 index-requires-then-is_same_span c =
-    let many = rows-length c.self.inside.spans.items c.self.inside.holders.items c.args.self.now.rows (ap (λ (l : SpanRows). l.rows) c.self.view_is) c.self.invariant in
-    omega (arith, many, c.self.invariant, c.self.inside.holders.ok, c.requires)
+    let many = rows-length c.self.inside.spans.items c.self.inside.holders.items c.args.self.now.rows (ap (λ (l : SpanRows). l.rows) c.self.view_is) c.self.invariant.0 in
+    omega (arith, many, c.self.invariant.0, c.self.inside.holders.ok, c.requires)
 
 pub returns-then-is_same_span : goal.returns-then-is_same_span
 returns-then-is_same_span c =
     let span = c.index.result.now in
     let name = c.index-then-is_same_span.result.now in
-    let at = row-at c.self.inside.spans.items c.self.inside.holders.items c.args.self.now.rows (ap (λ (l : SpanRows). l.rows) c.self.view_is) c.self.invariant c.args.place span name c.requires
+    let at = row-at c.self.inside.spans.items c.self.inside.holders.items c.args.self.now.rows (ap (λ (l : SpanRows). l.rows) c.self.view_is) c.self.invariant.0 c.args.place span name c.requires
     c.index.ensures c.index-then-is_same_span.ensures in (
       λ e. let same_span = c.is_same_span.ensures.0 c.if-is_same_span.true in
           let same_name = c.is_same_name.ensures.0 e in
@@ -34,10 +34,10 @@ pub returns-else-is_same_span : goal.returns-else-is_same_span
 returns-else-is_same_span c =
     let span = c.index.result.now in
     let names = c.self.inside.holders.items in
-    let many = rows-length c.self.inside.spans.items names c.args.self.now.rows (ap (λ (l : SpanRows). l.rows) c.self.view_is) c.self.invariant in
-    let low : c.args.place < length names = omega (arith, many, c.self.invariant, c.requires) in
+    let many = rows-length c.self.inside.spans.items names c.args.self.now.rows (ap (λ (l : SpanRows). l.rows) c.self.view_is) c.self.invariant.0 in
+    let low : c.args.place < length names = omega (arith, many, c.self.invariant.0, c.requires) in
     let name = get_or names c.args.place c.args.holder.now in
-    let at = row-at c.self.inside.spans.items names c.args.self.now.rows (ap (λ (l : SpanRows). l.rows) c.self.view_is) c.self.invariant c.args.place span name c.requires
+    let at = row-at c.self.inside.spans.items names c.args.self.now.rows (ap (λ (l : SpanRows). l.rows) c.self.view_is) c.self.invariant.0 c.args.place span name c.requires
     c.index.ensures (get_or_default names c.args.place c.args.holder.now name low) in (
       λ e. absurd (both_ways _ c.if-is_same_span.false e),
       λ got. let same : ◌≡◌ {A = Span × List ℕ} (span, name) (c.args.span, c.args.holder.now) = cc (sym at ∙ got) in

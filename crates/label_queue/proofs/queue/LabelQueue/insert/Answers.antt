@@ -33,5 +33,5 @@ invariant_of-self c =
       c.self.invariant.2,
       c.self.invariant.3,
       c.self.invariant.4,
-      not_kept c.self.inside.keeps_places first _ c.self.inside.places.items heap _ is c.self.invariant.5,
+      not_kept c.self.inside.limit c.self.inside.keeps_places first _ c.self.inside.places.items heap _ is c.self.invariant.5,
     )

@@ -67,21 +67,25 @@ add-requires-clause-places c =
     let at = (goal.at.add-requires-clause-places c).After-new-entry in
     let heap = c.put_in_order.new.heap in
     let e = c.new-entry.result in
-    let still = still_kept c.self.inside.keeps_places c.self.inside.first c.self.inside.places.items c.self.inside.heap.items heap.items c.put_in_order.ensures.least c.self.invariant.5 in
-    let kept = (kept-true c.self.inside.keeps_places Least c.self.inside.places.items heap.items c.if-self.true still).1 in
+    let still = still_kept c.self.inside.limit c.self.inside.keeps_places c.self.inside.first c.self.inside.places.items c.self.inside.heap.items heap.items c.put_in_order.ensures.least c.self.invariant.5 in
+    let kept = (kept-true c.self.inside.limit c.self.inside.keeps_places Least c.self.inside.places.items heap.items c.if-self.true still).2 in
     let put = places-added heap.items c.self.inside.places.items e kept (absent-entry c.self.inside.limit heap.items (distinct at) e.label (none at)) in
     rw (c.deref_mut.ensures.value, heap.ok.0) put
 
 pub invariant_of-self : goal.invariant_of-self
 invariant_of-self c =
     let at = (goal.at.invariant_of-self c).After-new-entry in
+    let heap = c.put_in_order.new.heap.items in
+    let still = still_kept c.self.inside.limit c.self.inside.keeps_places c.self.inside.first c.self.inside.places.items c.self.inside.heap.items heap c.put_in_order.ensures.least c.self.invariant.5 in
+    let long = (kept-true c.self.inside.limit c.self.inside.keeps_places Least c.self.inside.places.items heap c.if-self.true still).1 in
     rw (take_at c.add.new.places _ _ (c.add.auto.places ∙ c.deref_mut.ensures.len)) (
       c.add.ensures.heap,
       now-distinct at c.add.new.heap.items c.add.ensures.entries,
       omega (arith, c.add.ensures.capacity, c.put_in_order.ensures.capacity, c.self.invariant.2),
       c.self.invariant.3,
-      omega (arith, c.add.auto.places, c.self.invariant.4, ap length c.deref_mut.ensures.value),
-      now_kept c.self.inside.keeps_places c.add.new.places c.add.new.heap.items c.if-self.true c.add.ensures.places,
+      c.self.invariant.4,
+      now_kept c.self.inside.limit c.self.inside.keeps_places c.add.new.places c.add.new.heap.items c.if-self.true
+          (omega (arith, c.add.auto.places, ap length c.deref_mut.ensures.value, long)) c.add.ensures.places,
     )
 
 pub returns-then-self : goal.returns-then-self
@@ -107,7 +111,7 @@ invariant_of-self-else-self c =
       omega (arith, c.add-else-self.ensures.capacity, c.put_in_order.ensures.capacity, c.self.invariant.2),
       c.self.invariant.3,
       c.self.invariant.4,
-      kept-false c.self.inside.keeps_places Least c.self.inside.places.items c.add-else-self.new.heap.items c.if-self.false,
+      kept-false c.self.inside.limit c.self.inside.keeps_places Least c.self.inside.places.items c.add-else-self.new.heap.items c.if-self.false,
     )
 
 pub returns-else-self : goal.returns-else-self

@@ -1,4 +1,4 @@
-use Rattle.std.proofs.Common.{◌≡◌, ◌<◌, length, refl, sym, subst, ap, ◌∙◌, arith}
+use Rattle.std.proofs.Common.{◌≡◌, ◌<◌, true, length, refl, sym, subst, ap, ◌∙◌, arith}
 use Rattle.std.proofs.lemmas.List.{get_or_read, take_at}
 use Rattle.std.proofs.lemmas.Bool.{eqb-true}
 use Rattle.label_queue.specs.Entries.{keys_of, AreDistinct}
@@ -22,9 +22,13 @@ same : (c : After-put_in_order) → keys_of c.self.inside.limit c.put_in_order.n
 same c = ordered-keys c.self.inside.limit c.self.inside.first c.self.inside.heap.items _ c.self.invariant.1 c.put_in_order.ensures.entries ∙ c.self.view_is
 
 -- and where places are kept they are those of its entries
-still : (c : After-put_in_order) → AreKept c.self.inside.keeps_places Least c.self.inside.places.items c.put_in_order.new.heap.items
+still : (c : After-put_in_order) → AreKept c.self.inside.limit c.self.inside.keeps_places Least c.self.inside.places.items c.put_in_order.new.heap.items
 still c =
-    still_kept c.self.inside.keeps_places c.self.inside.first c.self.inside.places.items c.self.inside.heap.items c.put_in_order.new.heap.items c.put_in_order.ensures.least c.self.invariant.5
+    still_kept c.self.inside.limit c.self.inside.keeps_places c.self.inside.first c.self.inside.places.items c.self.inside.heap.items c.put_in_order.new.heap.items c.put_in_order.ensures.least c.self.invariant.5
+
+-- and there is one for each label
+long : (c : After-put_in_order) → c.self.inside.keeps_places ≡ true → length c.self.inside.places.items ≡ c.self.inside.limit
+long c is = (kept-true c.self.inside.limit c.self.inside.keeps_places Least c.self.inside.places.items c.put_in_order.new.heap.items is (still c)).1
 
 pub put_in_order-requires-clause-small : goal.put_in_order-requires-clause-small
 put_in_order-requires-clause-small c = omega (arith, length-le c.self.inside.limit c.self.inside.heap.items c.self.invariant.1, c.self.invariant.3)
@@ -86,7 +90,7 @@ pub fill_first-requires-clause-places : goal.fill_first-requires-clause-places
 fill_first-requires-clause-places c =
     let heap = c.put_in_order.new.heap.items in
     let kept = still (goal.at.fill_first-requires-clause-places c).After-put_in_order in
-    rw c.deref_mut.ensures.value (kept-true c.self.inside.keeps_places Least c.self.inside.places.items heap c.if-self.true kept).1
+    rw c.deref_mut.ensures.value (kept-true c.self.inside.limit c.self.inside.keeps_places Least c.self.inside.places.items heap c.if-self.true kept).2
 
 pub invariant_of-self-then-self : goal.invariant_of-self-then-self
 invariant_of-self-then-self c =
@@ -98,8 +102,8 @@ invariant_of-self-then-self c =
       ordered-distinct limit Taken heap c.fill_first.new.heap.items (distinct at) c.fill_first.ensures.entries,
       omega (arith, c.fill_first.ensures.capacity, c.put_in_order.ensures.capacity, c.self.invariant.2),
       c.self.invariant.3,
-      omega (arith, c.fill_first.auto.places, c.self.invariant.4, ap length c.deref_mut.ensures.value),
-      now_kept c.self.inside.keeps_places c.fill_first.new.places c.fill_first.new.heap.items c.if-self.true c.fill_first.ensures.places,
+      c.self.invariant.4,
+      now_kept limit c.self.inside.keeps_places c.fill_first.new.places c.fill_first.new.heap.items c.if-self.true (omega (arith, c.fill_first.auto.places, ap length c.deref_mut.ensures.value, long at c.if-self.true)) c.fill_first.ensures.places,
     )
 
 pub invariant_of-self-else-self : goal.invariant_of-self-else-self
@@ -112,7 +116,7 @@ invariant_of-self-else-self c =
       omega (arith, c.put_in_order.ensures.capacity, c.self.invariant.2),
       c.self.invariant.3,
       c.self.invariant.4,
-      kept-false c.self.inside.keeps_places Taken c.self.inside.places.items heap.items c.if-self.false,
+      kept-false c.self.inside.limit c.self.inside.keeps_places Taken c.self.inside.places.items heap.items c.if-self.false,
     )
 
 pub returns-clause-taken : goal.returns-clause-taken

@@ -2,7 +2,7 @@ use Rattle.std.proofs.Common.{◌≤◌, sym, subst}
 use Rattle.std.specs.Prelude.{All}
 use Rattle.commitments.specs.Book.{Fits}
 use Rattle.place_cells.specs.Laid.{windows_of}
-use Rattle.taxi_engine.proofs.SearchedLaws.{windows-by}
+use Rattle.sequence_exchange.proofs.SearchedLaws.{windows-by}
 use Rattle.route_tests.proofs.tests.searches.departure_among.Goals as goal
 
 pub depart-requires-clause-horizon : goal.depart-requires-clause-horizon

@@ -11,12 +11,12 @@ use Rattle.taxi_engine.proofs.engine.Engine.tell_found.Goals as goal
 
 pub take_route-requires-clause-labels : goal.take_route-requires-clause-labels
 take_route-requires-clause-labels c =
-    label-arcs c.args.self.now.airport c.args.class (holds_in c.args.self.now.airport c.args.self.now.state) (subst (λ (s : EngineState). IsWellFormed s.airport) c.self.view_is c.horizon.ensures.rules)
-    c.args.request (found.Route c.in-Ok-Route.steps c.in-Ok-Route.labels)
-    (subst (λ r. IfOk r (AnswersRequest (conditions_in c.args.self.now.airport c.args.class c.args.self.now.state) c.args.request)) (c.in-Ok-Route.is ∙ ap Ok c.in-Ok-Route.field-0-is) c.requires.answers)
+    label-arcs c.args.self.now.airport c.args.wish.now.class (holds_in c.args.self.now.airport c.args.self.now.state) (subst (λ (s : EngineState). IsWellFormed s.airport) c.self.view_is c.horizon.ensures.rules)
+    c.args.wish.now.request (found.Route c.in-Ok-Route.steps c.in-Ok-Route.labels)
+    (subst (λ r. IfOk r (AnswersRequest (conditions_in c.args.self.now.airport c.args.wish.now.class c.args.self.now.state) c.args.wish.now.request)) (c.in-Ok-Route.is ∙ ap Ok c.in-Ok-Route.field-0-is) c.requires.answers)
 
 pub tell_no_route-requires : goal.tell_no_route-requires
 tell_no_route-requires c =
-    label-arcs c.args.self.now.airport c.args.class (holds_in c.args.self.now.airport c.args.self.now.state) (subst (λ (s : EngineState). IsWellFormed s.airport) c.self.view_is c.horizon.ensures.rules)
-    c.args.request (found.NoRoute c.in-Ok-NoRoute.labels)
-    (subst (λ r. IfOk r (AnswersRequest (conditions_in c.args.self.now.airport c.args.class c.args.self.now.state) c.args.request)) (c.in-Ok-NoRoute.is ∙ ap Ok c.in-Ok-NoRoute.field-0-is) c.requires.answers)
+    label-arcs c.args.self.now.airport c.args.wish.now.class (holds_in c.args.self.now.airport c.args.self.now.state) (subst (λ (s : EngineState). IsWellFormed s.airport) c.self.view_is c.horizon.ensures.rules)
+    c.args.wish.now.request (found.NoRoute c.in-Ok-NoRoute.labels)
+    (subst (λ r. IfOk r (AnswersRequest (conditions_in c.args.self.now.airport c.args.wish.now.class c.args.self.now.state) c.args.wish.now.request)) (c.in-Ok-NoRoute.is ∙ ap Ok c.in-Ok-NoRoute.field-0-is) c.requires.answers)

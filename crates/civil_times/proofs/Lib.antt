@@ -1,0 +1,3 @@
+pub mod DateLaws
+pub mod StartLaws
+pub mod LaterLaws

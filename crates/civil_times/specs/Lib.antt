@@ -1,0 +1,4 @@
+pub mod Marks
+pub mod Times
+pub mod Later
+pub mod Read

@@ -1,0 +1,4 @@
+pub mod SlackLaws
+pub mod PartyLaws
+pub mod RowLaws
+pub mod TableLaws

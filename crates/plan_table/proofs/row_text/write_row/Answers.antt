@@ -1,0 +1,14 @@
+use Rattle.std.proofs.Common.{◌≡◌, ◌∷◌, ◌∙◌, [], OnOk, subst}
+use Rattle.airport_text.specs.Canonical.{Fields}
+use Rattle.airport_text.specs.Written.{and_records}
+use Rattle.plan_table.proofs.RowLaws.{fields-are}
+use Rattle.plan_table.proofs.row_text.write_row.Goals as goal
+
+pub returns : goal.returns
+returns c =
+    subst (λ (fields : Fields). OnOk c.write.result (c.write.new.self ≡ and_records c.args.records.now (fields ∷ [])))
+    (fields-are c.args.start.now c.args.row.now _ _ _ _ _ _ _ _ _ _ _ _ _ _ _ _ c.bytes.ensures.same c.kind_word.ensures c.class_word.ensures c.bytes-2.ensures.same c.bytes-3.ensures.same
+    (c.bytes-4.ensures.same ∙ c.number_text-number.ensures) c.bytes-5.ensures.same c.direction_word.ensures c.bytes-6.ensures.same c.bytes-7.ensures.same (c.bytes-8.ensures.same ∙ c.time_text-enter.ensures)
+    (c.bytes-9.ensures.same ∙ c.time_text-leave.ensures) (c.bytes-10.ensures.same ∙ c.time_text-until.ensures) (c.bytes-11.ensures.same ∙ c.number_text-least.ensures)
+    (c.bytes-12.ensures.same ∙ c.number_text-wait.ensures) (c.bytes-13.ensures.same ∙ c.number_text-slack.ensures))
+    c.write.ensures

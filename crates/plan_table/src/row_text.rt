@@ -1,0 +1,125 @@
+//! A row of the plan as a record of the table.
+ghost use Rattle.std.specs.Prelude.{◌≡◌, ◌∷◌, ◌≤◌, [], OnOk, decimal, unwrap_or};
+ghost use Rattle.airport_text.specs.Written.{and_records};
+ghost use Rattle.plan_table.specs.Rows.{row_fields, header_fields, kind_word, direction_word, time_word};
+
+use crate::row::PlanRow;
+use airport_text::RecordWriter;
+use civil_times::Start;
+use itoa::Buffer;
+use taxi_base::{FlightKind, Memory, Name, Time};
+use taxi_text::ShortText;
+
+/// Writes the names of the columns.
+pub(crate) fn write_header(records: &mut RecordWriter) -> Result<(), Memory>
+    ensures { OnOk result (records.new ≡ and_records records.old (header_fields ∷ [])) }
+{
+    records.write(&[
+        b"name".as_slice(),
+        b"kind".as_slice(),
+        b"class".as_slice(),
+        b"from".as_slice(),
+        b"to".as_slice(),
+        b"step".as_slice(),
+        b"segment".as_slice(),
+        b"direction".as_slice(),
+        b"tail".as_slice(),
+        b"head".as_slice(),
+        b"enter".as_slice(),
+        b"leave".as_slice(),
+        b"until".as_slice(),
+        b"least".as_slice(),
+        b"wait".as_slice(),
+        b"slack".as_slice(),
+    ])
+}
+
+/// Writes a row, with its times as seconds or, where a start is given, as civil times.
+pub(crate) fn write_row(
+    records: &mut RecordWriter,
+    start: &Option<Start>,
+    row: &PlanRow,
+) -> Result<(), Memory>
+    requires enter { row.now.enter ≤ 604800 }
+    requires leave { row.now.leave ≤ 604800 }
+    requires until { row.now.until ≤ 604800 }
+    ensures { OnOk result (records.new ≡ and_records records.old (row_fields start.now row.now ∷ [])) }
+{
+    let (name, class, from, to) = (row.name, row.class, row.from, row.to);
+    let (segment, tail, head) = (row.segment, row.tail, row.head);
+    let number = number_text(row.number);
+    let enter = time_text(start, row.enter);
+    let leave = time_text(start, row.leave);
+    let until = time_text(start, row.until);
+    let least = number_text(row.least);
+    let wait = number_text(row.wait);
+    let slack = number_text(row.slack);
+    records.write(&[
+        name.bytes(),
+        kind_word(row.kind),
+        class_word(&class),
+        from.bytes(),
+        to.bytes(),
+        number.bytes(),
+        segment.bytes(),
+        direction_word(row.forward),
+        tail.bytes(),
+        head.bytes(),
+        enter.bytes(),
+        leave.bytes(),
+        until.bytes(),
+        least.bytes(),
+        wait.bytes(),
+        slack.bytes(),
+    ])
+}
+
+fn kind_word(kind: Option<FlightKind>) -> &'static [u8]
+    ensures { result.now ≡ kind_word kind }
+{
+    match kind {
+        None => b"work",
+        Some(FlightKind::Filed) => b"filed",
+        Some(FlightKind::Arrival) => b"arrival",
+        Some(FlightKind::Departure) => b"departure",
+    }
+}
+
+fn class_word(class: &Option<Name>) -> &[u8]
+    ensures { result.now ≡ unwrap_or class.now [] }
+{
+    match class {
+        Some(name) => name.bytes(),
+        None => b"",
+    }
+}
+
+fn direction_word(forward: Option<bool>) -> &'static [u8]
+    ensures { result.now ≡ direction_word forward }
+{
+    match forward {
+        None => b"",
+        Some(true) => b"forward",
+        Some(false) => b"backward",
+    }
+}
+
+// A second as a number or, where a start is given, as a civil time.
+fn time_text(start: &Option<Start>, second: Time) -> ShortText
+    requires { second ≤ 604800 }
+    ensures { result ≡ time_word start.now second }
+{
+    match start {
+        Some(start) => start.later(second),
+        None => number_text(second),
+    }
+}
+
+fn number_text(number: u32) -> ShortText
+    ensures { result ≡ decimal number }
+{
+    let mut digits = Buffer::new();
+    let mut text = ShortText::new();
+    text.push(digits.format(number).as_bytes());
+    text
+}

@@ -1,0 +1,12 @@
+pub mod ServedLaws
+pub mod OrderLaws
+pub mod NewLaws
+pub mod CostLaws
+pub mod UndoneLaws
+pub mod SearchedLaws
+pub mod RouteSteps
+pub mod ServingLaws
+pub mod OwnLaws
+pub mod SequenceLaws
+pub mod ExchangeLaws
+pub mod SoundLaws

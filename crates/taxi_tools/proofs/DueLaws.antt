@@ -1,0 +1,47 @@
+-- The status that is due, where the files are told: each ending has it.
+use Rattle.std.proofs.Common.{◌≡◌, ◌⊎◌, inl, inr, ℕ, List, refl, subst, Option, Some, None, Ok, Err}
+use Rattle.taxi_io.specs.Counts.{Rose}
+use Rattle.taxi_io.specs.Files.{Files}
+use Rattle.airport_file.specs.Reading.{RecordFault}
+use Rattle.program_endings.specs.declared.status.Status.{Status}
+use Rattle.program_endings.specs.declared.status.Status.TheVariants as status
+use Rattle.program_endings.specs.Call.{Call}
+use Rattle.program_files.specs.Inputs.{airport_limit}
+use Rattle.program_files.proofs.DueLaws.{longer-due, judged-due, run-due, run-large}
+use Rattle.tool_words.specs.Verb.{Verb, Graph, Plan}
+use Rattle.taxi_tools.specs.Outcomes.{IsDoneText}
+use Rattle.taxi_tools.specs.Reads.{IsRefused, IsTooLarge}
+use Rattle.taxi_tools.specs.Due.{IsDueOf}
+use Rattle.taxi_tools.specs.Endings.{Ends}
+
+done-due : (files : Files) (asked : Verb) (text : List ℕ) → IsDoneText (Some files) asked text → IsDueOf files (Some asked) status.Done
+done-due files (Graph airport) text t = judged-due files airport (Ok t.airport) _ status.Done t.accepted refl
+done-due files (Plan names start) text t = run-due files names t.airport t.commands (λ airport commands. status.Done ≡ status.Done) status.Done t.accepted refl
+
+refused-due : (files : Files) (asked : Verb) (fault : RecordFault) → IsRefused (Some files) asked fault → IsDueOf files (Some asked) status.AirportRefused
+refused-due files (Graph airport) fault judged = judged-due files airport (Err fault) _ status.AirportRefused judged refl
+refused-due files (Plan names start) fault judged = judged-due files names.airport (Err fault) _ status.AirportRefused judged refl
+
+large-due : (files : Files) (asked : Verb) → IsTooLarge (Some files) asked → IsDueOf files (Some asked) status.TooLarge
+large-due files (Graph airport) longer = longer-due files airport airport_limit _ longer
+large-due files (Plan names start) large = run-large files names (λ airport commands. status.TooLarge ≡ status.Done) large
+
+-- a call that ends where no fault was counted ends with the status that is due, but for want of memory
+pub due-is : (call : Call) (files : Files) (asked : Option Verb) (ended : Status) → call.files ≡ Some files → Ends call asked ended
+    → (Rose call.reads.0 call.reads.1 → ⊥) → (Rose call.writes.0 call.writes.1 → ⊥) → IsDueOf files asked ended ⊎ (ended ≡ status.Memory)
+due-is call files None status.Usage told ends no_read no_write = inl refl
+due-is call files None status.Done told ends no_read no_write = absurd ends.1
+due-is call files None status.AirportRefused told ends no_read no_write = absurd ends.1
+due-is call files None status.ReadFault told ends no_read no_write = absurd ends.1
+due-is call files None status.TooLarge told ends no_read no_write = absurd ends.1
+due-is call files None status.Wrong told ends no_read no_write = absurd ends.1
+due-is call files None status.ScheduleRefused told ends no_read no_write = absurd ends.1
+due-is call files (Some asked) status.Usage told ends no_read no_write = absurd ends.1
+due-is call files (Some asked) status.Done told ends no_read no_write = inl (done-due files asked ends.0 (subst (λ t. IsDoneText t asked ends.0) told ends.1))
+due-is call files (Some asked) status.AirportRefused told ends no_read no_write = inl (refused-due files asked ends.1.0 (subst (λ t. IsRefused t asked ends.1.0) told ends.1.1))
+due-is call files (Some asked) status.ReadFault told ends no_read no_write = absurd (no_read ends.1.0)
+due-is call files (Some asked) status.TooLarge told ends no_read no_write = inl (large-due files asked (subst (λ t. IsTooLarge t asked) told ends.1.0))
+due-is call files (Some asked) status.Wrong told ends no_read no_write = absurd ends.1
+due-is call files (Some asked) status.ScheduleRefused told ends no_read no_write = absurd ends.1
+due-is call files asked status.WriteFault told ends no_read no_write = absurd (no_write ends.0)
+due-is call files asked status.Memory told ends no_read no_write = inr refl

@@ -1,0 +1,99 @@
+-- How a call ends whose files are read whole before anything is written.
+use Rattle.std.proofs.Common.{◌≡◌, [], inl, inr, ℕ, List, Option, Some, Ok, Err, refl, sym, ◌∙◌, ap, subst}
+use Rattle.taxi_io.specs.Counts.{Rose}
+use Rattle.taxi_io.specs.Files.{Files}
+use Rattle.taxi_io.specs.Written.{Output}
+use Rattle.taxi_io.specs.declared.trouble.Trouble.TheVariants as trouble
+use Rattle.taxi_io.proofs.Pieces.{grew-nothing}
+use Rattle.airport_file.specs.Reading.{RecordFault}
+use Rattle.program_endings.specs.declared.status.Status.{Status}
+use Rattle.program_endings.specs.declared.status.Status.TheVariants.{Done, AirportRefused, ReadFault, Memory, TooLarge}
+use Rattle.program_endings.specs.Call.{Call}
+use Rattle.program_endings.specs.LastLine.{EndsWith}
+use Rattle.program_endings.specs.Lines.{read_fault_line, too_large_line}
+use Rattle.program_endings.proofs.EndingLaws.{last-ends_as}
+use Rattle.program_files.specs.declared.stop.Stop.{Stop}
+use Rattle.program_files.specs.declared.stop.Stop.TheVariants as stop
+use Rattle.program_files.specs.Lines.{refusal_line}
+use Rattle.program_files.specs.Stops.{StopsWith}
+use Rattle.tool_words.specs.declared.words.Verb.{Verb as LentVerb}
+use Rattle.tool_words.specs.LentWords.{asked_for, asked_as}
+use Rattle.tool_words.specs.Verb.{Verb, Graph, Plan, asked_by}
+use Rattle.taxi_tools.specs.Reads.{IsRefused, IsTooLarge, IsCauseFor, IsReadEnd}
+use Rattle.taxi_tools.specs.Endings.{IsDueText, Ends, IsInOnePiece}
+
+-- ---- what stops the reading
+
+refused-is : (told : Option Files) (asked : Verb) (reads : ℕ × ℕ) (fault : RecordFault)
+    → IsCauseFor told asked reads (stop.Refused fault.at fault.why) → IsRefused told asked (record { at = fault.at; why = fault.why })
+refused-is told (Graph airport) reads fault cause = cause
+refused-is told (Plan names start) reads fault cause = cause
+
+fault-is : (told : Option Files) (asked : Verb) (reads : ℕ × ℕ) → IsCauseFor told asked reads stop.ReadFault → Rose reads.0 reads.1
+fault-is told (Graph airport) reads cause = cause
+fault-is told (Plan names start) reads cause = cause
+
+large-is : (told : Option Files) (asked : Verb) (reads : ℕ × ℕ) → IsCauseFor told asked reads stop.TooLarge → IsTooLarge told asked
+large-is told (Graph airport) reads cause = cause
+large-is told (Plan names start) reads cause = cause
+
+-- want of memory may stop it at any time
+pub memory-is : (told : Option Files) (asked : Verb) (reads : ℕ × ℕ) → IsCauseFor told asked reads stop.Memory
+memory-is told (Graph airport) reads = tt
+memory-is told (Plan names start) reads = tt
+
+stop-ends : (call : Call) (asked : Verb) (why : Stop) (ended : Status) → IsCauseFor call.files asked call.reads why → StopsWith why call.writes call.taken ended → Ends call (Some asked) ended
+stop-ends call asked (stop.Refused at why) ended cause stops =
+    last-ends_as (IsDueText call (Some asked)) call.writes call.taken AirportRefused (refusal_line (record { at = at; why = why })) _ ended
+    (record { at = at; why = why }, refused-is call.files asked call.reads (record { at = at; why = why }) cause, refl) refl stops (λ whole. whole)
+stop-ends call asked stop.ReadFault ended cause stops =
+    last-ends_as (IsDueText call (Some asked)) call.writes call.taken ReadFault read_fault_line _ ended (fault-is call.files asked call.reads cause, refl) refl stops (λ whole. whole)
+stop-ends call asked stop.TooLarge ended cause stops =
+    last-ends_as (IsDueText call (Some asked)) call.writes call.taken TooLarge too_large_line _ ended (large-is call.files asked call.reads cause, refl) refl stops (λ whole. whole)
+stop-ends call asked stop.Memory ended cause stops = rw stops.0 (inl (rw stops.1 (grew-nothing call.taken.0)))
+
+pub read-ends : (call : Call) (asked : Verb) (ended : Status) → IsReadEnd call asked ended → Ends call (Some asked) ended
+read-ends call asked ended (inl (why, cause, stops)) = stop-ends call asked why ended cause stops
+read-ends call asked ended (inr (text, is, ends)) = last-ends_as (IsDueText call (Some asked)) call.writes call.taken Done text text ended is refl ends (λ whole. whole)
+
+-- ---- one piece
+
+pub written-in_one : (call : Call) (asked : Option Verb) (whole : Status) (text : List ℕ) (ended : Status) → EndsWith text whole call.writes call.taken ended
+    → (whole ≡ Done → IsDueText call asked Done text) → IsInOnePiece call asked ended
+written-in_one call asked whole text ended (Ok done, writing, is) due = record {
+  text = text;
+  handed = inr (call.taken.1, writing.handed, refl);
+  done = λ e. (due (sym is ∙ e), writing.handed);
+}
+written-in_one call asked whole text ended (Err trouble.Failed, writing, is) due = record { text = text; handed = inl (inr writing.in_part); done = λ e. absurd (cc (is, e)) }
+written-in_one call asked whole text ended (Err trouble.Memory, writing, is) due = record { text = text; handed = inl (inr writing.in_part); done = λ e. absurd (cc (is, e)) }
+
+pub nothing-in_one : (call : Call) (asked : Option Verb) (ended : Status) → ended ≡ Memory → call.taken.1 ≡ call.taken.0 → IsInOnePiece call asked ended
+nothing-in_one call asked ended memory nothing = record {
+  text = [];
+  handed = inl (inl (ap (λ (o : Output). o.pieces) nothing));
+  done = λ e. absurd (cc (memory, e));
+}
+
+stop-in_one : (call : Call) (asked : Option Verb) (why : Stop) (ended : Status) → StopsWith why call.writes call.taken ended → IsInOnePiece call asked ended
+stop-in_one call asked (stop.Refused at why) ended stops = written-in_one call asked AirportRefused (refusal_line (record { at = at; why = why })) ended stops (λ e. absurd (cc e))
+stop-in_one call asked stop.ReadFault ended stops = written-in_one call asked ReadFault read_fault_line ended stops (λ e. absurd (cc e))
+stop-in_one call asked stop.TooLarge ended stops = written-in_one call asked TooLarge too_large_line ended stops (λ e. absurd (cc e))
+stop-in_one call asked stop.Memory ended stops = nothing-in_one call asked ended stops.0 stops.1
+
+pub read-in_one : (call : Call) (asked : Verb) (ended : Status) → IsReadEnd call asked ended → IsInOnePiece call (Some asked) ended
+read-in_one call asked ended (inl (why, cause, stops)) = stop-in_one call (Some asked) why ended stops
+read-in_one call asked ended (inr (text, is, ends)) = written-in_one call (Some asked) Done text ended ends (λ e. is)
+
+-- ---- what the words ask for
+
+pub asked-is : (words : List (List ℕ)) (lent : LentVerb) (asked : Verb) → asked_as (Some lent) ≡ asked_by words → asked_for lent ≡ asked → Some asked ≡ asked_by words
+asked-is words lent asked by same = ap (λ (a : Verb). Some a) (sym same) ∙ by
+
+pub asked-ends : (call : Call) (words : List (List ℕ)) (lent : LentVerb) (asked : Verb) (ended : Status)
+    → asked_as (Some lent) ≡ asked_by words → asked_for lent ≡ asked → IsReadEnd call asked ended → Ends call (asked_by words) ended
+asked-ends call words lent asked ended by same end = subst (λ (o : Option Verb). Ends call o ended) (asked-is words lent asked by same) (read-ends call asked ended end)
+
+pub asked-in_one : (call : Call) (words : List (List ℕ)) (lent : LentVerb) (asked : Verb) (ended : Status)
+    → asked_as (Some lent) ≡ asked_by words → asked_for lent ≡ asked → IsReadEnd call asked ended → IsInOnePiece call (asked_by words) ended
+asked-in_one call words lent asked ended by same end = subst (λ (o : Option Verb). IsInOnePiece call o ended) (asked-is words lent asked by same) (read-in_one call asked ended end)

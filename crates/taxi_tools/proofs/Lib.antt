@@ -1,0 +1,3 @@
+pub mod EndingLaws
+pub mod DueLaws
+pub mod Promises

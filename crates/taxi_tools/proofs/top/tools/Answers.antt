@@ -1,0 +1,57 @@
+use Rattle.std.proofs.Common.{refl, sym, ap, map, string_bytes, None}
+use Rattle.program_endings.specs.declared.status.Status.TheVariants.{Usage}
+use Rattle.program_endings.specs.Call.{Call, call_of}
+use Rattle.program_endings.proofs.EndingLaws.{last-ends_as}
+use Rattle.tool_words.specs.Usage.{usage_line}
+use Rattle.tool_words.specs.Verb.{Graph, Plan, names_of, asked_by}
+use Rattle.tool_words.specs.LentWords.{asked_for}
+use Rattle.taxi_tools.specs.Endings.{IsDueText}
+use Rattle.taxi_tools.proofs.EndingLaws.{asked-ends, asked-in_one, written-in_one}
+use Rattle.taxi_tools.proofs.DueLaws.{due-is}
+use Rattle.taxi_tools.proofs.top.tools.Goals as goal
+
+pub returns-in-None-clause-ends : goal.returns-in-None-clause-ends
+returns-in-None-clause-ends g c =
+    let call : Call = call_of g.S.Shelf.files g.S.Shelf.faults g.S.Shelf.given g.K.Sink.faults g.K.Sink.written (c.args.shelf.now, c.args.shelf.now) (c.args.out.now, c.write_last.new.out) in
+    rw (sym c.in-None.ensures)
+    (last-ends_as (IsDueText call None) call.writes call.taken Usage usage_line c.usage_line.result.now c.write_last.result refl c.usage_line.ensures c.write_last.ensures.ends (λ whole. whole))
+
+pub returns-in-None-clause-handed : goal.returns-in-None-clause-handed
+returns-in-None-clause-handed g c =
+    let call : Call = call_of g.S.Shelf.files g.S.Shelf.faults g.S.Shelf.given g.K.Sink.faults g.K.Sink.written (c.args.shelf.now, c.args.shelf.now) (c.args.out.now, c.write_last.new.out) in
+    written-in_one call (asked_by (map string_bytes c.args.words.now)) Usage c.usage_line.result.now c.write_last.result c.write_last.ensures.ends (λ e. absurd (cc e))
+
+pub returns-in-None-clause-complete : goal.returns-in-None-clause-complete
+returns-in-None-clause-complete g c = λ files told no_read no_write.
+    due-is (call_of g.S.Shelf.files g.S.Shelf.faults g.S.Shelf.given g.K.Sink.faults g.K.Sink.written (c.args.shelf.now, c.args.shelf.now) (c.args.out.now, c.write_last.new.out)) files _ _ told
+    (returns-in-None-clause-ends g c) no_read no_write
+
+pub returns-in-Some-Graph-clause-ends : goal.returns-in-Some-Graph-clause-ends
+returns-in-Some-Graph-clause-ends g c =
+    asked-ends (call_of g.S.Shelf.files g.S.Shelf.faults g.S.Shelf.given g.K.Sink.faults g.K.Sink.written (c.args.shelf.now, c.graph.new.shelf) (c.args.out.now, c.graph.new.out)) (map string_bytes c.args.words.now)
+    c.in-Some-Graph.field-0 (Graph c.in-Some-Graph.airport.now) c.graph.result c.in-Some-Graph.ensures (ap asked_for c.in-Some-Graph.field-0-is) c.graph.ensures.ends
+
+pub returns-in-Some-Graph-clause-handed : goal.returns-in-Some-Graph-clause-handed
+returns-in-Some-Graph-clause-handed g c =
+    asked-in_one (call_of g.S.Shelf.files g.S.Shelf.faults g.S.Shelf.given g.K.Sink.faults g.K.Sink.written (c.args.shelf.now, c.graph.new.shelf) (c.args.out.now, c.graph.new.out)) (map string_bytes c.args.words.now)
+    c.in-Some-Graph.field-0 (Graph c.in-Some-Graph.airport.now) c.graph.result c.in-Some-Graph.ensures (ap asked_for c.in-Some-Graph.field-0-is) c.graph.ensures.ends
+
+pub returns-in-Some-Graph-clause-complete : goal.returns-in-Some-Graph-clause-complete
+returns-in-Some-Graph-clause-complete g c = λ files told no_read no_write.
+    due-is (call_of g.S.Shelf.files g.S.Shelf.faults g.S.Shelf.given g.K.Sink.faults g.K.Sink.written (c.args.shelf.now, c.graph.new.shelf) (c.args.out.now, c.graph.new.out)) files _ _ told
+    (returns-in-Some-Graph-clause-ends g c) no_read no_write
+
+pub returns-in-Some-Plan-clause-ends : goal.returns-in-Some-Plan-clause-ends
+returns-in-Some-Plan-clause-ends g c =
+    asked-ends (call_of g.S.Shelf.files g.S.Shelf.faults g.S.Shelf.given g.K.Sink.faults g.K.Sink.written (c.args.shelf.now, c.plan.new.shelf) (c.args.out.now, c.plan.new.out)) (map string_bytes c.args.words.now)
+    c.in-Some-Plan.field-0 (Plan (names_of c.in-Some-Plan.airport.now c.in-Some-Plan.commands.now) c.in-Some-Plan.start) c.plan.result c.in-Some-Plan.ensures (ap asked_for c.in-Some-Plan.field-0-is) c.plan.ensures.ends
+
+pub returns-in-Some-Plan-clause-handed : goal.returns-in-Some-Plan-clause-handed
+returns-in-Some-Plan-clause-handed g c =
+    asked-in_one (call_of g.S.Shelf.files g.S.Shelf.faults g.S.Shelf.given g.K.Sink.faults g.K.Sink.written (c.args.shelf.now, c.plan.new.shelf) (c.args.out.now, c.plan.new.out)) (map string_bytes c.args.words.now)
+    c.in-Some-Plan.field-0 (Plan (names_of c.in-Some-Plan.airport.now c.in-Some-Plan.commands.now) c.in-Some-Plan.start) c.plan.result c.in-Some-Plan.ensures (ap asked_for c.in-Some-Plan.field-0-is) c.plan.ensures.ends
+
+pub returns-in-Some-Plan-clause-complete : goal.returns-in-Some-Plan-clause-complete
+returns-in-Some-Plan-clause-complete g c = λ files told no_read no_write.
+    due-is (call_of g.S.Shelf.files g.S.Shelf.faults g.S.Shelf.given g.K.Sink.faults g.K.Sink.written (c.args.shelf.now, c.plan.new.shelf) (c.args.out.now, c.plan.new.out)) files _ _ told
+    (returns-in-Some-Plan-clause-ends g c) no_read no_write

@@ -1,0 +1,32 @@
+-- Which text do the files give to what is asked for?
+use Rattle.std.specs.Prelude.{◌≡◌, ℕ, List, Option, Ok}
+use Rattle.taxi_base.specs.Airport.{Airport}
+use Rattle.taxi_base.specs.State.{State}
+use Rattle.taxi_text.specs.Lines.{commands_of}
+use Rattle.taxi_io.specs.Files.{Files}
+use Rattle.airport_graph.specs.Graph.{graph_text}
+use Rattle.command_run.specs.Supplied.{IsSuppliedRun}
+use Rattle.plan_table.specs.Plan.{IsPlan}
+use Rattle.program_words.specs.Verb.{FileNames}
+use Rattle.program_files.specs.Inputs.{IsJudged, AreAccepted}
+use Rattle.tool_words.specs.Verb.{Verb, Graph, Plan}
+
+-- the graph of an airport that is accepted
+pub record IsGraphed (told : Option Files) (name text : List ℕ) : Type 0 where
+  pub airport : Airport
+  pub accepted : IsJudged told name (Ok airport)
+  pub whole : text ≡ graph_text airport
+
+-- The plan of what is in force after all commands, at an airport that is accepted. Memory ran out for none of the commands.
+pub record IsPlanned (told : Option Files) (names : FileNames) (start : Option (List ℕ)) (text : List ℕ) : Type 0 where
+  pub airport : Airport
+  pub commands : List ℕ
+  pub accepted : AreAccepted told names airport commands
+  pub after : State
+  pub run : IsSuppliedRun airport (commands_of commands) after
+  pub plan : IsPlan airport after start text
+
+-- the whole output, where all goes well
+abbrev pub IsDoneText : Option Files → Verb → List ℕ → Type 0
+IsDoneText told (Graph airport) text = IsGraphed told airport text
+IsDoneText told (Plan names start) text = IsPlanned told names start text

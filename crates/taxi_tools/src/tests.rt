@@ -1,0 +1,98 @@
+//! Calls over files and output in memory, with what they write found by hand.
+use crate::top::tools;
+use program_endings::Status;
+use std::alloc::{AllocError, Global};
+use std::process::Abort;
+use std::test::Fail;
+use taxi_io::{MemoryShelf, MemorySink};
+
+fn small() -> &'static [u8] {
+    b"taxi-airport,1\n\
+      horizon,3600\n\
+      node,R,runway\n\
+      node,J,junction\n\
+      node,S1,stand\n\
+      class,M\n\
+      segment,A,R,J,both\n\
+      segment,B,J,S1,one\n\
+      seconds,A,M,30\n"
+}
+
+fn small_drawn() -> &'static [u8] {
+    b"digraph airport {\n\
+      \"R\" [shape=box];\n\
+      \"J\" [shape=circle];\n\
+      \"S1\" [shape=house];\n\
+      \"R\" -> \"J\" [label=\"A 30\", dir=both];\n\
+      \"J\" -> \"S1\" [label=\"B\", style=dotted];\n\
+      }\n"
+}
+
+fn two_flights() -> &'static [u8] {
+    b"file X1 M 0 A+ 30\n\
+      file X2 M 100 A+ 160\n\
+      work W1 B 0 100\n"
+}
+
+fn their_plan() -> &'static [u8] {
+    b"name,kind,class,from,to,step,segment,direction,tail,head,enter,leave,until,least,wait,slack\n\
+      X1,filed,M,R,J,1,A,forward,R,J,0,30,30,30,0,70\n\
+      X2,filed,M,R,J,1,A,forward,R,J,100,160,160,30,30,3440\n\
+      W1,work,,J,S1,1,B,,J,S1,0,100,100,100,0,3500\n"
+}
+
+fn words_of(alloc: Global, line: &str) -> Result<Vec<String>, AllocError> {
+    let mut all = Vec::new(alloc);
+    for word in line.split(' ') {
+        all.push(String::from_str(alloc, word)?)?;
+    }
+    Ok(all)
+}
+
+fn shelf_of(alloc: Global) -> Result<MemoryShelf, AllocError> {
+    let mut files = Vec::new(alloc);
+    let airport = Vec::from_slice(alloc, small())?;
+    let commands = Vec::from_slice(alloc, two_flights())?;
+    files.push((String::from_str(alloc, "airport.csv")?, airport))?;
+    files.push((String::from_str(alloc, "commands.txt")?, commands))?;
+    Ok(MemoryShelf::new(files, 4096, Vec::new(alloc)))
+}
+
+// How a call with these words ends, and what it has written then.
+fn expect_call<R: Abort>(
+    rt: &R,
+    alloc: Global,
+    words: &str,
+    status: Status,
+    text: &[u8],
+) -> Result<(), Fail> {
+    let words = words_of(alloc, words)?;
+    let mut shelf = shelf_of(alloc)?;
+    let mut out = MemorySink::new(alloc, 4096, Vec::new(alloc));
+    let ended = tools(alloc, words.as_slice(), &mut shelf, &mut out);
+    assert_eq!(rt; ended, status);
+    assert_eq!(rt; out.written(), text);
+    Ok(())
+}
+
+#[test]
+fn an_airport_is_drawn(rt: HostRuntime) -> Result<(), Fail> {
+    expect_call(
+        &rt,
+        rt.alloc(),
+        "graph airport.csv",
+        Status::Done,
+        small_drawn(),
+    )
+}
+
+#[test]
+fn a_plan_is_written(rt: HostRuntime) -> Result<(), Fail> {
+    expect_call(
+        &rt,
+        rt.alloc(),
+        "plan airport.csv commands.txt",
+        Status::Done,
+        their_plan(),
+    )
+}

@@ -1,0 +1,13 @@
+-- What do words that are lent ask for?
+use Rattle.std.specs.Prelude.{Option, Some, None}
+use Rattle.tool_words.specs.declared.words.Verb.{Verb as LentVerb}
+use Rattle.tool_words.specs.declared.words.Verb.TheVariants as lent
+use Rattle.tool_words.specs.Verb.{Verb, Graph, Plan, names_of}
+
+abbrev pub asked_for : LentVerb → Verb
+asked_for (lent.Graph airport) = Graph airport.now
+asked_for (lent.Plan airport commands start) = Plan (names_of airport.now commands.now) start
+
+abbrev pub asked_as : Option LentVerb → Option Verb
+asked_as None = None
+asked_as (Some asked) = Some (asked_for asked)

@@ -1,0 +1,44 @@
+-- What do the words after the program's name ask for, and which files do they name?
+use Rattle.std.specs.Prelude.{◌≡◌, ◌⊎◌, ℕ, List, [], ◌∷◌, codes, bytes_eq, Option, Some, None, if◌then◌else◌}
+use Rattle.taxi_text.specs.Commands.{◌>>=◌}
+use Rattle.program_words.specs.Verb.{FileNames}
+use Rattle.civil_times.specs.Later.{is_start}
+
+-- What is asked for: the airport of a file as a graph, or the plan that a run leaves as a table, with its times as seconds or, where a start is
+-- given, as civil times.
+pub data Verb : Type 0 where
+  Graph : (airport : List ℕ) → Verb
+  Plan : FileNames → (start : Option (List ℕ)) → Verb
+
+-- what a verb and one more word ask for
+abbrev pub asked_of_one : List ℕ → List ℕ → Option Verb
+asked_of_one verb airport = if bytes_eq verb (codes "graph") then Some (Graph airport) else None
+
+abbrev pub names_of : List ℕ → List ℕ → FileNames
+names_of airport commands = record { airport = airport; commands = commands }
+
+-- what a verb and two more words ask for
+abbrev pub asked_of_two : List ℕ → List ℕ → List ℕ → Option Verb
+asked_of_two verb airport commands = if bytes_eq verb (codes "plan") then Some (Plan (names_of airport commands) None) else None
+
+-- the start that a word names; none where it names none
+abbrev pub start_of : List ℕ → Option (List ℕ)
+start_of word = if is_start word then Some word else None
+
+-- what a verb and three more words ask for: the third is a start
+abbrev pub asked_of_three : List ℕ → List ℕ → List ℕ → List ℕ → Option Verb
+asked_of_three verb airport commands start =
+    if bytes_eq verb (codes "plan") then start_of start >>= (λ start. Some (Plan (names_of airport commands) (Some start))) else None
+
+-- what the words ask for; none for words of no form
+abbrev pub asked_by : List (List ℕ) → Option Verb
+asked_by (verb ∷ airport ∷ []) = asked_of_one verb airport
+asked_by (verb ∷ airport ∷ commands ∷ []) = asked_of_two verb airport commands
+asked_by (verb ∷ airport ∷ commands ∷ third ∷ []) = asked_of_three verb airport commands third
+asked_by _ = None
+
+-- the words name a file so
+abbrev pub IsNamed : Option Verb → List ℕ → Type 0
+IsNamed None name = ⊥
+IsNamed (Some (Graph airport)) name = name ≡ airport
+IsNamed (Some (Plan names start)) name = (name ≡ names.airport) ⊎ (name ≡ names.commands)
