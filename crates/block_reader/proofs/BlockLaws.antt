@@ -11,18 +11,18 @@ use Rattle.taxi_base.specs.Airport.{Airport, IsWellFormed}
 use Rattle.taxi_text.specs.Fields.{name_of}
 use Rattle.airport_file.specs.Words.{segment_word}
 use Rattle.certificate.specs.declared.block.Block.{Block}
-use Rattle.certificate.specs.declared.block.Block.TheVariants.{Refused, Filed, Cancelled, Route, NoRoute, Windows, Occupancy, Timetable, Batch}
+use Rattle.certificate.specs.declared.block.Block.TheVariants.{Refused, Filed, Cancelled, Route, NoRoute, Windows, Occupancy, Timetable, Batch, Late}
 use Rattle.certificate.specs.Texts.{line_text, window_words, held_words, flight_words, refusal_words, block_text}
 use Rattle.certificate.specs.Printable.{IsShort, IsName, IsPrintable}
 use Rattle.block_reader.specs.Fields.{number_of}
 use Rattle.block_reader.specs.Reading.{word_then, word_last}
-use Rattle.block_reader.specs.Blocks.{refused_at, filed_at, cancelled_at, windows_at, occupancy_at, timetable_at, block_at}
-use Rattle.block_reader.proofs.Spellings.{Takes, IsSpelling, last-spelling, then-spelling, after-takes, made-takes, either-takes}
+use Rattle.block_reader.specs.Blocks.{refused_at, filed_at, cancelled_at, found_at, windows_at, occupancy_at, timetable_at, block_at}
+use Rattle.block_reader.proofs.Spellings.{Takes, IsSpelling, last-spelling, then-spelling, made-takes, either-takes}
 use Rattle.block_reader.proofs.RefusalLaws.{refusal_text, refusal-spelling}
 use Rattle.block_reader.proofs.Words.{number-word, name-word}
 use Rattle.block_reader.proofs.RowLaws.{lines-all, counted_text, counted-again, counted-takes, window-spelling, held-spelling, flight-spelling, of_segment_text, of_segment-again, of_segment-takes}
-use Rattle.block_reader.proofs.RouteLaws.{text, IsRest, route_text-is, no_route_text-is, route-takes, no_route-takes, route-again, no_route-again}
-use Rattle.block_reader.proofs.EntryLaws.{batch_text-is, batch-takes, batch-again}
+use Rattle.block_reader.proofs.RouteLaws.{text, IsRest, route_text-is, no_route_text-is, route-again, no_route-again, found-takes}
+use Rattle.block_reader.proofs.EntryBlocks.{batch_text-is, batch-takes, batch-again, late_text-is, late-takes, late-again}
 
 -- ---- short blocks
 
@@ -40,6 +40,9 @@ refused_text-is (refusal.AlreadyDone end) = refl
 refused_text-is (refusal.AlreadyMoving start) = refl
 refused_text-is refusal.Full = refl
 refused_text-is (refusal.Step fault) = refl
+refused_text-is (refusal.NotMoving start) = refl
+refused_text-is (refusal.NotLate leave) = refl
+refused_text-is (refusal.PastEnd horizon) = refl
 refused_text-is refusal.Memory = refl
 
 filed_text : List ℕ × (ℕ × ℕ) → List ℕ
@@ -105,9 +108,7 @@ module _ (airport : Airport) where
     pub block-takes : Takes (IsPrintable airport) (text airport) (block_at airport)
     unfolding block_at refused_at filed_at cancelled_at
     block-takes =
-        either-takes (IsPrintable airport) (text airport) (codes "route ") (route-takes airport well)
-        (either-takes (IsPrintable airport) (text airport) (codes "no-route ") (no_route-takes airport well)
-        (either-takes (IsPrintable airport) (text airport) (codes "refused ")
+        either-takes (IsPrintable airport) (text airport) (codes "refused ")
         (made-takes refusal_text (IsPrintable airport) (text airport) Refused (codes "refused ") (λ why good. good) refusal_text-is refusal-spelling.takes)
         (either-takes (IsPrintable airport) (text airport) (codes "filed ")
         (made-takes filed_text (IsPrintable airport) (text airport) (λ p. Filed p.0 p.1.0 p.1.1) (codes "filed ") (λ p good. good) filed_text-is filed-spelling.takes)
@@ -116,7 +117,8 @@ module _ (airport : Airport) where
         (either-takes (IsPrintable airport) (text airport) (codes "windows ") windows-takes
         (either-takes (IsPrintable airport) (text airport) (codes "occupancy ") occupancy-takes
         (either-takes (IsPrintable airport) (text airport) (codes "timetable ") timetable-takes
-        (after-takes (IsPrintable airport) (text airport) (codes "batch ") (batch-takes airport well)))))))))
+        (either-takes (IsPrintable airport) (text airport) (codes "batch ") (batch-takes airport well)
+        (either-takes (IsPrintable airport) (text airport) (codes "late ") (late-takes airport well) (found-takes airport well))))))))
 
     -- ---- what is printed is read again
 
@@ -135,7 +137,7 @@ module _ (airport : Airport) where
     occupancy-again segment held rest good = of_segment-again (held_words airport) (held-spelling airport well) airport well Occupancy segment held rest good
 
     pub block-again : (block : Block) (rest : List ℕ) → IsPrintable airport block → block_at airport (text airport block ++ rest) ≡ Some (block, rest)
-    unfolding block_at refused_at filed_at cancelled_at
+    unfolding block_at refused_at filed_at cancelled_at found_at
     block-again (Refused why) rest good =
         ap (λ (t : List ℕ). block_at airport (t ++ rest)) (sym (refusal_text-is why)) ∙ ap (option_map (λ x. (Refused x.0, x.1))) (refusal-spelling.again why rest good)
     block-again (Filed flight start end) rest good =
@@ -150,6 +152,8 @@ module _ (airport : Airport) where
     block-again (Timetable flights) rest good = ap (λ (t : List ℕ). block_at airport (t ++ rest)) (sym (timetable_text-is flights)) ∙ timetable-again flights rest good
     block-again (Batch total entries) rest good =
         ap (λ (t : List ℕ). block_at airport (t ++ rest)) (sym (batch_text-is airport total entries)) ∙ batch-again airport well total entries rest good
+    block-again (Late flight entries) rest good =
+        ap (λ (t : List ℕ). block_at airport (t ++ rest)) (sym (late_text-is airport flight entries)) ∙ late-again airport well flight entries rest good
 
     pub block-spelling : IsSpelling (IsPrintable airport) (text airport) (block_at airport)
     block-spelling = record { again = block-again; takes = block-takes }

@@ -10,5 +10,6 @@ pub mod RefusalLaws
 pub mod RowLaws
 pub mod RouteLaws
 pub mod EntryLaws
+pub mod EntryBlocks
 pub mod BlockLaws
 pub mod ReadLaws

@@ -116,9 +116,15 @@ refusal-spelling = record {
       (made-takes (λ n. decimal n ++ 10 ∷ []) IsPrintableRefusal refusal_text refusal.AlreadyDone (codes "already-done ") (λ n good. good) (λ n. refl) time-spelling.takes)
       (either-takes IsPrintableRefusal refusal_text (codes "already-moving ")
       (made-takes (λ n. decimal n ++ 10 ∷ []) IsPrintableRefusal refusal_text refusal.AlreadyMoving (codes "already-moving ") (λ n good. good) (λ n. refl) time-spelling.takes)
+      (either-takes IsPrintableRefusal refusal_text (codes "not-moving ")
+      (made-takes (λ n. decimal n ++ 10 ∷ []) IsPrintableRefusal refusal_text refusal.NotMoving (codes "not-moving ") (λ n good. good) (λ n. refl) time-spelling.takes)
+      (either-takes IsPrintableRefusal refusal_text (codes "not-late ")
+      (made-takes (λ n. decimal n ++ 10 ∷ []) IsPrintableRefusal refusal_text refusal.NotLate (codes "not-late ") (λ n good. good) (λ n. refl) time-spelling.takes)
+      (either-takes IsPrintableRefusal refusal_text (codes "past-end ")
+      (made-takes (λ n. decimal n ++ 10 ∷ []) IsPrintableRefusal refusal_text refusal.PastEnd (codes "past-end ") (λ n good. good) (λ n. refl) time-spelling.takes)
       (either-takes IsPrintableRefusal refusal_text (codes "step ")
       (made-takes fault_text IsPrintableRefusal refusal_text refusal.Step (codes "step ") (λ fault good. good) step_text-is fault-spelling.takes)
-      (word-takes-only IsPrintableRefusal refusal_text plain_refusal_of plain_refusal-only)));
+      (word-takes-only IsPrintableRefusal refusal_text plain_refusal_of plain_refusal-only))))));
 } where
   again : (why : Refusal) (rest : List ℕ) → IsPrintableRefusal why → refusal_at (refusal_text why ++ rest) ≡ Some (why, rest)
   again refusal.BadLine rest good = refl
@@ -135,4 +141,7 @@ refusal-spelling = record {
   again refusal.Full rest good = refl
   again (refusal.Step fault) rest good =
       ap (λ (t : List ℕ). refusal_at (t ++ rest)) (sym (step_text-is fault)) ∙ ap (option_map (λ x. (refusal.Step x.0, x.1))) (fault-spelling.again fault rest good)
+  again (refusal.NotMoving start) rest good = ap (option_map (λ x. (refusal.NotMoving x.0, x.1))) (time-spelling.again start rest good)
+  again (refusal.NotLate leave) rest good = ap (option_map (λ x. (refusal.NotLate x.0, x.1))) (time-spelling.again leave rest good)
+  again (refusal.PastEnd horizon) rest good = ap (option_map (λ x. (refusal.PastEnd x.0, x.1))) (time-spelling.again horizon rest good)
   again refusal.Memory rest good = refl

@@ -10,8 +10,8 @@ use Rattle.certificate.specs.declared.block.Block.TheVariants.{Route, NoRoute}
 use Rattle.certificate.specs.Texts.{line_text, lines_text, step_words, label_words, block_text}
 use Rattle.certificate.specs.Printable.{IsShort, IsCount, IsName, IsPrintableStep, IsPrintableLabel, IsPrintable}
 use Rattle.block_reader.specs.Reading.{rows_at}
-use Rattle.block_reader.specs.Blocks.{step_at, label_at, route_head_at, route_at, no_route_at}
-use Rattle.block_reader.proofs.Spellings.{some-both, some-map, IsSpelling, last-spelling, then-spelling, rows-again, rows-takes}
+use Rattle.block_reader.specs.Blocks.{step_at, label_at, route_head_at, route_at, no_route_at, found_at}
+use Rattle.block_reader.proofs.Spellings.{some-both, some-map, Takes, IsSpelling, last-spelling, then-spelling, after-takes, either-takes, rows-again, rows-takes}
 use Rattle.block_reader.proofs.Words.{number-word, count-word, some_count-word, name-word}
 use Rattle.block_reader.proofs.RowLaws.{step-spelling, label-spelling, lines-before, lines-all, steps_text, labels_text, counted_text, counted-again, counted-takes}
 
@@ -63,14 +63,14 @@ module _ (airport : Airport) where
       )
 
   module _ (well : IsWellFormed airport) where
-    pub no_route-takes : (bytes : List ℕ) (block : Block) (rest : List ℕ) → no_route_at airport bytes ≡ Some (block, rest) → IsRest (codes "no-route " ++ bytes) block rest
+    no_route-takes : (bytes : List ℕ) (block : Block) (rest : List ℕ) → no_route_at airport bytes ≡ Some (block, rest) → IsRest (codes "no-route " ++ bytes) block rest
     unfolding no_route_at
     no_route-takes bytes block rest e =
         let t = counted-takes (label_words airport) (label-spelling airport well) NoRoute bytes block rest e in
         subst (λ b. IsRest (codes "no-route " ++ bytes) b rest) t.made
         (t.good, ap (λ (r : List ℕ). codes "no-route " ++ r) t.is ∙ ap (λ (r : List ℕ). r ++ rest) (no_route_text-is t.rows))
 
-    pub route-takes : (bytes : List ℕ) (block : Block) (rest : List ℕ) → route_at airport bytes ≡ Some (block, rest) → IsRest (codes "route " ++ bytes) block rest
+    route-takes : (bytes : List ℕ) (block : Block) (rest : List ℕ) → route_at airport bytes ≡ Some (block, rest) → IsRest (codes "route " ++ bytes) block rest
     unfolding route_at
     route-takes bytes block rest e =
         let a = some-both (route_head_at bytes) _ (block, rest) e in
@@ -98,3 +98,21 @@ module _ (airport : Airport) where
           rows-again (step-spelling airport well) steps (labels_text airport labels ++ rest) (recursion_from_All (IsPrintableStep airport) steps good.1.0),
           rows-again (label-spelling airport well) labels rest (recursion_from_All (IsPrintableLabel airport) labels good.1.1),
         ) refl
+
+    -- ---- what is found
+
+    pub found-takes : Takes (IsPrintable airport) text (found_at airport)
+    unfolding found_at
+    found-takes =
+        either-takes (IsPrintable airport) text (codes "route ") route-takes
+        (after-takes (IsPrintable airport) text (codes "no-route ") no_route-takes)
+
+    pub found_route-again : (flight : List ℕ) (second : ℕ) (steps : List Step) (labels : List LabelRow) (rest : List ℕ) → IsPrintable airport (Route flight second steps labels)
+        → found_at airport (text (Route flight second steps labels) ++ rest) ≡ Some (Route flight second steps labels, rest)
+    unfolding found_at
+    found_route-again flight second steps labels rest good =
+        ap (λ (t : List ℕ). found_at airport (t ++ rest)) (sym (route_text-is flight second steps labels)) ∙ route-again flight second steps labels rest good
+
+    pub found_none-again : (labels : List LabelRow) (rest : List ℕ) → IsPrintable airport (NoRoute labels) → found_at airport (text (NoRoute labels) ++ rest) ≡ Some (NoRoute labels, rest)
+    unfolding found_at
+    found_none-again labels rest good = ap (λ (t : List ℕ). found_at airport (t ++ rest)) (sym (no_route_text-is labels)) ∙ no_route-again labels rest good

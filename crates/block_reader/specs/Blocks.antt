@@ -1,5 +1,6 @@
 -- How each kind of block is read.
-use Rattle.std.specs.Prelude.{ℕ, List, Option, Some, None, option_map, codes, bytes_eq, if◌then◌else◌}
+use Rattle.std.specs.Prelude.{ℕ, Bool, true, false, List, Option, Some, None, option_map, codes, bytes_eq, if◌then◌else◌}
+use Rattle.std.specs.List.{list_all}
 use Rattle.taxi_base.specs.declared.rows.Step.{Step}
 use Rattle.taxi_base.specs.declared.rows.Span.{Span}
 use Rattle.taxi_base.specs.declared.rows.LabelRow.{LabelRow}
@@ -15,7 +16,7 @@ use Rattle.taxi_base.specs.Airport.{Airport}
 use Rattle.taxi_text.specs.Commands.{◌>>=◌}
 use Rattle.taxi_text.specs.Fields.{name_of}
 use Rattle.certificate.specs.declared.block.Block.{Block}
-use Rattle.certificate.specs.declared.block.Block.TheVariants.{Refused, Filed, Cancelled, Route, NoRoute, Windows, Occupancy, Timetable, Batch}
+use Rattle.certificate.specs.declared.block.Block.TheVariants.{Refused, Filed, Cancelled, Route, NoRoute, Windows, Occupancy, Timetable, Batch, Late}
 use Rattle.certificate.specs.declared.entries.Entry.{Entry}
 use Rattle.certificate.specs.declared.entries.Entry.TheVariants as entry
 use Rattle.block_reader.specs.Fields.{number_of, count_of, some_count_of, batch_count_of, total_of, step_number_of, kind_of, class_of_word, segment_of_word, arc_of_word}
@@ -82,7 +83,10 @@ unfoldable pub refusal_at : List ℕ → Option (Refusal × List ℕ)
 refusal_at =
     either (codes "already-done ") (made refusal.AlreadyDone (word_last number_of))
     (either (codes "already-moving ") (made refusal.AlreadyMoving (word_last number_of))
-    (either (codes "step ") (made refusal.Step fault_at) (word_last plain_refusal_of)))
+    (either (codes "not-moving ") (made refusal.NotMoving (word_last number_of))
+    (either (codes "not-late ") (made refusal.NotLate (word_last number_of))
+    (either (codes "past-end ") (made refusal.PastEnd (word_last number_of))
+    (either (codes "step ") (made refusal.Step fault_at) (word_last plain_refusal_of))))))
 
 -- ---- blocks, behind their first word
 
@@ -127,11 +131,13 @@ occupancy_at airport = of_segment_at airport Occupancy (held_at airport)
 unfoldable pub timetable_at : Airport → List ℕ → Option (Block × List ℕ)
 timetable_at airport = counted_at Timetable (flight_at airport)
 
--- ---- a batch, behind its first word
+-- ---- what is found
 
 -- a route, or that there is none
 unfoldable pub found_at : Airport → List ℕ → Option (Block × List ℕ)
 found_at airport = either (codes "route ") (route_at airport) (after (codes "no-route ") (no_route_at airport))
+
+-- ---- entries
 
 -- the entry of a flight that a block tells of, where a route is its own
 abbrev pub entry_of : List ℕ → Block → Option (List ℕ × Entry)
@@ -139,29 +145,51 @@ entry_of name (Route flight second steps labels) = if bytes_eq flight name then 
 entry_of name (NoRoute labels) = Some (name, entry.NoRoute labels)
 entry_of name _ = None
 
--- a line that names a flight, and what is told of it
-unfoldable pub entry_at : Airport → List ℕ → Option ((List ℕ × Entry) × List ℕ)
-entry_at airport bytes =
-    after (codes "next ") (word_last name_of) bytes >>= (λ name.
+-- the name of a flight, and what is told of it
+unfoldable pub told_at : Airport → List ℕ → Option ((List ℕ × Entry) × List ℕ)
+told_at airport bytes =
+    word_last name_of bytes >>= (λ name.
     found_at airport name.1 >>= (λ told.
     option_map (λ of_flight. (of_flight, told.1)) (entry_of name.0 told.0)))
+
+-- a line that names a flight, and what is told of it; or the one line that it is dropped
+unfoldable pub entry_at : Airport → List ℕ → Option ((List ℕ × Entry) × List ℕ)
+entry_at airport =
+    either (codes "next ") (told_at airport) (after (codes "dropped ") (made (λ name. (name, entry.Dropped)) (word_last name_of)))
+
+-- something is told of the flight
+abbrev pub is_told : List ℕ × Entry → Bool
+is_told (name, entry.Dropped) = false
+is_told (name, told) = true
+
+-- ---- blocks with entries, behind their first word
+
+-- the batch of a total and of entries, of which none is dropped
+abbrev pub batch_of : ℕ → List (List ℕ × Entry) → Option Block
+batch_of total entries = if list_all is_told entries then Some (Batch total entries) else None
 
 -- how many entries, their total, and so many entries
 unfoldable pub batch_at : Airport → List ℕ → Option (Block × List ℕ)
 batch_at airport bytes =
     word_then batch_count_of (word_last total_of) bytes >>= (λ head.
-    option_map (λ entries. (Batch head.0.1 entries.0, entries.1)) (rows_at (entry_at airport) head.0.0 head.1))
+    rows_at (entry_at airport) head.0.0 head.1 >>= (λ entries.
+    option_map (λ batch. (batch, entries.1)) (batch_of head.0.1 entries.0)))
+
+-- the flight that is late, how many entries, and so many entries
+unfoldable pub late_at : Airport → List ℕ → Option (Block × List ℕ)
+late_at airport bytes =
+    word_then name_of (word_last some_count_of) bytes >>= (λ head.
+    option_map (λ entries. (Late head.0.0 entries.0, entries.1)) (rows_at (entry_at airport) head.0.1 head.1))
 
 -- ---- any block
 
 unfoldable pub block_at : Airport → List ℕ → Option (Block × List ℕ)
 block_at airport =
-    either (codes "route ") (route_at airport)
-    (either (codes "no-route ") (no_route_at airport)
-    (either (codes "refused ") refused_at
+    either (codes "refused ") refused_at
     (either (codes "filed ") filed_at
     (either (codes "cancelled ") cancelled_at
     (either (codes "windows ") (windows_at airport)
     (either (codes "occupancy ") (occupancy_at airport)
     (either (codes "timetable ") (timetable_at airport)
-    (after (codes "batch ") (batch_at airport)))))))))
+    (either (codes "batch ") (batch_at airport)
+    (either (codes "late ") (late_at airport) (found_at airport))))))))

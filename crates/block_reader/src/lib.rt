@@ -4,6 +4,7 @@
 mod arcs;
 mod entries;
 mod fields;
+mod found;
 mod laws;
 mod reader;
 mod refusal;

@@ -3,19 +3,18 @@ ghost use Rattle.block_reader.specs.Reading.{word_then, word_last, Finds, IsRead
 ghost use Rattle.certificate.specs.declared.block.Block.{Block as Plain};
 ghost use Rattle.block_reader.specs.Read.{BeginsWith, IsBlockRead, Reads};
 ghost use Rattle.block_reader.specs.Fields.{count_of, segment_of_word};
-ghost use Rattle.block_reader.specs.Blocks.{refused_at, filed_at, cancelled_at, route_head_at, route_at, no_route_at, windows_at, occupancy_at, timetable_at, block_at};
+ghost use Rattle.block_reader.specs.Blocks.{refused_at, filed_at, cancelled_at, windows_at, occupancy_at, timetable_at, block_at};
 
-use crate::entries::read_batch;
-use crate::fields::{
-    behind, count_field, name_field, number_field, segment_field, some_count_field,
-};
+use crate::entries::{read_batch, read_late};
+use crate::fields::{behind, count_field, name_field, number_field, segment_field};
+use crate::found::read_found;
 use crate::refusal::read_refusal;
 use crate::refused::BlockRefused;
 use crate::rows::read_rows;
 use airport_file::Airport;
 use certificate::Block;
 use std::alloc::Global;
-use taxi_base::{FlightRow, HeldRow, LabelRow, Name, Segment, Span, Step, Time};
+use taxi_base::{FlightRow, HeldRow, Segment, Span};
 
 /// The printable block that the bytes begin with, and the length of its text. `NotABlock` exactly where they begin with
 /// none. Rows that a count tells of and that aren't there take no room.
@@ -69,56 +68,6 @@ fn read_cancelled(bytes: &[u8]) -> Result<(Block, &[u8]), BlockRefused>
         return Err(BlockRefused::NotABlock);
     };
     Ok((Block::Cancelled { flight }, rest))
-}
-
-#[tactic(auto, unfolding(crate::specs::Blocks::route_head_at))]
-fn route_head(bytes: &[u8]) -> Option<((Name, (Time, (u64, u64))), &[u8])>
-    ensures { Finds (λ x. (x.0, x.1.now)) result (route_head_at bytes.now) }
-{
-    let Some((flight, rest)) = name_field(b' ', bytes) else {
-        return None;
-    };
-    let (second, rest) = number_field(b' ', rest)?;
-    let (steps, rest) = some_count_field(b' ', rest)?;
-    let (labels, rest) = count_field(b'\n', rest)?;
-    Some(((flight, (second, (steps, labels))), rest))
-}
-
-#[tactic(auto, unfolding(crate::specs::Blocks::route_at))]
-pub(crate) fn read_route<'a>(
-    alloc: Global,
-    airport: &Airport,
-    bytes: &'a [u8],
-) -> Result<(Block, &'a [u8]), BlockRefused>
-    ensures { IsRead (λ x. (x.0, x.1.now)) result (route_at airport.now bytes.now) }
-{
-    let Some(((flight, (second, (steps, labels))), rest)) = route_head(bytes) else {
-        return Err(BlockRefused::NotABlock);
-    };
-    let (steps, rest) = read_rows::<Step>(alloc, airport, steps, rest)?;
-    let (labels, rest) = read_rows::<LabelRow>(alloc, airport, labels, rest)?;
-    let block = Block::Route {
-        flight,
-        second,
-        steps,
-        labels,
-    };
-    Ok((block, rest))
-}
-
-#[tactic(auto, unfolding(crate::specs::Blocks::no_route_at))]
-pub(crate) fn read_no_route<'a>(
-    alloc: Global,
-    airport: &Airport,
-    bytes: &'a [u8],
-) -> Result<(Block, &'a [u8]), BlockRefused>
-    ensures { IsRead (λ x. (x.0, x.1.now)) result (no_route_at airport.now bytes.now) }
-{
-    let Some((labels, rest)) = count_field(b'\n', bytes) else {
-        return Err(BlockRefused::NotABlock);
-    };
-    let (labels, rest) = read_rows::<LabelRow>(alloc, airport, labels, rest)?;
-    Ok((Block::NoRoute { labels }, rest))
 }
 
 fn segment_head<'a>(airport: &Airport, bytes: &'a [u8]) -> Option<((Segment, u64), &'a [u8])>
@@ -182,12 +131,6 @@ fn read_any<'a>(
 ) -> Result<(Block, &'a [u8]), BlockRefused>
     ensures { IsRead (λ x. (x.0, x.1.now)) result (block_at airport.now bytes.now) }
 {
-    if let Some(rest) = behind(b"route ", bytes) {
-        return read_route(alloc, airport, rest);
-    }
-    if let Some(rest) = behind(b"no-route ", bytes) {
-        return read_no_route(alloc, airport, rest);
-    }
     if let Some(rest) = behind(b"refused ", bytes) {
         return read_refused(rest);
     }
@@ -206,8 +149,11 @@ fn read_any<'a>(
     if let Some(rest) = behind(b"timetable ", bytes) {
         return read_timetable(alloc, airport, rest);
     }
-    match behind(b"batch ", bytes) {
-        Some(rest) => read_batch(alloc, airport, rest),
-        None => Err(BlockRefused::NotABlock),
+    if let Some(rest) = behind(b"batch ", bytes) {
+        return read_batch(alloc, airport, rest);
     }
+    if let Some(rest) = behind(b"late ", bytes) {
+        return read_late(alloc, airport, rest);
+    }
+    read_found(alloc, airport, bytes)
 }

@@ -18,6 +18,18 @@ pub(crate) fn read_refusal(bytes: &[u8]) -> Option<(Refusal, &[u8])>
         let (start, rest) = number_field(b'\n', rest)?;
         return Some((Refusal::AlreadyMoving { start }, rest));
     }
+    if let Some(rest) = behind(b"not-moving ", bytes) {
+        let (start, rest) = number_field(b'\n', rest)?;
+        return Some((Refusal::NotMoving { start }, rest));
+    }
+    if let Some(rest) = behind(b"not-late ", bytes) {
+        let (leave, rest) = number_field(b'\n', rest)?;
+        return Some((Refusal::NotLate { leave }, rest));
+    }
+    if let Some(rest) = behind(b"past-end ", bytes) {
+        let (horizon, rest) = number_field(b'\n', rest)?;
+        return Some((Refusal::PastEnd { horizon }, rest));
+    }
     if let Some(rest) = behind(b"step ", bytes) {
         let Some((fault, rest)) = read_fault(rest) else {
             return None;

@@ -16,10 +16,10 @@ use Rattle.certificate.specs.Refusals.{refused_if, of_flight, not_routed, not_ar
 use Rattle.certificate.proofs.RefusalLaws.{none-first, none-others}
 
 module _ (airport : Airport) (state : State) (name : List ℕ) (time : ℕ) (flight : Flight) (known : flight_named name state.flights ≡ Some flight) where
-  of-flight : (test : Flight → Option Refusal) → of_flight state name test ≡ None → test flight ≡ None
+  pub of-flight : (test : Flight → Option Refusal) → of_flight state name test ≡ None → test flight ≡ None
   of-flight test e = rw known at e
 
-  not_done : already_done time flight ≡ None → time < end_of flight.steps
+  pub not_done : already_done time flight ≡ None → time < end_of flight.steps
   not_done e =
       elim (cases_lt time (end_of flight.steps)) [
         | inl before ↦ before

@@ -1,15 +1,15 @@
 -- A batch that passes tells the best walk of each search, or that there is none, and leaves the state sound.
-use Rattle.std.proofs.Common.{◌≡◌, ◌∙◌, ℕ, List, [], ◌∷◌, ◌++◌, map, Some, None, refl, sym, ap, subst}
-use Rattle.std.specs.Prelude.{All, Contains, flat_map}
-use Rattle.std.proofs.lemmas.List.Elements.{All-nil, All-cons, All-head, All-tail, All-contains_itself}
+use Rattle.std.proofs.Common.{◌≡◌, ◌∙◌, ℕ, List, [], ◌∷◌, map, Some, None, sym, ap, subst}
+use Rattle.std.specs.Prelude.{All, Contains}
+use Rattle.std.proofs.lemmas.List.Elements.{All-head, All-tail, All-contains_itself}
 use Rattle.std.proofs.lemmas.List.Sorted.{IsPermutation-sym, All-permutation}
 use Rattle.taxi_base.specs.Airport.{Airport, IsWellFormed}
 use Rattle.taxi_base.specs.State.{State, IsSound}
 use Rattle.taxi_base.proofs.NamedLists.{find-named}
 use Rattle.taxi_text.specs.declared.command.BatchRequest.{BatchRequest}
+use Rattle.taxi_text.specs.declared.command.Command.{Command}
 use Rattle.taxi_text.specs.declared.command.Command.TheVariants as command
 use Rattle.taxi_text.specs.Commands.{command_of}
-use Rattle.certificate.specs.declared.block.Block.{Block}
 use Rattle.certificate.specs.declared.block.Block.TheVariants.{Batch}
 use Rattle.certificate.specs.declared.entries.Entry.{Entry}
 use Rattle.certificate.specs.declared.entries.Entry.TheVariants as entry
@@ -20,13 +20,16 @@ use Rattle.certificate.specs.Printable.{IsTold}
 use Rattle.certificate.specs.Batches.{wishes_of, names_of, TellsBatch}
 use Rattle.certificate.specs.CarriedOut.{routed_flight}
 use Rattle.certificate.specs.Refusals.{first_refusal}
-use Rattle.certificate.specs.Sought.{sought_wish}
-use Rattle.certificate.specs.Turns.{Turn, told_of, after_told, turns_of, after_turns}
+use Rattle.certificate.specs.Sought.{Sought, sought_wish}
+use Rattle.certificate.specs.Turns.{Turn, after_told, turns_of, after_turns}
 use Rattle.certificate.specs.Passes.{KeepsSought, KeepsTurn, IsPassed, IsBestTold, TellsBest}
 use Rattle.certificate.proofs.NewNames.{AreNew, named-there, new-permutation, new-first, new-rest, new-with_flight}
 use Rattle.certificate.proofs.BatchNames.{batch-new}
 use Rattle.certificate.proofs.RightSearches.{new-right, route-best, no_route-best}
-use Rattle.certificate.proofs.BatchTurns.{block_of, told-block, turns_from, turn_of, turns-cons, batch-turns}
+use Rattle.certificate.proofs.TurnLaws.{begins-before, keeps-turns}
+use Rattle.certificate.proofs.EntryTurns.{block_of, turns_from}
+use Rattle.certificate.proofs.EntryPasses.{AreBest, none-best, cons-best, first-keeps, others-keep, cons-after}
+use Rattle.certificate.proofs.BatchTurns.{wish-sought, batch-turns}
 
 module _ (airport : Airport) (well : IsWellFormed airport) where
   -- ---- one entry
@@ -43,80 +46,67 @@ module _ (airport : Airport) (well : IsWellFormed airport) where
       let right = new-right airport state well sound wish.name wish.class wish.request (new-first state wish.name names new) in
       let walk = rules rule.Walk in
       record {
-        best = route-best airport name second steps labels (sought_wish airport state wish) right rules;
+        best = route-best name second steps labels (sought_wish airport state wish) right.searched rules;
         stays_sound = right.stays_sound steps walk.0;
         still_new = new-with_flight (routed_flight wish.name wish.class wish.request steps) state names new;
       }
   entry-best state wish (name, entry.NoRoute labels) names sound new is rules =
       let right = new-right airport state well sound wish.name wish.class wish.request (new-first state wish.name names new) in
-      record { best = no_route-best airport labels (sought_wish airport state wish) right rules; stays_sound = sound; still_new = new-rest state wish.name names new }
+      record { best = no_route-best labels (sought_wish airport state wish) right.searched rules; stays_sound = sound; still_new = new-rest state wish.name names new }
   entry-best state wish (name, entry.Dropped) names sound new is rules = absurd is
 
   -- ---- all of them
 
-  module _ (requests : List BatchRequest) (wishes : List Wish) (known : wishes_of airport requests ≡ Some wishes) where
+  module _ (before : State) (requests : List BatchRequest) (wishes : List Wish) (known : wishes_of airport requests ≡ Some wishes) where
+    abbrev batch : Command
+    batch = command.Batch requests
+
     abbrev turns : State → List (List ℕ × Entry) → List Turn
-    turns = turns_from airport requests wishes known
+    turns = turns_from airport before batch
 
     abbrev names : List (List ℕ × Entry) → List (List ℕ)
     names entries = map (λ told. told.0) entries
 
-    pub record AreBest (state : State) (entries : List (List ℕ × Entry)) : Type 0 where
-      pub all_told : map (λ turn. turn.told) (turns state entries) ≡ flat_map told_of entries
-      pub best : All (λ turn. IsBestTold turn.sought turn.told) (turns state entries)
-      pub stays_sound : IsSound airport (after_turns state (turns state entries))
-
     pub entries-best : (state : State) (entries : List (List ℕ × Entry)) → IsSound airport state → AreNew state (names entries) → All IsTold entries → All (Contains (names_of wishes)) (names entries)
-        → ((r : Rule) → All (λ turn. KeepsTurn turn r) (turns state entries)) → AreBest state entries
-    entries-best state [] sound new told there keeps = record { all_told = refl; best = All-nil (λ turn. IsBestTold turn.sought turn.told); stays_sound = sound }
+        → ((r : Rule) → All (λ turn. KeepsTurn turn r) (turns state entries)) → AreBest airport before batch state entries × IsSound airport (after_turns state (turns state entries))
+    entries-best state [] sound new told there keeps = (none-best airport before batch state, sound)
     entries-best state (told ∷ entries) sound new are there keeps =
         let found = named-there (λ (w : Wish). w.name) wishes told.0 (All-head (Contains (names_of wishes)) told.0 (names entries) there) in
         let wish : Wish = found.0 in
+        let s : Sought = sought_wish airport state wish in
         let same : wish.name ≡ told.0 = find-named (λ (w : Wish). w.name) told.0 wishes wish found.1 in
         let is = All-head IsTold told entries are in
-        let after : State = after_told (sought_wish airport state wish) (block_of told) in
-        let cons = turns-cons airport requests wishes known state told entries wish is found.1 in
-        let first : Turn = turn_of airport requests wishes known state wish told in
-        let keep : (r : Rule) → All (λ turn. KeepsTurn turn r) (first ∷ turns after entries) = λ r. subst (All (λ turn. KeepsTurn turn r)) cons (keeps r) in
+        let sought = wish-sought airport before requests wishes known state told.0 wish found.1 in
         let here = entry-best state wish told (names entries) sound (subst (λ (n : List ℕ). AreNew state (n ∷ names entries)) (sym same) new) is
-        (λ r. All-head (λ turn. KeepsTurn turn r) first (turns after entries) (keep r)) in
-        let rest = entries-best after entries here.stays_sound here.still_new (All-tail IsTold told entries are) (All-tail (Contains (names_of wishes)) told.0 (names entries) there)
-        (λ r. All-tail (λ turn. KeepsTurn turn r) first (turns after entries) (keep r)) in
-        record {
-          all_told = ap (map (λ turn. turn.told)) cons ∙ ap (λ (bs : List Block). block_of told ∷ bs) rest.all_told ∙ ap (λ (bs : List Block). bs ++ flat_map told_of entries) (sym (told-block told is));
-          best = subst (All (λ turn. IsBestTold turn.sought turn.told)) (sym cons) (All-cons (λ turn. IsBestTold turn.sought turn.told) first (turns after entries) here.best rest.best);
-          stays_sound = subst (λ (ts : List Turn). IsSound airport (after_turns state ts)) (sym cons) rest.stays_sound;
-        }
+        (first-keeps airport before batch state told entries s is sought keeps) in
+        let rest = entries-best (after_told s (block_of told)) entries here.stays_sound here.still_new (All-tail IsTold told entries are) (All-tail (Contains (names_of wishes)) told.0 (names entries) there)
+        (others-keep airport before batch state told entries s is sought keeps) in (
+          cons-best airport before batch state told entries s is sought here.best rest.0,
+          subst (IsSound airport) (sym (cons-after airport before batch state told entries s is sought)) rest.1,
+        )
 
   -- ---- the block
 
   module _ (state : State) (sound : IsSound airport state) (line : List ℕ) (requests : List BatchRequest) (read : command_of line ≡ Some (command.Batch requests)) (none : first_refusal airport state (command.Batch requests) ≡ None) (total : ℕ) (entries : List (List ℕ × Entry)) (tells : TellsBatch airport requests (Batch total entries)) (after : State) (passed : IsPassed airport state line (Batch total entries) after) where
-    are : turns_of airport state line (Batch total entries) ≡ turns_from airport requests tells.0 tells.1 state entries
+    are : turns_of airport state line (Batch total entries) ≡ turns_from airport state (command.Batch requests) state entries
     are = batch-turns airport state line requests total entries read
 
-    of-turns : (r : Rule) → All (λ turn. KeepsTurn turn r) (turns_of airport state line (Batch total entries)) → All (λ turn. KeepsTurn turn r) (turns_from airport requests tells.0 tells.1 state entries)
-    of-turns r keeps = subst (All (λ turn. KeepsTurn turn r)) are keeps
+    turns-keep : (r : Rule) → All (λ turn. KeepsTurn turn r) (turns_from airport state (command.Batch requests) state entries)
+    turns-keep r = subst (All (λ turn. KeepsTurn turn r)) are (keeps-turns airport state line (Batch total entries) passed.keeps r)
 
-    turns-keep : (r : Rule) → All (λ turn. KeepsTurn turn r) (turns_from airport requests tells.0 tells.1 state entries)
-    turns-keep rule.Reply = λ k d within. tt
-    turns-keep rule.Walk = of-turns rule.Walk (passed.keeps rule.Walk)
-    turns-keep rule.Rows = of-turns rule.Rows (passed.keeps rule.Rows)
-    turns-keep rule.Start = of-turns rule.Start (passed.keeps rule.Start)
-    turns-keep rule.Step = of-turns rule.Step (passed.keeps rule.Step)
-    turns-keep rule.Target = of-turns rule.Target (passed.keeps rule.Target)
-
-    all-best : AreBest requests tells.0 tells.1 state entries
+    all-best : AreBest airport state (command.Batch requests) state entries × IsSound airport (after_turns state (turns_from airport state (command.Batch requests) state entries))
     all-best =
         let back = IsPermutation-sym (map (λ told. told.0) entries) (names_of tells.0) tells.2 in
         let new = new-permutation state (names_of tells.0) (map (λ told. told.0) entries) back (batch-new airport state requests tells.0 tells.1 none) in
         let there = All-permutation (Contains (names_of tells.0)) (names_of tells.0) (map (λ told. told.0) entries) back (All-contains_itself (names_of tells.0)) in
-        entries-best requests tells.0 tells.1 state entries sound new tells.3 there turns-keep
+        entries-best state requests tells.0 tells.1 state entries sound new tells.3 there turns-keep
 
     pub batch-best : TellsBest airport state line (Batch total entries)
     batch-best = record {
-      all_told = ap (map (λ turn. turn.told)) are ∙ all-best.all_told;
-      best = subst (All (λ turn. IsBestTold turn.sought turn.told)) (sym are) all-best.best;
+      all_told = ap (map (λ turn. turn.told)) are ∙ all-best.0.all_told;
+      best = subst (All (λ turn. IsBestTold turn.sought turn.told)) (sym are) all-best.0.best;
     }
 
     pub batch-sound : IsSound airport after
-    batch-sound = subst (IsSound airport) (sym (passed.after_it ∙ ap (after_turns state) are)) all-best.stays_sound
+    batch-sound = subst (IsSound airport)
+        (sym (passed.after_it ∙ ap (λ (s : State). after_turns s (turns_of airport state line (Batch total entries))) (begins-before airport state line (Batch total entries) tt) ∙ ap (after_turns state) are)) all-best.1

@@ -1,7 +1,7 @@
 -- A batch that is due passes: it tells of each request, and each of its searches keeps the rules.
 use Rattle.std.proofs.Common.{◌≡◌, ◌∙◌, ℕ, List, [], ◌∷◌, Some, None, inr, sym, ap, subst}
 use Rattle.std.specs.Prelude.{All, IsPermutation, Contains}
-use Rattle.std.proofs.lemmas.List.Elements.{All-nil, All-cons, All-head, All-tail, All-weaker, All-contains_itself}
+use Rattle.std.proofs.lemmas.List.Elements.{All-head, All-tail, All-weaker, All-contains_itself}
 use Rattle.std.proofs.lemmas.List.Sorted.{IsPermutation-sym, IsPermutation-map, All-permutation}
 use Rattle.taxi_base.specs.Airport.{Airport, IsWellFormed}
 use Rattle.taxi_base.specs.State.{State}
@@ -12,21 +12,22 @@ use Rattle.certificate.specs.declared.block.Block.{Block}
 use Rattle.certificate.specs.declared.block.Block.TheVariants.{Route, NoRoute, Batch}
 use Rattle.certificate.specs.declared.entries.Entry.{Entry}
 use Rattle.certificate.specs.declared.entries.Entry.TheVariants as entry
-use Rattle.certificate.specs.declared.rule.Rule.{Rule}
-use Rattle.certificate.specs.declared.rule.Rule.TheVariants as rule
 use Rattle.certificate.specs.declared.wish.Wish.{Wish}
 use Rattle.certificate.specs.Printable.{IsTold}
 use Rattle.certificate.specs.Batches.{wishes_of, wish_named, names_of, IsServedAs, IsServed, IsBatched, TellsBatch}
 use Rattle.certificate.specs.Refusals.{first_refusal}
 use Rattle.certificate.specs.Sought.{sought_wish}
-use Rattle.certificate.specs.Turns.{Turn, after_told, turns_of, after_turns}
-use Rattle.certificate.specs.Passes.{KeepsReply, KeepsTurn, Keeps, IsPassed}
+use Rattle.certificate.specs.Turns.{turns_of, after_turns}
+use Rattle.certificate.specs.Passes.{KeepsTurn, IsPassed}
 use Rattle.certificate.proofs.NewNames.{AreNew, AreDifferent, named-own}
 use Rattle.certificate.proofs.BatchNames.{batch-new}
 use Rattle.certificate.proofs.ServedLaws.{served-by, IsServed-told, IsServed-names}
 use Rattle.certificate.proofs.OrderLaws.{ends-permutation}
-use Rattle.certificate.proofs.SoughtPasses.{PassesSought, sought-keeps, as-passes}
-use Rattle.certificate.proofs.BatchTurns.{block_of, turns_from, turn_of, turns-cons, batch-turns}
+use Rattle.certificate.proofs.SoughtPasses.{PassesSought, as-passes}
+use Rattle.certificate.proofs.TurnLaws.{begins-before, keeps-all}
+use Rattle.certificate.proofs.EntryTurns.{block_of, turns_from}
+use Rattle.certificate.proofs.EntryPasses.{AreKept, none-kept, cons-kept}
+use Rattle.certificate.proofs.BatchTurns.{wish-sought, batch-turns}
 
 -- each wish of an order is what its name finds
 pub order-known : (wishes order : List Wish) → AreDifferent (names_of wishes) → IsPermutation wishes order → All (λ w. wish_named w.name wishes ≡ Some w) order
@@ -42,34 +43,23 @@ module _ (airport : Airport) (well : IsWellFormed airport) where
   entry-passes state wish (name, entry.NoRoute labels) after served = as-passes airport state well wish.name wish.class wish.request (NoRoute labels) after served.1
   entry-passes state wish (name, entry.Dropped) after served = absurd served
 
-  module _ (requests : List BatchRequest) (wishes : List Wish) (known : wishes_of airport requests ≡ Some wishes) where
-    -- each search keeps every rule, and the state after them is that afterwards
-    pub record AreKept (state : State) (entries : List (List ℕ × Entry)) (after : State) : Type 0 where
-      pub keeps : (r : Rule) → All (λ turn. KeepsTurn turn r) (turns_from airport requests wishes known state entries)
-      pub after_it : after_turns state (turns_from airport requests wishes known state entries) ≡ after
+  module _ (before : State) (requests : List BatchRequest) (wishes : List Wish) (known : wishes_of airport requests ≡ Some wishes) where
+    abbrev Kept : State → List (List ℕ × Entry) → State → Type 0
+    Kept = AreKept airport before (command.Batch requests)
 
     pub served-keeps : (state : State) (order : List Wish) (entries : List (List ℕ × Entry)) (after : State) → All (λ w. wish_named w.name wishes ≡ Some w) order
-        → IsServed airport state order entries after → AreKept state entries after
-    served-keeps state [] [] after own served = record { keeps = λ r. All-nil (λ turn. KeepsTurn turn r); after_it = sym served }
+        → IsServed airport state order entries after → Kept state entries after
+    served-keeps state [] [] after own served = none-kept airport before (command.Batch requests) state after served
     served-keeps state [] (told ∷ entries) after own served = absurd served
     served-keeps state (wish ∷ order) [] after own served = absurd served
     served-keeps state (wish ∷ order) (told ∷ entries) after own served =
-        let is = (IsServed-told airport state (wish ∷ order) (told ∷ entries) after served) in
+        let are = IsServed-told airport state (wish ∷ order) (told ∷ entries) after served in
         let by = served-by airport state wish told served.0 served.1 in
         let named : wish_named told.0 wishes ≡ Some wish =
         subst (λ (n : List ℕ). wish_named n wishes ≡ Some wish) (sym by.named) (All-head (λ w. wish_named w.name wishes ≡ Some w) wish order own) in
-        let passes = entry-passes state wish told served.0 served.1 in
-        let rest : AreKept (after_told (sought_wish airport state wish) (block_of told)) entries after =
-        subst (λ (s : State). AreKept s entries after) passes.after_it
-        (served-keeps served.0 order entries after (All-tail (λ w. wish_named w.name wishes ≡ Some w) wish order own) served.2) in
-        let turns = turns-cons airport requests wishes known state told entries wish (All-head IsTold told entries is) named in
-        let first : Turn = turn_of airport requests wishes known state wish told in
-        record {
-          keeps = λ r. subst (All (λ turn. KeepsTurn turn r)) (sym turns)
-              (All-cons (λ turn. KeepsTurn turn r) first (turns_from airport requests wishes known (after_told (sought_wish airport state wish) (block_of told)) entries)
-              (sought-keeps (sought_wish airport state wish) (block_of told) passes.form passes.walk passes.table r) (rest.keeps r));
-          after_it = ap (after_turns state) turns ∙ rest.after_it;
-        }
+        cons-kept airport before (command.Batch requests) state told entries (sought_wish airport state wish) (All-head IsTold told entries are)
+        (wish-sought airport before requests wishes known state told.0 wish named) served.0 after (entry-passes state wish told served.0 served.1)
+        (served-keeps served.0 order entries after (All-tail (λ w. wish_named w.name wishes ≡ Some w) wish order own) served.2)
 
   -- ---- the block
 
@@ -90,7 +80,12 @@ module _ (airport : Airport) (well : IsWellFormed airport) where
   pub batch-passes : (state : State) (line : List ℕ) (requests : List BatchRequest) (block : Block) (after : State) → command_of line ≡ Some (command.Batch requests)
       → first_refusal airport state (command.Batch requests) ≡ None → IsBatched airport state requests block after → IsPassed airport state line block after
   batch-passes state line requests block after read none done =
-      subst (λ (b : Block). IsPassed airport state line b after) (sym done.block_is) (record { keeps = keeps; after_it = sym (ap (after_turns state) turns ∙ kept.after_it) })
+      subst (λ (b : Block). IsPassed airport state line b after) (sym done.block_is) (record {
+        keeps = keeps-all airport state line (Batch done.total done.entries) (inr (rw (read, none) (batch-tells state requests block after done)))
+            (λ r. subst (All (λ turn. KeepsTurn turn r)) (sym turns) (kept.keeps r));
+        after_it = sym (ap (λ (s : State). after_turns s (turns_of airport state line (Batch done.total done.entries))) (begins-before airport state line (Batch done.total done.entries) tt)
+            ∙ ap (after_turns state) turns ∙ kept.after_it);
+      })
     where
       same : IsPermutation done.wishes done.sequenced.order
       same = ends-permutation airport state done.wishes done.wishes done.sequenced.order done.sequenced.ends_at
@@ -98,22 +93,8 @@ module _ (airport : Airport) (well : IsWellFormed airport) where
       new : AreNew state (names_of done.wishes)
       new = batch-new airport state requests done.wishes done.known none
 
-      kept : AreKept requests done.wishes done.known state done.entries after
-      kept = served-keeps requests done.wishes done.known state done.sequenced.order done.entries after (order-known done.wishes done.sequenced.order new.differ same) done.sequenced.served
+      kept : AreKept airport state (command.Batch requests) state done.entries after
+      kept = served-keeps state requests done.wishes done.known state done.sequenced.order done.entries after (order-known done.wishes done.sequenced.order new.differ same) done.sequenced.served
 
-      turns : turns_of airport state line (Batch done.total done.entries) ≡ turns_from airport requests done.wishes done.known state done.entries
+      turns : turns_of airport state line (Batch done.total done.entries) ≡ turns_from airport state (command.Batch requests) state done.entries
       turns = batch-turns airport state line requests done.total done.entries read
-
-      turns-keep : (r : Rule) → All (λ turn. KeepsTurn turn r) (turns_of airport state line (Batch done.total done.entries))
-      turns-keep r = subst (All (λ turn. KeepsTurn turn r)) (sym turns) (kept.keeps r)
-
-      reply : KeepsReply airport state line (Batch done.total done.entries)
-      reply = inr (rw (read, none) (batch-tells state requests block after done))
-
-      keeps : (r : Rule) → Keeps airport state line (Batch done.total done.entries) r
-      keeps rule.Reply = reply
-      keeps rule.Walk = turns-keep rule.Walk
-      keeps rule.Rows = turns-keep rule.Rows
-      keeps rule.Start = turns-keep rule.Start
-      keeps rule.Step = turns-keep rule.Step
-      keeps rule.Target = turns-keep rule.Target

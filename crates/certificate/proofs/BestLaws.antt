@@ -7,6 +7,7 @@ use Rattle.std.proofs.lemmas.List.Elements.{All-contains, All-nil}
 use Rattle.taxi_base.specs.declared.numbers.Class.{Class}
 use Rattle.taxi_base.specs.declared.numbers.Node.{Node}
 use Rattle.taxi_base.specs.declared.rows.Step.{Step}
+use Rattle.taxi_base.specs.declared.rows.LabelRow.{LabelRow}
 use Rattle.taxi_base.specs.declared.answers.Flight.{Flight}
 use Rattle.taxi_base.specs.declared.answers.Request.{Request}
 use Rattle.taxi_base.specs.declared.answers.Request.TheVariants as request
@@ -26,7 +27,7 @@ use Rattle.taxi_text.specs.declared.command.Command.TheVariants as command
 use Rattle.taxi_text.specs.Commands.{command_of}
 use Rattle.walk_labels.proofs.FitConditions.{among_fit}
 use Rattle.certificate.specs.declared.block.Block.{Block}
-use Rattle.certificate.specs.declared.block.Block.TheVariants.{Refused, Filed, Cancelled, Route, NoRoute, Windows, Occupancy, Timetable, Batch}
+use Rattle.certificate.specs.declared.block.Block.TheVariants.{Refused, Filed, Cancelled, Route, NoRoute, Windows, Occupancy, Timetable, Batch, Late}
 use Rattle.certificate.specs.declared.entries.Entry.{Entry}
 use Rattle.certificate.specs.declared.rule.Rule.{Rule}
 use Rattle.certificate.specs.declared.rule.Rule.TheVariants as rule
@@ -34,9 +35,10 @@ use Rattle.certificate.specs.Asked.{IsInGrammar, arrival_named, departure_named,
 use Rattle.certificate.specs.Refusals.{first_refusal}
 use Rattle.certificate.specs.CarriedOut.{routed_flight, IsCarriedOut}
 use Rattle.certificate.specs.Batches.{TellsBatch}
+use Rattle.certificate.specs.Repairs.{TellsRepair}
 use Rattle.certificate.specs.Sought.{UnderWay, Sought, sought_new, sought_again, sought_by_class, sought_any, sought_choice, sought_to_one, sought_of, sought_by, IsWalkOnFor}
 use Rattle.certificate.specs.Passes.{IsFormOf, IsAsAskedAlone, IsAsAsked, KeepsReply, KeepsSought, Keeps, IsPassed, IsBestTold, TellsBest}
-use Rattle.certificate.specs.Turns.{told_in, turns_of, after_turns}
+use Rattle.certificate.specs.Turns.{told_in, turns_of, begins_of, after_turns}
 use Rattle.certificate.proofs.FiledLaws.{and_then-some, map-some}
 use Rattle.certificate.proofs.FlightLaws.{flight_named-there}
 use Rattle.certificate.proofs.RefusalLaws.{HasRoom, arrival-has_room, departure-has_room, arrival_any-has_room, departure_any-has_room}
@@ -44,8 +46,9 @@ use Rattle.certificate.proofs.ReplyLaws.{due-kept}
 use Rattle.certificate.proofs.GrammarLaws.{command_of-in_grammar}
 use Rattle.certificate.proofs.ChoiceNames.{arrival_any-is, departure_any-is, one-met, met-reaches}
 use Rattle.certificate.proofs.BatchBest.{batch-best, batch-sound}
-use Rattle.certificate.proofs.RightSearches.{IsRight, no-floor, new-right, route-best, no_route-best}
-use Rattle.certificate.proofs.TurnLaws.{IsAlone, all-one, no_turns, no_turns-after, one_turn, keeps-one, is-after}
+use Rattle.certificate.proofs.LateBest.{late-best, late-sound}
+use Rattle.certificate.proofs.RightSearches.{IsSearched, IsRight, no-floor, new-right, route-best, no_route-best}
+use Rattle.certificate.proofs.TurnLaws.{IsAlone, IsNotLate, all-one, no_turns, no_turns-after, one_turn, keeps-one, is-after}
 
 module _ (airport : Airport) (state : State) (well : IsWellFormed airport) (sound : IsSound airport state) where
   -- ---- what is sought is sought rightly
@@ -59,9 +62,7 @@ module _ (airport : Airport) (state : State) (well : IsWellFormed airport) (soun
   -- with the node that it reaches
   any-right : (name : List ℕ) (class : Class) (choice : Choice) (node : Node) (others : List Node) → HasRoom state name → IsRight airport (sought_any airport state name class choice node others)
   any-right name class choice node others room = record {
-    fit = among_fit airport class (holds_in airport state) well;
-    way = tt;
-    floor = no-floor (request_for choice node);
+    searched = record { fit = among_fit airport class (holds_in airport state) well; way = tt; floor = no-floor (request_for choice node) };
     none_sound = sound;
     stays_sound = λ steps met.
         (let one = one-met (conditions_in airport class state) choice node others steps met in
@@ -102,9 +103,11 @@ module _ (airport : Airport) (state : State) (well : IsWellFormed airport) (soun
 
     again-right : (may_be_none : Bool) (r : Request) → ((steps : List Step) → IsWalkOnFor c r way steps → Meets c r steps) → IsRight airport (sought_again airport state name time may_be_none flight r)
     again-right may_be_none r meets = record {
-      fit = among_fit airport flight.class (holds_in airport (without flight.name state)) well;
-      way = (refl, Meets-IsFeasibleWalk c flight.request flight.steps met);
-      floor = no-floor r;
+      searched = record {
+        fit = among_fit airport flight.class (holds_in airport (without flight.name state)) well;
+        way = (refl, λ some. Meets-IsFeasibleWalk c flight.request flight.steps met);
+        floor = no-floor r;
+      };
       none_sound = sound;
       stays_sound = λ steps on. IsSound-with_route airport flight state r steps sound there (meets steps on);
     }
@@ -141,14 +144,16 @@ module _ (airport : Airport) (state : State) (well : IsWellFormed airport) (soun
   sought-right (command.ArrivalAny asked) s none e = choice-right asked.flight asked.class (arrival_any_named airport asked) s (arrival_any-has_room airport state asked none) e
   sought-right (command.DepartureAny asked) s none e = choice-right asked.flight asked.class (departure_any_named airport asked) s (departure_any-has_room airport state asked none) e
   sought-right (command.Batch requests) s none e = absurd (none-some s e)
+  sought-right (command.Late name time until) s none e = absurd (none-some s e)
 
-  -- ---- a route, or that there is none, answers a command that seeks a walk, and several a batch
+  -- ---- a route, or that there is none, answers a command that seeks a walk, and several a batch or a late flight
 
   -- whether a block tells of searches
   abbrev IsFound : Block → Type 0
   IsFound (Route name second steps labels) = ⊤
   IsFound (NoRoute labels) = ⊤
   IsFound (Batch total entries) = ⊤
+  IsFound (Late flight entries) = ⊤
   IsFound _ = ⊥
 
   -- what answers a command that seeks none tells of no search
@@ -172,6 +177,7 @@ module _ (airport : Airport) (state : State) (well : IsWellFormed airport) (soun
       choice-there asked.flight asked.class (departure_any_named airport asked) done.class done.choice done.class_known done.nodes_known
       (let is = departure_any-is airport asked done.choice done.nodes_known in omega (arith, ltb-true 0 (length asked.nodes) (and_parts _ _ spoken.3).0, is.as_many)) e
   plain-none (command.Batch requests) block after alone spoken none e done told = alone
+  plain-none (command.Late name time until) block after alone spoken none e done told = alone
 
   -- what is sought by a line that is answered so
   record IsSoughtBy (line : List ℕ) (block : Block) : Type 0 where
@@ -187,6 +193,18 @@ module _ (airport : Airport) (state : State) (well : IsWellFormed airport) (soun
     none : first_refusal airport state (command.Batch requests) ≡ None
     tells : TellsBatch airport requests block
 
+  -- and a late flight
+  record IsLateBy (line : List ℕ) (block : Block) : Type 0 where
+    name : List ℕ
+    time : ℕ
+    until : ℕ
+    read : command_of line ≡ Some (command.Late name time until)
+    none : first_refusal airport state (command.Late name time until) ≡ None
+    tells : TellsRepair airport state name time until block
+
+  abbrev IsAnsweredBy : List ℕ → Block → Type 0
+  IsAnsweredBy line block = IsSoughtBy line block ⊎ (IsBatchBy line block ⊎ IsLateBy line block)
+
   alone-there : (line : List ℕ) (command : Command) (block : Block) → command_of line ≡ Some command → first_refusal airport state command ≡ None → IsAlone command → IsFound block
       → IsAsAskedAlone airport state command block → IsSoughtBy line block
   alone-there line command block read none alone told asked = go (sought_of airport state command) refl asked where
@@ -195,46 +213,74 @@ module _ (airport : Airport) (state : State) (well : IsWellFormed airport) (soun
     go (Some s) e form = record { s = s; by = rw read e; form = form; right = sought-right command s none e }
 
   asked-there : (line : List ℕ) (command : Command) (block : Block) → command_of line ≡ Some command → first_refusal airport state command ≡ None → IsFound block
-      → IsAsAsked airport state command block → IsSoughtBy line block ⊎ IsBatchBy line block
-  asked-there line (command.Batch requests) block read none told tells = inr (record { requests = requests; read = read; none = none; tells = tells })
+      → IsAsAsked airport state command block → IsAnsweredBy line block
+  asked-there line (command.Batch requests) block read none told tells = inr (inl (record { requests = requests; read = read; none = none; tells = tells }))
+  asked-there line (command.Late name time until) block read none told tells =
+      inr (inr (record { name = name; time = time; until = until; read = read; none = none; tells = tells }))
   asked-there line command block read none told asked = inl (alone-there line command block read none tt told asked)
 
-  found-there : (line : List ℕ) (block : Block) → IsFound block → KeepsReply airport state line block → IsSoughtBy line block ⊎ IsBatchBy line block
+  found-there : (line : List ℕ) (block : Block) → IsFound block → KeepsReply airport state line block → IsAnsweredBy line block
   found-there line block told (inl memory) = absurd (subst IsFound memory.1 told)
   found-there line block told (inr form) = go (command_of line) refl form where
     go : (o : Option Command) → command_of line ≡ o
         → MatchOption o (block ≡ Refused refusal.BadLine) (λ command. MatchOption (first_refusal airport state command) (IsAsAsked airport state command block) (λ why. block ≡ Refused why))
-        → IsSoughtBy line block ⊎ IsBatchBy line block
+        → IsAnsweredBy line block
     go None read is = absurd (subst IsFound is told)
     go (Some command) read form = by_refusal (first_refusal airport state command) refl form where
       by_refusal : (o : Option Refusal) → first_refusal airport state command ≡ o → MatchOption o (IsAsAsked airport state command block) (λ why. block ≡ Refused why)
-          → IsSoughtBy line block ⊎ IsBatchBy line block
+          → IsAnsweredBy line block
       by_refusal None none asked = asked-there line command block read none told asked
       by_refusal (Some why) e is = absurd (subst IsFound is told)
 
-  -- of a block that is no batch
-  sought-there : (line : List ℕ) (block : Block) → IsFound block → ((requests : List BatchRequest) → TellsBatch airport requests block → ⊥) → KeepsReply airport state line block → IsSoughtBy line block
-  sought-there line block told no_batch reply = elim (found-there line block told reply) [
+  -- of a block with no entries
+  abbrev IsOfNone : Block → Type 0
+  IsOfNone block = ((requests : List BatchRequest) → TellsBatch airport requests block → ⊥)
+      × ((name : List ℕ) (time until : ℕ) → TellsRepair airport state name time until block → ⊥)
+
+  sought-there : (line : List ℕ) (block : Block) → IsFound block → IsOfNone block → KeepsReply airport state line block → IsSoughtBy line block
+  sought-there line block told none reply = elim (found-there line block told reply) [
     | inl there ↦ there
-    | inr batch ↦ absurd (no_batch batch.requests batch.tells)
+    | inr several ↦ elim several [
+      | inl batch ↦ absurd (none.0 batch.requests batch.tells)
+      | inr late ↦ absurd (none.1 late.name late.time late.until late.tells)
+    ]
   ]
 
-  -- of a batch
+  route-there : (line name : List ℕ) (second : ℕ) (steps : List Step) (labels : List LabelRow) → KeepsReply airport state line (Route name second steps labels)
+      → IsSoughtBy line (Route name second steps labels)
+  route-there line name second steps labels = sought-there line (Route name second steps labels) tt (λ requests tells. tells, λ name time until tells. absurd (cc tells.block_is))
+
+  no_route-there : (line : List ℕ) (labels : List LabelRow) → KeepsReply airport state line (NoRoute labels) → IsSoughtBy line (NoRoute labels)
+  no_route-there line labels = sought-there line (NoRoute labels) tt (λ requests tells. tells, λ name time until tells. absurd (cc tells.block_is))
+
+  -- of a batch, and of a late flight
   batch-there : (line : List ℕ) (total : ℕ) (entries : List (List ℕ × Entry)) → KeepsReply airport state line (Batch total entries) → IsBatchBy line (Batch total entries)
   batch-there line total entries reply = elim (found-there line (Batch total entries) tt reply) [
     | inl there ↦ absurd there.form
-    | inr batch ↦ batch
+    | inr several ↦ elim several [
+      | inl batch ↦ batch
+      | inr late ↦ absurd (cc late.tells.block_is)
+    ]
+  ]
+
+  late-there : (line flight : List ℕ) (entries : List (List ℕ × Entry)) → KeepsReply airport state line (Late flight entries) → IsLateBy line (Late flight entries)
+  late-there line flight entries reply = elim (found-there line (Late flight entries) tt reply) [
+    | inl there ↦ absurd there.form
+    | inr several ↦ elim several [
+      | inl batch ↦ absurd batch.tells
+      | inr late ↦ late
+    ]
   ]
 
   -- what is told of a search
-  told-best : (line : List ℕ) (block : Block) → IsSoughtBy line block → ((s : Sought) → IsRight airport s → ((r : Rule) → KeepsSought r s block) → IsBestTold s block) → ((r : Rule) → Keeps airport state line block r)
+  told-best : (line : List ℕ) (block : Block) → IsSoughtBy line block → ((s : Sought) → IsSearched s → ((r : Rule) → KeepsSought r s block) → IsBestTold s block) → ((r : Rule) → Keeps airport state line block r)
       → told_in block ≡ block ∷ [] → TellsBest airport state line block
   told-best line block there best keeps is =
       let turn = one_turn airport state line there.s there.by block there.form in
       record {
         all_told = ap (map (λ t. t.told)) turn ∙ sym is;
         best = subst (All (λ t. IsBestTold t.sought t.told)) (sym turn) (all-one (λ t. IsBestTold t.sought t.told) (record { sought = there.s; told = block })
-            (best there.s there.right (λ r. keeps-one airport state line there.s there.by block there.form r (keeps r))));
+            (best there.s there.right.searched (keeps-one airport state line there.s there.by block there.form keeps)));
       }
 
   -- a block that tells of no search
@@ -246,9 +292,8 @@ module _ (airport : Airport) (state : State) (well : IsWellFormed airport) (soun
   -- what passes tells the best walk that is sought, or that there is none
   pub passed-best : (line : List ℕ) (block : Block) (after : State) → IsPassed airport state line block after → TellsBest airport state line block
   passed-best line (Route name second steps labels) after passed =
-      told-best line (Route name second steps labels) (sought-there line (Route name second steps labels) tt (λ requests tells. tells) (passed.keeps rule.Reply)) (route-best airport name second steps labels) passed.keeps refl
-  passed-best line (NoRoute labels) after passed =
-      told-best line (NoRoute labels) (sought-there line (NoRoute labels) tt (λ requests tells. tells) (passed.keeps rule.Reply)) (no_route-best airport labels) passed.keeps refl
+      told-best line (Route name second steps labels) (route-there line name second steps labels (passed.keeps rule.Reply)) (route-best name second steps labels) passed.keeps refl
+  passed-best line (NoRoute labels) after passed = told-best line (NoRoute labels) (no_route-there line labels (passed.keeps rule.Reply)) (no_route-best labels) passed.keeps refl
   passed-best line (Refused why) after passed = plain-best line (Refused why) refl
   passed-best line (Filed name start end) after passed = plain-best line (Filed name start end) refl
   passed-best line (Cancelled name) after passed = plain-best line (Cancelled name) refl
@@ -258,27 +303,34 @@ module _ (airport : Airport) (state : State) (well : IsWellFormed airport) (soun
   passed-best line (Batch total entries) after passed =
       let batch = batch-there line total entries (passed.keeps rule.Reply) in
       batch-best airport well state sound line batch.requests batch.read batch.none total entries batch.tells after passed
+  passed-best line (Late flight entries) after passed =
+      let late = late-there line flight entries (passed.keeps rule.Reply) in
+      late-best airport well state sound line late.name late.time late.until late.read late.none (Late flight entries) late.tells after passed
 
-  plain-sound : (line : List ℕ) (block : Block) (after : State) → told_in block ≡ [] → after ≡ after_turns state (turns_of airport state line block) → IsSound airport after
-  plain-sound line block after none is = subst (IsSound airport) (sym (is ∙ no_turns-after airport state line block none)) sound
+  plain-sound : (line : List ℕ) (block : Block) (after : State) → told_in block ≡ [] → IsNotLate block → after ≡ after_turns (begins_of airport state line block) (turns_of airport state line block)
+      → IsSound airport after
+  plain-sound line block after none other is = subst (IsSound airport) (sym (is ∙ no_turns-after airport state line block none other)) sound
 
   -- and leaves the state sound
   pub passed-sound : (line : List ℕ) (block : Block) (after : State) → IsPassed airport state line block after → IsSound airport after
   passed-sound line (Route name second steps labels) after passed =
-      let there = sought-there line (Route name second steps labels) tt (λ requests tells. tells) (passed.keeps rule.Reply) in
-      let walk = keeps-one airport state line there.s there.by (Route name second steps labels) there.form rule.Walk (passed.keeps rule.Walk) in
+      let there = route-there line name second steps labels (passed.keeps rule.Reply) in
+      let walk = keeps-one airport state line there.s there.by (Route name second steps labels) there.form passed.keeps rule.Walk in
       let is = is-after airport state line there.s there.by (Route name second steps labels) after there.form passed.after_it in
       subst (IsSound airport) (sym is) (there.right.stays_sound steps walk.0)
   passed-sound line (NoRoute labels) after passed =
-      let there = sought-there line (NoRoute labels) tt (λ requests tells. tells) (passed.keeps rule.Reply) in
+      let there = no_route-there line labels (passed.keeps rule.Reply) in
       let is = is-after airport state line there.s there.by (NoRoute labels) after there.form passed.after_it in
       subst (IsSound airport) (sym is) there.right.none_sound
-  passed-sound line (Refused why) after passed = plain-sound line (Refused why) after refl passed.after_it
+  passed-sound line (Refused why) after passed = plain-sound line (Refused why) after refl tt passed.after_it
   passed-sound line (Filed name start end) after passed = (due-kept airport state sound line (Filed name start end) after passed.after_it).stays_sound
   passed-sound line (Cancelled name) after passed = (due-kept airport state sound line (Cancelled name) after passed.after_it).stays_sound
-  passed-sound line (Windows segment windows) after passed = plain-sound line (Windows segment windows) after refl passed.after_it
-  passed-sound line (Occupancy segment held) after passed = plain-sound line (Occupancy segment held) after refl passed.after_it
-  passed-sound line (Timetable flights) after passed = plain-sound line (Timetable flights) after refl passed.after_it
+  passed-sound line (Windows segment windows) after passed = plain-sound line (Windows segment windows) after refl tt passed.after_it
+  passed-sound line (Occupancy segment held) after passed = plain-sound line (Occupancy segment held) after refl tt passed.after_it
+  passed-sound line (Timetable flights) after passed = plain-sound line (Timetable flights) after refl tt passed.after_it
   passed-sound line (Batch total entries) after passed =
       let batch = batch-there line total entries (passed.keeps rule.Reply) in
       batch-sound airport well state sound line batch.requests batch.read batch.none total entries batch.tells after passed
+  passed-sound line (Late flight entries) after passed =
+      let late = late-there line flight entries (passed.keeps rule.Reply) in
+      late-sound airport well state sound line late.name late.time late.until late.read late.none (Late flight entries) late.tells after passed

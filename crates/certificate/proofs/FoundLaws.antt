@@ -17,10 +17,11 @@ use Rattle.taxi_base.specs.declared.answers.Request.TheVariants as request
 use Rattle.taxi_base.specs.Airport.{Airport, IsWellFormed, layout_of, arc_exists, segment_of, seconds}
 use Rattle.taxi_base.specs.Windows.{IsWindow}
 use Rattle.taxi_base.specs.Walks.{Conditions, IsFeasibleStep, IsFeasibleWalk, AtFirst, AtLast, IsRoute, LeavesNodeWithin, ReachesNodeWithin, Resumes, Meets, begin_of, end_of}
-use Rattle.taxi_base.specs.Labels.{window_of, IsStepOf, IsExitLabel, IsEntryLabel, precedes, IsTable, IsExitBefore, IsEntryAfter, AnswersArrival, AnswersDeparture}
+use Rattle.taxi_base.specs.Labels.{window_of, IsStepOf, IsExitLabel, IsEntryLabel, precedes, IsTable, IsExitBefore, IsEntryAfter, AnswersArrival, AnswersDeparture, AnswersDepartureAfter}
 use Rattle.taxi_base.specs.Choices.{ReachesOneOfWithin}
 use Rattle.taxi_base.specs.State.{IsFrozenWalk, step_begun, steps_done}
 use Rattle.taxi_base.specs.Again.{retargeted, IsBestFor, after_steps, AnswersAgain}
+use Rattle.taxi_base.specs.Late.{AnswersTurn}
 use Rattle.taxi_base.proofs.AirportLaws.{seconds-range, arc_exists-segment}
 use Rattle.taxi_base.proofs.AgainLaws.{again-best, frozen-meets}
 use Rattle.taxi_base.proofs.ListLaws.{AllPairs-first, AllPairs-rest}
@@ -255,6 +256,18 @@ module _ (c : Conditions) (well : IsWellFormed c.airport) (bounded : (s : Segmen
         (arrival-printable (Resumes begun time) target found.0 found.2)
   found_again-printable old time target (request.Departure from to asked queue) answer answers =
       departure-printable from (ReachesNodeWithin (layout_of c.airport) target (asked - queue) asked) answer answers
+
+  departure_after-printable : (from : Node) (Ends : Step → Type 0) (bound : ℕ) (answer : Found) → AnswersDepartureAfter c from Ends bound answer → ArePrintableLabels c.airport (labels_of answer)
+  departure_after-printable from Ends bound (found.Route steps labels) answers = departure-printable from Ends (found.Route steps labels) answers.1
+  departure_after-printable from Ends bound (found.NoRoute labels) answers =
+      table-printable (IsEntryAfter c Ends (Some bound)) (λ label entry. entry-fine Ends label entry.0) labels answers.1
+
+  -- and at the turn of a flight that is late or in the way
+  pub turn-printable : (request : Request) (kept : List Step) (time : ℕ) (answer : Found) → AnswersTurn c request kept time answer → ArePrintableLabels c.airport (labels_of answer)
+  turn-printable request.Filed kept time answer answers = absurd answers
+  turn-printable (request.Arrival from to asked hold) kept time answer answers = found_again-printable kept time to (request.Arrival from to asked hold) answer answers
+  turn-printable (request.Departure from to asked queue) kept time answer answers =
+      departure_after-printable from (ReachesNodeWithin (layout_of c.airport) to (asked - queue) asked) time answer answers
 
   -- ---- what is chosen has labels that can be printed
 

@@ -5,7 +5,7 @@ use Rattle.std.proofs.lemmas.Bool.{cond_both, cases_Bool}
 use Rattle.std.proofs.lemmas.List.Elements.{All-nil, All-cons}
 use Rattle.taxi_text.specs.declared.command.BatchRequest.{BatchRequest}
 use Rattle.taxi_text.specs.declared.command.Command.{Command}
-use Rattle.taxi_text.specs.declared.command.Command.TheVariants.{Cancel, Reroute, Divert, Windows, Occupancy, Timetable, Work, WorkDone, Batch}
+use Rattle.taxi_text.specs.declared.command.Command.TheVariants.{Cancel, Reroute, Divert, Windows, Occupancy, Timetable, Work, WorkDone, Batch, Late}
 use Rattle.taxi_text.specs.Words.{words_of}
 use Rattle.taxi_text.specs.Fields.{name_of, is_number, number_of}
 use Rattle.taxi_text.proofs.Numbers.{numerals, is_number-parts}
@@ -14,7 +14,7 @@ use Rattle.std.proofs.lemmas.Str.Parse.{digits_value_short}
 use Rattle.taxi_base.specs.Words.{is_name}
 use Rattle.certificate.specs.Printable.{IsShort, IsName}
 use Rattle.certificate.specs.Asked.{asked_in, IsAskedInGrammar, IsInGrammar}
-use Rattle.taxi_text.specs.Commands.{◌>>=◌, first_as, the_end, asked_of, steps_of, is_step_count, route_of, filed_steps_of, file_of, up_to, names_of, is_choice_count, choice_of, asked_any_of, request_of, requests_of, is_batch_count, batch_of, work_of, work_done_of, unlisted_of, command_of_words, command_of}
+use Rattle.taxi_text.specs.Commands.{◌>>=◌, first_as, the_end, asked_of, steps_of, is_step_count, route_of, filed_steps_of, file_of, up_to, names_of, is_choice_count, choice_of, asked_any_of, request_of, requests_of, is_batch_count, batch_of, late_of, windows_of, occupancy_of, timetable_of, work_of, work_done_of, unlisted_of, command_of_words, command_of}
 
 module _ {A B : Type 0} (P : B → Type 0) (f : A → Option B) where
   bind-each : (o : Option A) → ((x : A) → IfSome (f x) P) → IfSome (o >>= f) P
@@ -114,6 +114,38 @@ work-count verb words =
           )
     ]
 
+-- the forms that report
+reports-count : (verb : List ℕ) (words : List (List ℕ))
+    → IfSome (cond (bytes_eq verb (codes "windows")) (windows_of words) (cond (bytes_eq verb (codes "occupancy")) (occupancy_of words)
+    (cond (bytes_eq verb (codes "timetable")) (timetable_of words) (cond (bytes_eq verb (codes "work")) (work_of words) (cond (bytes_eq verb (codes "workdone")) (work_done_of words) None)))))
+    IsInGrammar
+reports-count verb words =
+    elim (cases_Bool (bytes_eq verb (codes "windows"))) [
+      | inl e ↦ rw e (bind-each IsInGrammar _ (first_as name_of words) (λ n. ended (Windows n) (drop 1 words) tt))
+      | inr e ↦ rw e (
+          elim (cases_Bool (bytes_eq verb (codes "occupancy"))) [
+            | inl e ↦ rw e (bind-each IsInGrammar _ (first_as name_of words) (λ n. ended (Occupancy n) (drop 1 words) tt))
+            | inr e ↦ rw e (
+                elim (cases_Bool (bytes_eq verb (codes "timetable"))) [
+                  | inl e ↦ rw e (ended Timetable words tt)
+                  | inr e ↦ rw e (work-count verb words)
+                ]
+                )
+          ]
+          )
+    ]
+
+-- that of a late flight, and those behind it
+late-count : (verb : List ℕ) (words : List (List ℕ))
+    → IfSome (cond (bytes_eq verb (codes "late")) (late_of words) (cond (bytes_eq verb (codes "windows")) (windows_of words) (cond (bytes_eq verb (codes "occupancy")) (occupancy_of words)
+    (cond (bytes_eq verb (codes "timetable")) (timetable_of words) (cond (bytes_eq verb (codes "work")) (work_of words) (cond (bytes_eq verb (codes "workdone")) (work_done_of words) None))))))
+    IsInGrammar
+late-count verb words =
+    elim (cases_Bool (bytes_eq verb (codes "late"))) [
+      | inl e ↦ rw e (bind-name _ words (λ n name. bind-number _ (drop 1 words) (λ t short. bind-number _ (drop 1 (drop 1 words)) (λ u few. ended (Late n t u) (drop 1 (drop 1 (drop 1 words))) (name, short, few)))))
+      | inr e ↦ rw e (reports-count verb words)
+    ]
+
 -- of what is asked for a new flight with a choice of nodes
 choice-count : (words : List (List ℕ)) → IfSome (choice_of words) (λ nodes. IsTrue (is_choice_count (length nodes)))
 choice-count words =
@@ -147,22 +179,7 @@ unlisted-count verb words =
                             elim (cases_Bool (bytes_eq verb (codes "divert"))) [
                               | inl e ↦ rw e (bind-name _ words (λ n name. bind-number _ (drop 1 words) (λ t short.
                                   bind-each IsInGrammar _ (first_as name_of (drop 1 (drop 1 words))) (λ m. ended (Divert n t m) (drop 1 (drop 1 (drop 1 words))) (name, short)))))
-                              | inr e ↦ rw e (
-                                  elim (cases_Bool (bytes_eq verb (codes "windows"))) [
-                                    | inl e ↦ rw e (bind-each IsInGrammar _ (first_as name_of words) (λ n. ended (Windows n) (drop 1 words) tt))
-                                    | inr e ↦ rw e (
-                                        elim (cases_Bool (bytes_eq verb (codes "occupancy"))) [
-                                          | inl e ↦ rw e (bind-each IsInGrammar _ (first_as name_of words) (λ n. ended (Occupancy n) (drop 1 words) tt))
-                                          | inr e ↦ rw e (
-                                              elim (cases_Bool (bytes_eq verb (codes "timetable"))) [
-                                                | inl e ↦ rw e (ended Timetable words tt)
-                                                | inr e ↦ rw e (work-count verb words)
-                                              ]
-                                              )
-                                        ]
-                                        )
-                                  ]
-                                  )
+                              | inr e ↦ rw e (late-count verb words)
                             ]
                             )
                       ]

@@ -33,6 +33,7 @@ use Rattle.certificate.specs.Replies.{refused, IsDueTo, IsDue}
 use Rattle.certificate.proofs.ChoiceNames.{arrival_any-is, departure_any-is}
 use Rattle.certificate.proofs.RoutedLaws.{one-some, one_first_step, AreSame, of_one, of_same, IsRoutedAs-same}
 use Rattle.certificate.proofs.OrderLaws.{IsBatched-same}
+use Rattle.certificate.proofs.LateTold.{IsRepairTold-same}
 
 module _ (airport : Airport) (well : IsWellFormed airport) (class : Class) (holds : List Hold) where
   abbrev c : Conditions
@@ -139,6 +140,7 @@ module _ (block : Block) (after : State) (other : Block) (others : State) where
     IsCarriedOut-same well (command.DepartureAny asked) a b =
         IsRoutedToOne-same well asked.flight asked.class (departure_any_named airport asked) (λ choice named. (departure_any-is airport asked choice named).exist) a b
     IsCarriedOut-same well (command.Batch requests) a b = IsBatched-same airport state well requests a b
+    IsCarriedOut-same well (command.Late name time until) a b = IsRepairTold-same airport state well name time until block after other others a b
 
     IsDueTo-same : IsWellFormed airport → (c : Command) → IsDueTo airport state c block after → IsDueTo airport state c other others → AreSame block after other others
     IsDueTo-same well c a b = go (first_refusal airport state c) a b where

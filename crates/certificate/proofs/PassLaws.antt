@@ -39,6 +39,7 @@ use Rattle.certificate.specs.Sought.{UnderWay, Sought, sought_new, sought_again,
 use Rattle.certificate.specs.Turns.{told_in, after_told}
 use Rattle.certificate.specs.Passes.{KeepsReply, IsAfter, IsPassed}
 use Rattle.certificate.proofs.BatchPasses.{batch-passes}
+use Rattle.certificate.proofs.LatePasses.{late-passes}
 use Rattle.certificate.proofs.SoughtPasses.{PassesSought, sought-keeps, passes-by, new-fit, as-passes}
 use Rattle.certificate.proofs.TurnLaws.{IsAlone, asked-alone, no_turns-after, plain-keeps, one-keeps, after-is}
 use Rattle.certificate.proofs.FlightLaws.{flight_named-there}
@@ -140,14 +141,14 @@ module _ (airport : Airport) (state : State) (well : IsWellFormed airport) (soun
             second,
           );
           table = subst (λ n. HasKeptTable c (search_of (retargeted flight.request target) [] (Some way)) (Some n) labels) second
-              (again-table c fit flight.steps walk time target flight.request before (found.Route steps labels) answers);
+              (again-table c fit flight.steps (λ some. walk) time target flight.request before (found.Route steps labels) answers);
           after_it = refl;
         })
     again-passes may_be_none target before (found.NoRoute labels) answers none block after of =
         passes-by (sought_again airport state name time may_be_none flight (retargeted flight.request target)) (record { block = NoRoute labels; after = state }) block after of (record {
           form = none labels refl;
           walk = tt;
-          table = again-table c fit flight.steps walk time target flight.request before (found.NoRoute labels) answers;
+          table = again-table c fit flight.steps (λ some. walk) time target flight.request before (found.NoRoute labels) answers;
           after_it = refl;
         })
 
@@ -165,12 +166,12 @@ module _ (airport : Airport) (state : State) (well : IsWellFormed airport) (soun
 
     may-before : (r : Request) → MayGoAgain time r flight.steps → IsBefore flight.steps time r
     may-before request.Filed may = tt
-    may-before (request.Arrival from to asked hold) may = omega (arith, may)
+    may-before (request.Arrival from to asked hold) may = λ some. omega (arith, may)
     may-before (request.Departure from to asked queue) may = tt
 
     ended-before : (r : Request) → time < end_of flight.steps → IsBefore flight.steps time r
     ended-before request.Filed before = tt
-    ended-before (request.Arrival from to asked hold) before = omega (arith, before)
+    ended-before (request.Arrival from to asked hold) before = λ some. omega (arith, before)
     ended-before (request.Departure from to asked queue) before = tt
 
   reroute-passes : (name : List ℕ) (time : ℕ) (block : Block) (after : State) → first_refusal airport state (command.Reroute name time) ≡ None
@@ -216,7 +217,7 @@ module _ (airport : Airport) (state : State) (well : IsWellFormed airport) (soun
     })
 
     refused-passes : (why : Refusal) → IsOf (refused state why) block after → KeepsReply airport state line block → IsPassed airport state line block after
-    refused-passes why of reply = plain-passes (Refused why) of.0 refl (of.1 ∙ sym (no_turns-after airport state line (Refused why) refl)) reply
+    refused-passes why of reply = plain-passes (Refused why) of.0 refl (of.1 ∙ sym (no_turns-after airport state line (Refused why) refl tt)) reply
 
     -- what tells of what is sought
     sought-passes : (c : Command) → IsAlone c → command_of line ≡ Some c → first_refusal airport state c ≡ None → (s : Sought) × (sought_of airport state c ≡ Some s) × PassesSought s block after
@@ -226,7 +227,7 @@ module _ (airport : Airport) (state : State) (well : IsWellFormed airport) (soun
         let by : sought_by airport state line ≡ Some p.0 = rw read p.1 in
         let reply : KeepsReply airport state line block = inr (rw (read, none) (asked-alone airport state c block alone (rw p.1 p.2.form))) in
         record {
-          keeps = λ r. one-keeps airport state line s by block p.2.form reply r (sought-keeps s block p.2.form p.2.walk p.2.table r);
+          keeps = one-keeps airport state line s by block p.2.form reply (sought-keeps s block p.2.form p.2.walk p.2.table);
           after_it = after-is airport state line s by block after p.2.form p.2.after_it;
         }
 
@@ -247,11 +248,11 @@ module _ (airport : Airport) (state : State) (well : IsWellFormed airport) (soun
         sought-passes (command.Divert flight time node) tt read none (divert-passes flight time node block after none done)
     carried-passes (command.Windows segment) spoken read none due done =
         plain-passes (Windows done.segment (windows_among airport state done.segment)) done.reply.0 refl
-        (done.reply.1 ∙ sym (no_turns-after airport state line (Windows done.segment (windows_among airport state done.segment)) refl)) (inr (rw (read, none) (after, done)))
+        (done.reply.1 ∙ sym (no_turns-after airport state line (Windows done.segment (windows_among airport state done.segment)) refl tt)) (inr (rw (read, none) (after, done)))
     carried-passes (command.Occupancy segment) spoken read none due done =
-        plain-passes (Occupancy done.segment done.rows) done.reply.0 refl (done.reply.1 ∙ sym (no_turns-after airport state line (Occupancy done.segment done.rows) refl)) (inr (rw (read, none) (after, done)))
+        plain-passes (Occupancy done.segment done.rows) done.reply.0 refl (done.reply.1 ∙ sym (no_turns-after airport state line (Occupancy done.segment done.rows) refl tt)) (inr (rw (read, none) (after, done)))
     carried-passes command.Timetable spoken read none due done =
-        plain-passes (Timetable (timetable_rows state)) done.0 refl (done.1 ∙ sym (no_turns-after airport state line (Timetable (timetable_rows state)) refl)) (inr (rw read (after, done)))
+        plain-passes (Timetable (timetable_rows state)) done.0 refl (done.1 ∙ sym (no_turns-after airport state line (Timetable (timetable_rows state)) refl tt)) (inr (rw read (after, done)))
     carried-passes (command.Work shut) spoken read none due done =
         plain-passes (Filed shut.name shut.from shut.until) done.reply.0 refl
         (subst (λ b. IsDue airport state line b after) done.reply.0 due) (inr (rw (read, none) (after, done)))
@@ -266,6 +267,7 @@ module _ (airport : Airport) (state : State) (well : IsWellFormed airport) (soun
         (choice-passes asked.flight asked.class (departure_any_named airport asked) block after
         (λ choice named. some-nodes (length asked.nodes) choice spoken.3 (departure_any-is airport asked choice named)) done)
     carried-passes (command.Batch requests) spoken read none due done = batch-passes airport well state line requests block after read none done
+    carried-passes (command.Late name time until) spoken read none due done = late-passes airport state well sound line name time until block after read none done
 
     pub due-passes : IsDue airport state line block after → IsPassed airport state line block after
     unfolding IsDue

@@ -23,10 +23,12 @@ use Rattle.taxi_base.specs.declared.answers.Refusal.TheVariants as refusal
 use Rattle.taxi_base.specs.Airport.{Airport, IsWellFormed, segment_of, seconds, class_named, node_named, segment_named, is_runway, is_stand}
 use Rattle.taxi_base.specs.Windows.{Hold}
 use Rattle.taxi_base.specs.Walks.{Conditions, free_among, hold_under, IsFeasibleWalk, Meets, begin_of, end_of}
-use Rattle.taxi_base.specs.State.{State, flight_named, with_flight, with_route, without, party_hold, holds_in, conditions_of, IsSound}
+use Rattle.taxi_base.specs.State.{State, flight_named, with_flight, with_route, without, party_hold, holds_in, conditions_of, step_begun, steps_done, IsSound}
 use Rattle.taxi_base.specs.Again.{retargeted, IsTarget, AnswersAgain}
 use Rattle.taxi_base.specs.Faults.{first_taken, holder_at, taken_by, conditions_in, may_follow, cause_of, fault_after, route_fault, taken_cause, hold_cause, hold_fault}
+use Rattle.taxi_base.proofs.AgainLaws.{begun-parts}
 use Rattle.taxi_base.proofs.FaultLaws.{first_taken-Some, route_fault-None}
+use Rattle.taxi_base.proofs.KeptSteps.{seam}
 use Rattle.taxi_base.proofs.WalkLaws.{conditions_among-bounded, Meets-IsFeasibleWalk}
 use Rattle.taxi_text.specs.declared.command.BatchRequest.{BatchRequest}
 use Rattle.taxi_text.specs.declared.command.BatchRequest.TheVariants as requested
@@ -36,12 +38,12 @@ use Rattle.taxi_text.specs.declared.command.Command.{Command}
 use Rattle.taxi_text.specs.declared.command.Command.TheVariants as command
 use Rattle.taxi_text.specs.Commands.{command_of}
 use Rattle.certificate.specs.declared.block.Block.{Block}
-use Rattle.certificate.specs.declared.block.Block.TheVariants.{Refused, Filed, Cancelled, Route, NoRoute, Windows, Occupancy, Timetable, Batch}
+use Rattle.certificate.specs.declared.block.Block.TheVariants.{Refused, Filed, Cancelled, Route, NoRoute, Windows, Occupancy, Timetable, Batch, Late}
 use Rattle.certificate.specs.declared.entries.Entry.{Entry}
 use Rattle.certificate.specs.declared.entries.Entry.TheVariants as entry
 use Rattle.certificate.specs.Printable.{IsShort, IsName, IsPrintableCause, IsPrintableRefusal, IsPrintableWindow, IsPrintableEntry, IsPrintable}
 use Rattle.certificate.specs.Asked.{route_filed, party_of, IsInGrammar, Choice, request_for, arrival_any_named, departure_any_named, AnswersChoice}
-use Rattle.certificate.specs.Refusals.{refused_if, first_of, of_flight, not_routed, not_arrival, already_done, already_moving, in_force, unknown_class, unknown_node, unknown_node_of, not_all, no_runway, no_stand, unknown_segment, unknown_arc, not_in_force, not_at_work, full, step_fails, hold_fails, is_filed, is_departure, full_with, in_force_or_before, tests_of_requests, first_refusal}
+use Rattle.certificate.specs.Refusals.{refused_if, first_of, of_flight, not_routed, not_arrival, already_done, already_moving, not_moving, not_late, past_end, in_force, unknown_class, unknown_node, unknown_node_of, not_all, no_runway, no_stand, unknown_segment, unknown_arc, not_in_force, not_at_work, full, step_fails, hold_fails, is_filed, is_departure, full_with, in_force_or_before, tests_of_requests, first_refusal}
 use Rattle.certificate.specs.CarriedOut.{IsOf, filed_reply, IsFiled, second_of, found_reply, routed_flight, chosen_reply, IsRoutedToOne, IsRoutedAgain, shut_reply, opened_reply, cancelled_reply, windows_among, windows_reply, occupancy_reply, timetable_reply, IsCarriedOut}
 use Rattle.certificate.specs.Replies.{refused, IsDueTo, IsDue, HaveNames, IsRouteIn, DoesEntry, DoInTurn, DoesAsItSays}
 use Rattle.certificate.proofs.FiledLaws.{filed_steps-length, filed_steps-arcs, filed_steps-joined}
@@ -49,6 +51,7 @@ use Rattle.certificate.proofs.FlightLaws.{flight_named-there}
 use Rattle.certificate.proofs.HolderNames.{holder_at-name, with_flight-names, with_party-names, without-names}
 use Rattle.certificate.proofs.FoundLaws.{walk-end, walk-begin, found_again-meets, found_again-printable, chosen-printable}
 use Rattle.certificate.proofs.BatchPrintable.{batch-printable}
+use Rattle.certificate.proofs.LatePrintable.{late-printable, repair-names}
 use Rattle.certificate.proofs.RoutePrintable.{number, printable-by, route-printable, routed-printable}
 use Rattle.certificate.proofs.ChoiceNames.{chosen-meets}
 use Rattle.certificate.proofs.GrammarLaws.{command_of-in_grammar}
@@ -156,6 +159,22 @@ module _ (airport : Airport) (state : State) (well : IsWellFormed airport) (name
       flight-fine name (already_moving time) (λ flight walk.
       if-fine _ (refusal.AlreadyMoving (begin_of flight.steps)) (number airport well (begin_of flight.steps) (walk-begin (conditions_of airport state flight) flight.steps walk)))
 
+  -- of a flight that is late
+  begun-fine : (name : List ℕ) (time : ℕ) → IsFine (of_flight state name (not_moving time))
+  begun-fine name time =
+      flight-fine name (not_moving time) (λ flight walk.
+      if-fine _ (refusal.NotMoving (begin_of flight.steps)) (number airport well (begin_of flight.steps) (walk-begin (conditions_of airport state flight) flight.steps walk)))
+
+  late-fine : (name : List ℕ) (time until : ℕ) → IsFine (of_flight state name (not_late time until))
+  late-fine name time until = flight-fine name (not_late time until) (λ flight walk. go flight walk (step_begun time flight.steps) refl) where
+    go : (flight : Flight) → IsFeasibleWalk (conditions_of airport state flight) flight.steps → (o : Option Step) → step_begun time flight.steps ≡ o
+        → IsFine (option_and_then (λ begun. refused_if (nat_le until begun.leave) (refusal.NotLate begun.leave)) o)
+    go flight walk None e = tt
+    go flight walk (Some begun) e =
+        let c : Conditions = conditions_of airport state flight in
+        let parts = begun-parts time flight.steps begun e in
+        if-fine _ (refusal.NotLate begun.leave) (number airport well begun.leave (seam c (steps_done time flight.steps) begun parts.0 (subst (IsFeasibleWalk c) parts.1 walk)).in_time)
+
   route-fine : (class : Class) (steps : List Step) → length steps ≤ 256 → IsFine (option_map (λ fault. refusal.Step fault) (route_fault airport class state steps))
   unfolding route_fault
   route-fine class steps few = of_fault (fault_after airport class state 1 None steps) (fault-printable class 1 None steps) where
@@ -236,6 +255,11 @@ module _ (airport : Airport) (state : State) (well : IsWellFormed airport) (name
       first-fine (in_force state asked.flight) _ (if-fine _ _ tt) (first-fine (unknown_class airport asked.class) _ (if-fine _ _ tt) (first-fine (unknown_node airport asked.from) _ (if-fine _ _ tt)
       (first-fine (unknown_node_of airport asked.nodes) _ (if-fine _ _ tt) (first-fine (no_stand airport asked.from) _ (if-fine _ _ tt) (first-fine (not_all is_runway airport asked.nodes) _ (if-fine _ _ tt)
       (first-fine (full state) [] (if-fine _ _ tt) tt))))))
+  refusal-fine (command.Late name time until) spoken =
+      first-fine (not_in_force state name) _ (if-fine _ _ tt) (first-fine (of_flight state name not_routed) _ (routed-fine name)
+      (first-fine (of_flight state name (already_done time)) _ (done-fine name time) (first-fine (of_flight state name (not_moving time)) _ (begun-fine name time)
+      (first-fine (of_flight state name (not_late time until)) _ (late-fine name time until)
+      (first-fine (past_end airport until) [] (if-fine _ _ (number airport well airport.horizon (omega arith))) tt)))))
   refusal-fine (command.Batch requests) spoken = requests-fine [] requests (full_with (length requests) state ∷ []) (first-fine (full_with (length requests) state) [] (if-fine _ _ tt) tt)
 
   -- ---- what is carried out
@@ -330,6 +354,7 @@ module _ (airport : Airport) (state : State) (well : IsWellFormed airport) (name
   carried_out-printable (command.DepartureAny asked) block after spoken none done =
       chosen-has_text asked.flight asked.class (departure_any_named airport asked) block after spoken.0 done
   carried_out-printable (command.Batch requests) block after spoken none done = batch-printable airport well state requests block after spoken.0 spoken.1 done
+  carried_out-printable (command.Late name time until) block after spoken none done = late-printable airport well state names sound name time until block after spoken.0 none done
 
   of-refusal : (why : Refusal) (block : Block) (after : State) → IsOf (refused state why) block after → IsPrintableRefusal why → IsPrintable airport block
   of-refusal why block after of fine = printable-by airport (refused state why) block after of fine
@@ -376,6 +401,7 @@ says-names airport state (Windows segment windows) after names says fine = subst
 says-names airport state (Occupancy segment held) after names says fine = subst HaveNames (sym says.1) names
 says-names airport state (Timetable flights) after names says fine = subst HaveNames (sym says.1) names
 says-names airport state (Refused why) after names says fine = subst HaveNames (sym says) names
+says-names airport state (Late flight entries) after names says fine = repair-names airport state entries after names says fine.1.1
 says-names airport state (Batch total entries) after names says fine = go state entries names says fine.1.1 where
   go : (state : State) (entries : List (List ℕ × Entry)) → HaveNames state → DoInTurn airport state entries after → All (IsPrintableEntry airport) entries → HaveNames after
   go state [] names says fine = subst HaveNames (sym says) names

@@ -45,6 +45,7 @@ use Rattle.certificate.proofs.FoundLaws.{found_again-meets, second-retargeted}
 use Rattle.certificate.proofs.NewNames.{new-permutation}
 use Rattle.certificate.proofs.BatchNames.{batch-new}
 use Rattle.certificate.proofs.ServedKept.{served-kept}
+use Rattle.certificate.proofs.LateKept.{late-kept}
 use Rattle.certificate.proofs.OrderLaws.{ends-permutation}
 use Rattle.certificate.proofs.RoutedKept.{IsKept, kept-by, routed-kept}
 use Rattle.certificate.proofs.PrintableLaws.{due-printable, says-names}
@@ -169,6 +170,7 @@ module _ (airport : Airport) (state : State) (sound : IsSound airport state) whe
   carried_out-kept (command.DepartureAny asked) block after spoken none done =
       chosen-kept asked.flight asked.class (departure_any_named airport asked) block after (departure_any-has_room airport state asked none) done
   carried_out-kept (command.Batch requests) block after spoken none done = batch-kept requests block after none done
+  carried_out-kept (command.Late name time until) block after spoken none done = late-kept airport state sound name time until block after none done
 
   of-refusal : (why : Refusal) (block : Block) (after : State) → IsOf (refused state why) block after → IsKept airport state block after
   of-refusal why block after of = kept-by airport state (refused state why) block after of (refused-kept why)
@@ -238,6 +240,7 @@ needs_no_memory-or (Some (command.WorkDone name)) = inl tt
 needs_no_memory-or (Some (command.ArrivalAny asked)) = inr (λ needs. needs)
 needs_no_memory-or (Some (command.DepartureAny asked)) = inr (λ needs. needs)
 needs_no_memory-or (Some (command.Batch requests)) = inr (λ needs. needs)
+needs_no_memory-or (Some (command.Late name time until)) = inr (λ needs. needs)
 
 cancel-due : (airport : Airport) (state : State) (name : List ℕ) → (reply : Reply) × IsDueTo airport state (command.Cancel name) reply.block reply.after
 cancel-due airport state name = go (is_in_force name state) refl where
@@ -279,6 +282,7 @@ reply-is_there airport state line = go (command_of line) refl where
     by_due (Some (command.ArrivalAny asked)) e needs = absurd needs
     by_due (Some (command.DepartureAny asked)) e needs = absurd needs
     by_due (Some (command.Batch requests)) e needs = absurd needs
+    by_due (Some (command.Late name time until)) e needs = absurd needs
     by_due (Some (command.WorkDone name)) e needs =
         let due = work_done-due airport state name in
         (due.0, as_due due.0.block due.0.after (due-command airport state line (command.WorkDone name) due.0.block due.0.after e due.1))

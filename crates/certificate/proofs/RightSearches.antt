@@ -20,12 +20,15 @@ use Rattle.certificate.proofs.RefusalLaws.{HasRoom}
 use Rattle.certificate.proofs.SoughtPasses.{route-table, no_route-table}
 use Rattle.certificate.proofs.TablesKept.{IsUnderWay, HasFloorOf, table-best, table-none}
 
--- walks can be searched, the flight under way is on a feasible walk, only a departure has a floor, and with a walk that is sought,
--- or with none, the state stays sound
-pub record IsRight (airport : Airport) (s : Sought) : Type 0 where
+-- walks can be searched, what a flight goes on from is a feasible walk, and only a departure has a floor
+pub record IsSearched (s : Sought) : Type 0 where
   pub fit : AreFit s.conditions
   pub way : IsUnderWay s.conditions s.others s.under_way
   pub floor : HasFloorOf s.request s.floor
+
+-- and with a walk that is sought, or with none, the state stays sound
+pub record IsRight (airport : Airport) (s : Sought) : Type 0 where
+  pub searched : IsSearched s
   pub stays_sound : (steps : List Step) → IsWalkFor s steps → IsSound airport (s.with_steps steps)
   pub none_sound : IsSound airport s.with_none
 
@@ -37,24 +40,22 @@ no-floor (request.Departure from to asked queue) = tt
 module _ (airport : Airport) (state : State) (well : IsWellFormed airport) (sound : IsSound airport state) where
   pub new-right : (name : List ℕ) (class : Class) (request : Request) → HasRoom state name → IsRight airport (sought_new airport state name class request)
   new-right name class request room = record {
-    fit = among_fit airport class (holds_in airport state) well;
-    way = tt;
-    floor = no-floor request;
+    searched = record { fit = among_fit airport class (holds_in airport state) well; way = tt; floor = no-floor request };
     stays_sound = λ steps met. IsSound-with_flight airport (routed_flight name class request steps) state sound room.room room.absent met;
     none_sound = sound;
   }
 
 -- ---- what is told is the best
 
-pub route-best : (airport : Airport) (name : List ℕ) (second : ℕ) (steps : List Step) (labels : List LabelRow) (s : Sought) → IsRight airport s → ((r : Rule) → KeepsSought r s (Route name second steps labels))
+pub route-best : (name : List ℕ) (second : ℕ) (steps : List Step) (labels : List LabelRow) (s : Sought) → IsSearched s → ((r : Rule) → KeepsSought r s (Route name second steps labels))
     → IsBestTold s (Route name second steps labels)
-route-best airport name second steps labels s right rules =
+route-best name second steps labels s searched rules =
     let walk = rules rule.Walk in (
-      table-best s.conditions right.fit s.request s.others s.under_way right.way s.floor steps labels walk.0
+      table-best s.conditions searched.fit s.request s.others s.under_way searched.way s.floor steps labels walk.0
           (route-table s name (second_of s.request steps) steps labels (λ r. subst (λ n. KeepsSought r s (Route name n steps labels)) (sym walk.1) (rules r))),
       walk.1,
     )
 
-pub no_route-best : (airport : Airport) (labels : List LabelRow) (s : Sought) → IsRight airport s → ((r : Rule) → KeepsSought r s (NoRoute labels)) → IsBestTold s (NoRoute labels)
-no_route-best airport labels s right rules =
-    table-none s.conditions right.fit s.request s.others s.under_way right.way s.floor right.floor labels (no_route-table s labels rules)
+pub no_route-best : (labels : List LabelRow) (s : Sought) → IsSearched s → ((r : Rule) → KeepsSought r s (NoRoute labels)) → IsBestTold s (NoRoute labels)
+no_route-best labels s searched rules =
+    table-none s.conditions searched.fit s.request s.others s.under_way searched.way s.floor searched.floor labels (no_route-table s labels rules)

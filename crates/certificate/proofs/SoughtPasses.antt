@@ -13,7 +13,7 @@ use Rattle.taxi_base.specs.Faults.{conditions_in}
 use Rattle.walk_labels.specs.Places.{AreFit}
 use Rattle.walk_labels.proofs.FitConditions.{among_fit}
 use Rattle.certificate.specs.declared.block.Block.{Block}
-use Rattle.certificate.specs.declared.block.Block.TheVariants.{Refused, Filed, Cancelled, Route, NoRoute, Windows, Occupancy, Timetable, Batch}
+use Rattle.certificate.specs.declared.block.Block.TheVariants.{Refused, Filed, Cancelled, Route, NoRoute, Windows, Occupancy, Timetable, Batch, Late}
 use Rattle.certificate.specs.declared.rule.Rule.{Rule}
 use Rattle.certificate.specs.declared.rule.Rule.TheVariants as rule
 use Rattle.certificate.specs.Asked.{AnswersRequest}
@@ -84,6 +84,10 @@ sought-keeps s (Batch total entries) form walk table rule.Rows = absurd form
 sought-keeps s (Batch total entries) form walk table rule.Start = absurd form
 sought-keeps s (Batch total entries) form walk table rule.Step = absurd form
 sought-keeps s (Batch total entries) form walk table rule.Target = absurd form
+sought-keeps s (Late flight entries) form walk table rule.Rows = absurd form
+sought-keeps s (Late flight entries) form walk table rule.Start = absurd form
+sought-keeps s (Late flight entries) form walk table rule.Step = absurd form
+sought-keeps s (Late flight entries) form walk table rule.Target = absurd form
 
 pub route-table : (s : Sought) (name : List ℕ) (second : ℕ) (steps : List Step) (labels : List LabelRow) → ((r : Rule) → KeepsSought r s (Route name second steps labels))
     → HasKeptTable s.conditions (search_of s.request s.others s.under_way) (Some second) labels

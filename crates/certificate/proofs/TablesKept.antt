@@ -1,5 +1,5 @@
 -- The table of what is found keeps the rules, and a table that keeps them leaves no walk out.
-use Rattle.std.proofs.Common.{◌≡◌, ℕ, ◌+◌, ◌-◌, ◌<◌, ◌≤◌, max, List, [], ◌∷◌, Option, Some, None, refl, sym, subst, arith}
+use Rattle.std.proofs.Common.{◌≡◌, ℕ, ◌+◌, ◌-◌, ◌<◌, ◌≤◌, max, List, [], ◌∷◌, length, Option, Some, None, refl, sym, subst, arith}
 use Rattle.std.specs.Prelude.{MatchOption, ⊤}
 use Rattle.std.specs.Option.{option_map_or}
 use Rattle.std.proofs.lemmas.Option.{none-some}
@@ -15,13 +15,14 @@ use Rattle.taxi_base.specs.Walks.{Conditions, IsFeasibleWalk, IsRoute, ReachesNo
 use Rattle.taxi_base.specs.Labels.{AnswersArrival}
 use Rattle.taxi_base.specs.State.{step_begun, steps_done, IsResumed}
 use Rattle.taxi_base.specs.Again.{retargeted, IsBestFor, after_steps, AnswersAgain}
+use Rattle.taxi_base.specs.Late.{AnswersTurn}
 use Rattle.walk_labels.specs.Places.{AreFit}
 use Rattle.walk_labels.specs.Requests.{Beginning}
 use Rattle.walk_labels.specs.Requests.Beginning.{at_node, resuming}
 use Rattle.walk_labels.specs.Rules.{IsStartBy, PassesForward, PassesArrival}
 use Rattle.walk_labels.specs.BackwardRules.{IsFinishAt, PassesBackward}
 use Rattle.walk_labels.proofs.CheckedArrivals.{begun_table_passes, begun_answer_passes, begun_none_sooner, begun_none_at_all, resumed_none_sooner, resumed_none_at_all}
-use Rattle.walk_labels.proofs.CheckedDepartures.{ended_table_passes, node_answer_passes, ended_none_later, ended_none_at_all}
+use Rattle.walk_labels.proofs.CheckedDepartures.{ended_table_passes, node_answer_passes, node_answer_after_passes, ended_none_later, ended_none_at_all}
 use Rattle.walk_labels.proofs.FrozenWalks.{step_begun_made, begun_leaves}
 use Rattle.taxi_base.specs.declared.answers.Chosen.{Chosen}
 use Rattle.taxi_base.specs.declared.answers.Chosen.TheVariants as chosen
@@ -30,6 +31,7 @@ use Rattle.taxi_base.proofs.ChoiceLaws.{chosen-earliest, chosen-latest}
 use Rattle.taxi_base.proofs.AgainLaws.{end_of-back}
 use Rattle.certificate.specs.Asked.{AnswersRequest, Choice, arrival_any, departure_any, nodes_of, request_for, AnswersChoice}
 use Rattle.certificate.specs.CarriedOut.{second_of}
+use Rattle.certificate.specs.Repairs.{way_sought, floor_sought}
 use Rattle.certificate.specs.Sought.{UnderWay, Search, onward, backward, search_of, DoesAsAsked}
 use Rattle.certificate.specs.TableRules.{KeepsTable}
 use Rattle.certificate.proofs.FoundLaws.{labels_of, labels_of_chosen}
@@ -76,6 +78,10 @@ abbrev pub bound_of : Request → Found → Option ℕ
 bound_of request (found.Route steps labels) = Some (second_of request steps)
 bound_of request (found.NoRoute labels) = None
 
+abbrev pub bound_at_turn : Request → ℕ → Found → Option ℕ
+bound_at_turn request time (found.Route steps labels) = Some (second_of request steps)
+bound_at_turn request time (found.NoRoute labels) = floor_sought request time
+
 abbrev pub bound_of_chosen : Choice → Chosen → Option ℕ
 bound_of_chosen choice (chosen.Route to steps labels) = Some (second_of (request_for choice to) steps)
 bound_of_chosen choice (chosen.NoRoute labels) = None
@@ -83,11 +89,15 @@ bound_of_chosen choice (chosen.NoRoute labels) = None
 abbrev pub HasKeptTable : Conditions → Option Search → Option ℕ → List LabelRow → Type 0
 HasKeptTable c search bound labels = MatchOption search ⊥ (λ s. KeepsTable c s bound labels)
 
--- an arrival has not ended before a time
+-- an arrival that goes on from some steps has not ended before a time
 abbrev pub IsBefore : List Step → ℕ → Request → Type 0
 IsBefore old time request.Filed = ⊤
-IsBefore old time (request.Arrival from to asked hold) = time ≤ end_of old
+IsBefore old time (request.Arrival from to asked hold) = 0 < length old → time ≤ end_of old
 IsBefore old time (request.Departure from to asked queue) = ⊤
+
+begun-some : (time : ℕ) (old : List Step) (begun : Step) → step_begun time old ≡ Some begun → 0 < length old
+begun-some time [] begun e = absurd (none-some begun e)
+begun-some time (s ∷ old) begun e = omega arith
 
 module _ (c : Conditions) (fit : AreFit c) where
   pub new-table : (request : Request) (answer : Found) → AnswersRequest c request answer → HasKeptTable c (search_of request [] None) (bound_of request answer) (labels_of answer)
@@ -131,9 +141,9 @@ module _ (c : Conditions) (fit : AreFit c) where
       subst (λ (ns : List Node). KeepsTable c (backward from ns (time - queue) time) (bound_of_chosen (departure_any from to time queue) answer) (labels_of_chosen answer)) are
       (departure-choice-table from to time queue answer answers)
 
-  module _ (old : List Step) (walk : IsFeasibleWalk c old) (time : ℕ) where
-    -- of an arrival under way
-    module _ (before : time ≤ end_of old) (from target : Node) (asked hold : ℕ) where
+  module _ (old : List Step) (walk : 0 < length old → IsFeasibleWalk c old) (time : ℕ) where
+    -- of an arrival under way, or that goes on from no step
+    module _ (before : 0 < length old → time ≤ end_of old) (from target : Node) (asked hold : ℕ) where
       abbrev at_start : Beginning
       at_start = at_node from (max asked time) (asked + hold)
 
@@ -141,8 +151,11 @@ module _ (c : Conditions) (fit : AreFit c) where
           → AnswersArrival c (Resumes begun time) target rest → KeepsTable c (onward (resuming begun time) (target ∷ [])) (bound_of (request.Arrival from target asked hold) answer) (labels_of answer)
       rest-table begun is answer rest e answers =
           subst (λ a. KeepsTable c (onward (resuming begun time) (target ∷ [])) (bound_of (request.Arrival from target asked hold) a) (labels_of a)) (sym e)
-          (go rest answers (begun_answer_passes c fit (resuming begun time) (step_begun_made c old walk time begun is) (begun_leaves c fit time begun old walk is before) target rest answers))
+          (go rest answers (begun_answer_passes c fit (resuming begun time) (step_begun_made c old (walk some) time begun is) (begun_leaves c fit time begun old (walk some) is (before some)) target rest answers))
         where
+          some : 0 < length old
+          some = begun-some time old begun is
+
           go : (rest : Found) → AnswersArrival c (Resumes begun time) target rest → PassesArrival c (IsStartBy c (resuming begun time)) (target ∷ []) rest
               → KeepsTable c (onward (resuming begun time) (target ∷ [])) (bound_of (request.Arrival from target asked hold) (after_steps (steps_done time old) rest)) (labels_of (after_steps (steps_done time old) rest))
           go (found.Route [] labels) answers passes = absurd answers.0.one.walk
@@ -175,12 +188,23 @@ module _ (c : Conditions) (fit : AreFit c) where
     again-table target (request.Departure from to asked queue) before (found.NoRoute labels) answers =
         from_backward c from (target ∷ []) (asked - queue) asked None labels (node_answer_passes c fit from target (asked - queue) asked (found.NoRoute labels) answers)
 
+    -- and what is found at a turn: where there is no route the bound is the floor
+    pub turn-table : (request : Request) → IsBefore old time request → (answer : Found) → AnswersTurn c request old time answer
+        → HasKeptTable c (search_of request [] (way_sought request old time)) (bound_at_turn request time answer) (labels_of answer)
+    turn-table request.Filed before answer answers = absurd answers
+    turn-table (request.Arrival from to asked hold) before (found.Route steps labels) answers = under_way-table before from to asked hold (found.Route steps labels) answers
+    turn-table (request.Arrival from to asked hold) before (found.NoRoute labels) answers = under_way-table before from to asked hold (found.NoRoute labels) answers
+    turn-table (request.Departure from to asked queue) before (found.Route steps labels) answers =
+        from_backward c from (to ∷ []) (asked - queue) asked (Some (begin_of steps)) labels (node_answer_after_passes c fit from to (asked - queue) asked time (found.Route steps labels) answers)
+    turn-table (request.Departure from to asked queue) before (found.NoRoute labels) answers =
+        from_backward c from (to ∷ []) (asked - queue) asked (Some time) labels (node_answer_after_passes c fit from to (asked - queue) asked time (found.NoRoute labels) answers)
+
 -- ---- what a table leaves out
 
--- a flight under way has a feasible walk, and seeks one node alone
+-- a flight that goes on from some steps has a feasible walk, and seeks one node alone
 abbrev pub IsUnderWay : Conditions → List Node → Option UnderWay → Type 0
 IsUnderWay c others None = ⊤
-IsUnderWay c others (Some way) = (others ≡ []) × IsFeasibleWalk c way.steps
+IsUnderWay c others (Some way) = (others ≡ []) × (0 < length way.steps → IsFeasibleWalk c way.steps)
 
 -- a walk that begins after a floor, where there is one
 abbrev IsMeant : Conditions → Request → List Node → Option UnderWay → Option ℕ → List Step → Type 0
@@ -220,7 +244,7 @@ module _ (c : Conditions) (fit : AreFit c) where
           (λ begun. IsResumed c (steps_done way.time way.steps) begun way.time to steps) → second ≤ end_of steps
       go None e kept meant = begun_none_sooner c fit at_start tt (to ∷ []) second labels (to_forward c at_start (to ∷ []) (Some second) labels kept) steps meant
       go (Some begun) e kept meant =
-          resumed_none_sooner c fit way.steps walk.1 way.time begun e to second labels (to_forward c (resuming begun way.time) (to ∷ []) (Some second) labels kept) steps meant
+          resumed_none_sooner c fit way.steps (walk.1 (begun-some way.time way.steps begun e)) way.time begun e to second labels (to_forward c (resuming begun way.time) (to ∷ []) (Some second) labels kept) steps meant
   table-sooner (request.Departure from to asked queue) others None walk second labels kept steps meant =
       ended_none_later c fit (to ∷ others) (asked - queue) asked from second labels (to_backward c from (to ∷ others) (asked - queue) asked (Some second) labels kept) steps
       (departure-one c from to others asked queue steps meant)
@@ -247,7 +271,7 @@ module _ (c : Conditions) (fit : AreFit c) where
           (λ begun. IsResumed c (steps_done way.time way.steps) begun way.time to steps) → ⊥
       go None e kept meant = begun_none_at_all c fit at_start tt (to ∷ []) labels (to_forward c at_start (to ∷ []) None labels kept) steps meant
       go (Some begun) e kept meant =
-          resumed_none_at_all c fit way.steps walk.1 way.time begun e to labels (to_forward c (resuming begun way.time) (to ∷ []) None labels kept) steps meant
+          resumed_none_at_all c fit way.steps (walk.1 (begun-some way.time way.steps begun e)) way.time begun e to labels (to_forward c (resuming begun way.time) (to ∷ []) None labels kept) steps meant
   table-none_at_all (request.Departure from to asked queue) others None walk labels kept steps meant =
       ended_none_at_all c fit (to ∷ others) (asked - queue) asked from labels (to_backward c from (to ∷ others) (asked - queue) asked None labels kept) steps
       (departure-one c from to others asked queue steps meant)

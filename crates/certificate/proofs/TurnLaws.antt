@@ -1,4 +1,5 @@
--- The searches of a block: one where it tells of a search, and none of any other but a batch; and the first rule that a block breaks.
+-- The searches of a block: one where it tells of a search, and none of any other but of one with entries; and the first rule that a
+-- block breaks.
 use Rattle.std.proofs.Common.{◌≡◌, ◌∙◌, ℕ, List, [], ◌∷◌, ◌++◌, length, All, map, inl, inr, Option, Some, None, refl, sym, ap, subst, arith}
 use Rattle.std.specs.Prelude.{◌⊎◌, ⊤, flat_map, option_and_then}
 use Rattle.std.specs.Option.{option_map_or}
@@ -13,14 +14,14 @@ use Rattle.certificate.specs.declared.block.Block.{Block}
 use Rattle.taxi_text.specs.declared.command.Command.{Command}
 use Rattle.taxi_text.specs.declared.command.Command.TheVariants as command
 use Rattle.taxi_text.specs.Commands.{command_of}
-use Rattle.certificate.specs.declared.block.Block.TheVariants.{Refused, Filed, Cancelled, Route, NoRoute, Windows, Occupancy, Timetable, Batch}
+use Rattle.certificate.specs.declared.block.Block.TheVariants.{Refused, Filed, Cancelled, Route, NoRoute, Windows, Occupancy, Timetable, Batch, Late}
 use Rattle.certificate.specs.declared.entries.Entry.{Entry}
 use Rattle.certificate.specs.declared.entries.Entry.TheVariants as entry
 use Rattle.certificate.specs.declared.rule.Rule.{Rule}
 use Rattle.certificate.specs.declared.rule.Rule.TheVariants as rule
 use Rattle.certificate.specs.CarriedOut.{second_of}
 use Rattle.certificate.specs.Sought.{Sought, sought_of, sought_by, IsWalkFor}
-use Rattle.certificate.specs.Turns.{Turn, told_of, told_in, after_told, tellings_of, tellings, in_turns, turns_for, turns_of, after_turns}
+use Rattle.certificate.specs.Turns.{Turn, told_of, told_in, after_told, tellings_of, tellings, begins_for, in_turns, turns_for, turns_of, begins_of, after_turns}
 use Rattle.certificate.specs.Passes.{IsFormOf, IsAsAskedAlone, IsAsAsked, KeepsReply, KeepsTurn, Keeps, rank_of, IsFirstOf, BreaksFirst, IsFirstBroken, IsAfter, IsPassed, IsBestTold, TellsBest}
 
 -- ---- one element
@@ -32,10 +33,12 @@ all-one P x p = All-cons P x [] p (All-nil P)
 
 abbrev pub IsAlone : Command → Type 0
 IsAlone (command.Batch requests) = ⊥
+IsAlone (command.Late name time until) = ⊥
 IsAlone _ = ⊤
 
 pub asked-alone : (airport : Airport) (state : State) (c : Command) (block : Block) → IsAlone c → IsAsAskedAlone airport state c block → IsAsAsked airport state c block
 asked-alone airport state (command.Batch requests) block alone asked = absurd alone
+asked-alone airport state (command.Late name time until) block alone asked = absurd alone
 asked-alone airport state c block alone asked = asked
 
 -- ---- what is told, one after the other
@@ -48,21 +51,21 @@ map-none : {X Y : Type 0} (f : X → Y) (xs : List X) → map f xs ≡ [] → xs
 map-none f [] e = refl
 map-none {Y = Y} f (x ∷ xs) e = absurd (let l = ap (λ (ys : List Y). length ys) e in omega (arith, l))
 
-module _ (airport : Airport) (command : Command) where
-  entry-told : (told : List ℕ × Entry) → map (λ t. t.told) (tellings_of airport command told) ≡ told_of told
+module _ (airport : Airport) (before : State) (command : Command) where
+  entry-told : (told : List ℕ × Entry) → map (λ t. t.told) (tellings_of airport before command told) ≡ told_of told
   entry-told (name, entry.Route second steps labels) = refl
   entry-told (name, entry.NoRoute labels) = refl
   entry-told (name, entry.Dropped) = refl
 
-  entries-told : (entries : List (List ℕ × Entry)) → map (λ t. t.told) (flat_map (tellings_of airport command) entries) ≡ flat_map told_of entries
+  entries-told : (entries : List (List ℕ × Entry)) → map (λ t. t.told) (flat_map (tellings_of airport before command) entries) ≡ flat_map told_of entries
   entries-told [] = refl
   entries-told (told ∷ entries) =
-      map-append (λ t. t.told) (tellings_of airport command told) (flat_map (tellings_of airport command) entries)
-      ∙ ap (λ (bs : List Block). bs ++ map (λ t. t.told) (flat_map (tellings_of airport command) entries)) (entry-told told)
+      map-append (λ t. t.told) (tellings_of airport before command told) (flat_map (tellings_of airport before command) entries)
+      ∙ ap (λ (bs : List Block). bs ++ map (λ t. t.told) (flat_map (tellings_of airport before command) entries)) (entry-told told)
       ∙ ap (λ (bs : List Block). told_of told ++ bs) (entries-told entries)
 
   -- what is told to a command of searches is what the block tells of them
-  pub tellings-told : (block : Block) → map (λ t. t.told) (tellings airport command block) ≡ told_in block
+  pub tellings-told : (block : Block) → map (λ t. t.told) (tellings airport before command block) ≡ told_in block
   tellings-told (Route name second steps labels) = refl
   tellings-told (NoRoute labels) = refl
   tellings-told (Refused why) = refl
@@ -72,6 +75,18 @@ module _ (airport : Airport) (command : Command) where
   tellings-told (Occupancy segment held) = refl
   tellings-told (Timetable flights) = refl
   tellings-told (Batch total entries) = entries-told entries
+  tellings-told (Late flight entries) = entries-told entries
+
+-- ---- the state that the searches begin in
+
+-- the block is not that of a late flight
+abbrev pub IsNotLate : Block → Type 0
+IsNotLate (Late flight entries) = ⊥
+IsNotLate _ = ⊤
+
+begins-same : (airport : Airport) (state : State) (command : Command) (block : Block) → IsNotLate block → begins_for airport state command block ≡ state
+begins-same airport state (command.Late name time until) (Late flight entries) other = absurd other
+begins-same airport state command block other = refl
 
 module _ (airport : Airport) (state : State) (line : List ℕ) where
   -- ---- a block that tells of no search
@@ -80,10 +95,17 @@ module _ (airport : Airport) (state : State) (line : List ℕ) where
   no_turns block none = go (command_of line) where
     go : (o : Option Command) → option_map_or (λ command. turns_for airport state command block) o [] ≡ []
     go None = refl
-    go (Some command) = ap (in_turns state) (map-none (λ t. t.told) (tellings airport command block) (tellings-told airport command block ∙ none))
+    go (Some command) = ap (in_turns (begins_for airport state command block)) (map-none (λ t. t.told) (tellings airport state command block) (tellings-told airport state command block ∙ none))
 
-  pub no_turns-after : (block : Block) → told_in block ≡ [] → after_turns state (turns_of airport state line block) ≡ state
-  no_turns-after block none = ap (after_turns state) (no_turns block none)
+  -- but where a flight is late they begin in the state before
+  pub begins-before : (block : Block) → IsNotLate block → begins_of airport state line block ≡ state
+  begins-before block other = go (command_of line) where
+    go : (o : Option Command) → option_map_or (λ command. begins_for airport state command block) o state ≡ state
+    go None = refl
+    go (Some command) = begins-same airport state command block other
+
+  pub no_turns-after : (block : Block) → told_in block ≡ [] → IsNotLate block → after_turns (begins_of airport state line block) (turns_of airport state line block) ≡ state
+  no_turns-after block none other = ap (after_turns (begins_of airport state line block)) (no_turns block none) ∙ begins-before block other
 
   -- the search of a route, or of none, is what the line seeks
   abbrev turns_by : Block → Option Sought → List Turn
@@ -94,25 +116,38 @@ module _ (airport : Airport) (state : State) (line : List ℕ) where
   route-turns name second steps labels = go (command_of line) where
     go : (o : Option Command) → option_map_or (λ command. turns_for airport state command (Route name second steps labels)) o [] ≡ turns_by (Route name second steps labels) (option_and_then (sought_of airport state) o)
     go None = refl
-    go (Some command) = refl
+    go (Some command) = ap (λ s. in_turns s (tellings airport state command (Route name second steps labels))) (begins-same airport state command (Route name second steps labels) tt)
 
   no_route-turns : (labels : List LabelRow) → turns_of airport state line (NoRoute labels) ≡ turns_by (NoRoute labels) (sought_by airport state line)
   no_route-turns labels = go (command_of line) where
     go : (o : Option Command) → option_map_or (λ command. turns_for airport state command (NoRoute labels)) o [] ≡ turns_by (NoRoute labels) (option_and_then (sought_of airport state) o)
     go None = refl
-    go (Some command) = refl
+    go (Some command) = ap (λ s. in_turns s (tellings airport state command (NoRoute labels))) (begins-same airport state command (NoRoute labels) tt)
+
+  -- ---- the first rule, and those of the searches
+
+  pub keeps-all : (block : Block) → KeepsReply airport state line block → ((r : Rule) → All (λ turn. KeepsTurn turn r) (turns_of airport state line block)) → (r : Rule) → Keeps airport state line block r
+  keeps-all block reply turns rule.Reply = reply
+  keeps-all block reply turns rule.Walk = turns rule.Walk
+  keeps-all block reply turns rule.Rows = turns rule.Rows
+  keeps-all block reply turns rule.Start = turns rule.Start
+  keeps-all block reply turns rule.Step = turns rule.Step
+  keeps-all block reply turns rule.Target = turns rule.Target
+
+  pub keeps-turns : (block : Block) → ((r : Rule) → Keeps airport state line block r) → (r : Rule) → All (λ turn. KeepsTurn turn r) (turns_of airport state line block)
+  keeps-turns block keeps rule.Reply = λ k d within. tt
+  keeps-turns block keeps rule.Walk = keeps rule.Walk
+  keeps-turns block keeps rule.Rows = keeps rule.Rows
+  keeps-turns block keeps rule.Start = keeps rule.Start
+  keeps-turns block keeps rule.Step = keeps rule.Step
+  keeps-turns block keeps rule.Target = keeps rule.Target
 
   no_turns-keep : (block : Block) → told_in block ≡ [] → (r : Rule) → All (λ turn. KeepsTurn turn r) (turns_of airport state line block)
   no_turns-keep block none r = subst (All (λ turn. KeepsTurn turn r)) (sym (no_turns block none)) (All-nil (λ turn. KeepsTurn turn r))
 
   -- it keeps every rule but the first
   pub plain-keeps : (block : Block) → told_in block ≡ [] → KeepsReply airport state line block → (r : Rule) → Keeps airport state line block r
-  plain-keeps block none reply rule.Reply = reply
-  plain-keeps block none reply rule.Walk = no_turns-keep block none rule.Walk
-  plain-keeps block none reply rule.Rows = no_turns-keep block none rule.Rows
-  plain-keeps block none reply rule.Start = no_turns-keep block none rule.Start
-  plain-keeps block none reply rule.Step = no_turns-keep block none rule.Step
-  plain-keeps block none reply rule.Target = no_turns-keep block none rule.Target
+  plain-keeps block none reply = keeps-all block reply (no_turns-keep block none)
 
   -- ---- a block that tells of what is sought
 
@@ -127,35 +162,24 @@ module _ (airport : Airport) (state : State) (line : List ℕ) where
     one_turn (Occupancy segment held) form = absurd form
     one_turn (Timetable flights) form = absurd form
     one_turn (Batch total entries) form = absurd form
+    one_turn (Late flight entries) form = absurd form
 
     -- it keeps a rule where its search does
     turn-keeps : (block : Block) → IsFormOf s block → (r : Rule) → KeepsTurn (record { sought = s; told = block }) r → All (λ turn. KeepsTurn turn r) (turns_of airport state line block)
     turn-keeps block form r kept =
         subst (All (λ turn. KeepsTurn turn r)) (sym (one_turn block form)) (all-one (λ turn. KeepsTurn turn r) (record { sought = s; told = block }) kept)
 
-    pub one-keeps : (block : Block) → IsFormOf s block → KeepsReply airport state line block → (r : Rule) → KeepsTurn (record { sought = s; told = block }) r → Keeps airport state line block r
-    one-keeps block form reply rule.Reply kept = reply
-    one-keeps block form reply rule.Walk kept = turn-keeps block form rule.Walk kept
-    one-keeps block form reply rule.Rows kept = turn-keeps block form rule.Rows kept
-    one-keeps block form reply rule.Start kept = turn-keeps block form rule.Start kept
-    one-keeps block form reply rule.Step kept = turn-keeps block form rule.Step kept
-    one-keeps block form reply rule.Target kept = turn-keeps block form rule.Target kept
-
-    keeps-turn : (block : Block) → IsFormOf s block → (r : Rule) → All (λ turn. KeepsTurn turn r) (turns_of airport state line block) → KeepsTurn (record { sought = s; told = block }) r
-    keeps-turn block form r kept = All-head (λ turn. KeepsTurn turn r) (record { sought = s; told = block }) [] (subst (All (λ turn. KeepsTurn turn r)) (one_turn block form) kept)
+    pub one-keeps : (block : Block) → IsFormOf s block → KeepsReply airport state line block → ((r : Rule) → KeepsTurn (record { sought = s; told = block }) r) → (r : Rule) → Keeps airport state line block r
+    one-keeps block form reply kept = keeps-all block reply (λ r. turn-keeps block form r (kept r))
 
     -- and its search keeps each that it keeps
-    pub keeps-one : (block : Block) → IsFormOf s block → (r : Rule) → Keeps airport state line block r → KeepsTurn (record { sought = s; told = block }) r
-    keeps-one block form rule.Reply kept = tt
-    keeps-one block form rule.Walk kept = keeps-turn block form rule.Walk kept
-    keeps-one block form rule.Rows kept = keeps-turn block form rule.Rows kept
-    keeps-one block form rule.Start kept = keeps-turn block form rule.Start kept
-    keeps-one block form rule.Step kept = keeps-turn block form rule.Step kept
-    keeps-one block form rule.Target kept = keeps-turn block form rule.Target kept
+    pub keeps-one : (block : Block) → IsFormOf s block → ((r : Rule) → Keeps airport state line block r) → (r : Rule) → KeepsTurn (record { sought = s; told = block }) r
+    keeps-one block form kept r =
+        All-head (λ turn. KeepsTurn turn r) (record { sought = s; told = block }) [] (subst (All (λ turn. KeepsTurn turn r)) (one_turn block form) (keeps-turns block kept r))
 
     -- the state afterwards
-    pub one-after : (block : Block) → IsFormOf s block → after_turns state (turns_of airport state line block) ≡ after_told s block
-    one-after block form = ap (after_turns state) (one_turn block form)
+    pub one-after : (block : Block) → IsFormOf s block → after_turns (begins_of airport state line block) (turns_of airport state line block) ≡ after_told s block
+    one-after block form = ap (after_turns (begins_of airport state line block)) (one_turn block form)
 
     pub after-is : (block : Block) (after : State) → IsFormOf s block → after ≡ after_told s block → IsAfter airport state line block after
     after-is (Route name second steps labels) after form is = subst (λ a. after ≡ a) (sym (one-after (Route name second steps labels) form)) is
@@ -167,6 +191,7 @@ module _ (airport : Airport) (state : State) (line : List ℕ) where
     after-is (Occupancy segment held) after form is = absurd form
     after-is (Timetable flights) after form is = absurd form
     after-is (Batch total entries) after form is = absurd form
+    after-is (Late flight entries) after form is = absurd form
 
     pub is-after : (block : Block) (after : State) → IsFormOf s block → IsAfter airport state line block after → after ≡ after_told s block
     is-after (Route name second steps labels) after form is = subst (λ a. after ≡ a) (one-after (Route name second steps labels) form) is
@@ -178,6 +203,7 @@ module _ (airport : Airport) (state : State) (line : List ℕ) where
     is-after (Occupancy segment held) after form is = absurd form
     is-after (Timetable flights) after form is = absurd form
     is-after (Batch total entries) after form is = absurd form
+    is-after (Late flight entries) after form is = absurd form
 
     -- the first rule that the search breaks is the first that the block breaks
     pub one-breaks : (block : Block) → IsFormOf s block → KeepsReply airport state line block → (r : Rule) → IsFirstOf (KeepsTurn (record { sought = s; told = block })) (Some r) → IsFirstBroken airport state line block r

@@ -60,6 +60,7 @@ IsInGrammar (command.WorkDone name) = IsName name
 IsInGrammar (command.ArrivalAny asked) = IsName asked.flight × IsShort asked.time × IsShort asked.slack × IsTrue (is_choice_count (length asked.nodes))
 IsInGrammar (command.DepartureAny asked) = IsName asked.flight × IsShort asked.time × IsShort asked.slack × IsTrue (is_choice_count (length asked.nodes))
 IsInGrammar (command.Batch requests) = All (λ request. IsAskedInGrammar (asked_in request)) requests × IsTrue (is_batch_count (length requests))
+IsInGrammar (command.Late flight time until) = IsName flight × IsShort time × IsShort until
 IsInGrammar _ = ⊤
 
 -- ---- a segment to be shut

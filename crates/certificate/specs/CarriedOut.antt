@@ -26,6 +26,7 @@ use Rattle.taxi_text.specs.declared.command.Command.{Command}
 use Rattle.taxi_text.specs.declared.command.Command.TheVariants as command
 pub use Rattle.certificate.specs.Routed.{Reply, IsOf, second_of, found_reply, routed_flight, IsRoutedAs}
 use Rattle.certificate.specs.Batches.{IsBatched}
+use Rattle.certificate.specs.Repairs.{IsRepairTold}
 use Rattle.certificate.specs.declared.block.Block.{Block}
 use Rattle.certificate.specs.declared.block.Block.TheVariants.{Filed, Cancelled, Route, NoRoute, Windows, Occupancy, Timetable}
 use Rattle.certificate.specs.Asked.{route_filed, party_of, arrival_named, departure_named, Choice, request_for, arrival_any_named, departure_any_named, AnswersChoice}
@@ -150,3 +151,4 @@ IsCarriedOut airport state (command.WorkDone name) = IsOf (opened_reply state na
 IsCarriedOut airport state (command.ArrivalAny asked) = IsRoutedToOne airport state asked.flight asked.class (arrival_any_named airport asked)
 IsCarriedOut airport state (command.DepartureAny asked) = IsRoutedToOne airport state asked.flight asked.class (departure_any_named airport asked)
 IsCarriedOut airport state (command.Batch requests) = IsBatched airport state requests
+IsCarriedOut airport state (command.Late flight time until) = IsRepairTold airport state flight time until

@@ -5,9 +5,10 @@ pub mod Asked
 pub mod Refusals
 pub mod Routed
 pub mod Batches
+pub mod Sought
+pub mod Repairs
 pub mod CarriedOut
 pub mod Replies
-pub mod Sought
 pub mod Turns
 pub mod TableRules
 pub mod Passes

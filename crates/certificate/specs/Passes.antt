@@ -17,9 +17,10 @@ use Rattle.certificate.specs.declared.rule.Rule.TheVariants as rule
 use Rattle.certificate.specs.CarriedOut.{second_of, IsCarriedOut}
 use Rattle.certificate.specs.Refusals.{first_refusal}
 use Rattle.certificate.specs.Batches.{TellsBatch}
+use Rattle.certificate.specs.Repairs.{TellsRepair}
 use Rattle.certificate.specs.Replies.{IsDue, NeedsNoMemory}
 use Rattle.certificate.specs.Sought.{Sought, Search, sought_of, search_of, IsWalkFor}
-use Rattle.certificate.specs.Turns.{Turn, told_in, turns_of, after_turns}
+use Rattle.certificate.specs.Turns.{Turn, told_in, begins_of, turns_of, after_turns}
 use Rattle.certificate.specs.TableRules.{KeepsRows, KeepsStart, KeepsStep, KeepsTarget}
 
 -- ---- the first rule, reply
@@ -31,13 +32,14 @@ IsFormOf s (NoRoute labels) = IsTrue s.may_be_none
 IsFormOf s _ = ⊥
 
 -- Where a walk is sought the block tells one, or that there is none. To a batch it tells of each request, in any order, and what all of
--- them cost. Of any other command it is the reply that is due.
+-- them cost. Where a flight is late it tells of it and of those in its way, in turn. Of any other command it is the reply that is due.
 abbrev pub IsAsAskedAlone : Airport → State → Command → Block → Type 0
 IsAsAskedAlone airport state command block =
     MatchOption (sought_of airport state command) ((after : State) × IsCarriedOut airport state command block after) (λ s. IsFormOf s block)
 
 abbrev pub IsAsAsked : Airport → State → Command → Block → Type 0
 IsAsAsked airport state (command.Batch requests) block = TellsBatch airport requests block
+IsAsAsked airport state (command.Late flight time until) block = TellsRepair airport state flight time until block
 IsAsAsked airport state other block = IsAsAskedAlone airport state other block
 
 -- where a refusal is due the block is this refusal
@@ -113,7 +115,7 @@ IsFirstBroken airport state line block rule = KeepsReply airport state line bloc
 abbrev pub IsAfter : Airport → State → List ℕ → Block → State → Type 0
 IsAfter airport state line (Filed name start end) after = IsDue airport state line (Filed name start end) after
 IsAfter airport state line (Cancelled name) after = IsDue airport state line (Cancelled name) after
-IsAfter airport state line block after = after ≡ after_turns state (turns_of airport state line block)
+IsAfter airport state line block after = after ≡ after_turns (begins_of airport state line block) (turns_of airport state line block)
 
 -- a block that keeps every rule passes, and this is the state afterwards
 pub record IsPassed (airport : Airport) (state : State) (line : List ℕ) (block : Block) (after : State) : Type 0 where

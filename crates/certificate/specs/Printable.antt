@@ -17,7 +17,7 @@ use Rattle.taxi_base.specs.declared.answers.StepFault.{StepFault}
 use Rattle.taxi_base.specs.declared.answers.Refusal.{Refusal}
 use Rattle.taxi_base.specs.declared.answers.Refusal.TheVariants as refusal
 use Rattle.certificate.specs.declared.block.Block.{Block}
-use Rattle.certificate.specs.declared.block.Block.TheVariants.{Refused, Filed, Cancelled, Route, NoRoute, Windows, Occupancy, Timetable, Batch}
+use Rattle.certificate.specs.declared.block.Block.TheVariants.{Refused, Filed, Cancelled, Route, NoRoute, Windows, Occupancy, Timetable, Batch, Late}
 use Rattle.certificate.specs.declared.entries.Entry.{Entry}
 use Rattle.certificate.specs.declared.entries.Entry.TheVariants as entry
 
@@ -72,6 +72,9 @@ abbrev pub IsPrintableRefusal : Refusal → Type 0
 IsPrintableRefusal (refusal.AlreadyDone end) = IsShort end
 IsPrintableRefusal (refusal.AlreadyMoving start) = IsShort start
 IsPrintableRefusal (refusal.Step fault) = IsPrintableFault fault
+IsPrintableRefusal (refusal.NotMoving start) = IsShort start
+IsPrintableRefusal (refusal.NotLate leave) = IsShort leave
+IsPrintableRefusal (refusal.PastEnd horizon) = IsShort horizon
 IsPrintableRefusal _ = ⊤
 
 abbrev pub IsPrintableRoute : Airport → List ℕ → ℕ → List Step → List LabelRow → Type 0
@@ -94,7 +97,7 @@ IsTold (name, told) = ⊤
 
 -- A block that has a text in the grammar: its arcs, segments and classes are the airport's, its names are names, its numbers have
 -- at most 7 digits and its counts at most 10, and a route has at least one step. A batch has 2 to 6 entries, of which none is
--- dropped, and its total fits 32 bits.
+-- dropped, and its total fits 32 bits. Where a flight is late there is at least one entry.
 abbrev pub IsPrintable : Airport → Block → Type 0
 IsPrintable airport (Refused why) = IsPrintableRefusal why
 IsPrintable airport (Filed flight start end) = IsName flight × (IsShort start × IsShort end)
@@ -106,3 +109,5 @@ IsPrintable airport (Occupancy segment held) = (HasSegment airport segment × Is
 IsPrintable airport (Timetable flights) = IsCount (length flights) × All (IsPrintableFlight airport) flights
 IsPrintable airport (Batch total entries) =
     (IsTrue (is_batch_count (length entries)) × (total < 2 ^ 32)) × (All IsTold entries × All (IsPrintableEntry airport) entries)
+IsPrintable airport (Late flight entries) =
+    IsName flight × (((0 < length entries) × IsCount (length entries)) × All (IsPrintableEntry airport) entries)

@@ -6,7 +6,7 @@ use Rattle.taxi_base.specs.declared.rows.LabelRow.{LabelRow}
 use Rattle.certificate.specs.Texts.{lines_text, entry_lines}
 use Rattle.certificate.specs.Printable.{HasArc, HasSegment, HasClass}
 use Rattle.certificate.specs.declared.block.Block.{Block}
-use Rattle.certificate.specs.declared.block.Block.TheVariants.{Route, NoRoute, Windows, Occupancy, Timetable, Batch}
+use Rattle.certificate.specs.declared.block.Block.TheVariants.{Route, NoRoute, Windows, Occupancy, Timetable, Batch, Late}
 use Rattle.certificate.specs.declared.entries.Entry.{Entry}
 use Rattle.certificate.specs.declared.entries.Entry.TheVariants as entry
 
@@ -26,6 +26,7 @@ IsWritable airport (Windows segment windows) = HasSegment airport segment
 IsWritable airport (Occupancy segment held) = HasSegment airport segment × All (λ row. HasSegment airport row.segment) held
 IsWritable airport (Timetable flights) = All (λ row. HasClass airport row.class) flights
 IsWritable airport (Batch total entries) = All (IsWritableEntry airport) entries
+IsWritable airport (Late flight entries) = All (IsWritableEntry airport) entries
 IsWritable airport _ = ⊤
 
 -- the lines of rows

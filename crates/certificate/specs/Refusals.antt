@@ -9,7 +9,7 @@ use Rattle.taxi_base.specs.declared.answers.Refusal.{Refusal}
 use Rattle.taxi_base.specs.declared.answers.Refusal.TheVariants as refusal
 use Rattle.taxi_base.specs.Airport.{Airport, node_named, class_named, segment_named, is_runway, is_stand, is_node_of}
 use Rattle.taxi_base.specs.Walks.{begin_of, end_of}
-use Rattle.taxi_base.specs.State.{State, flight_named, party_named, party_hold, holder_count, has_holder}
+use Rattle.taxi_base.specs.State.{State, flight_named, party_named, party_hold, holder_count, has_holder, step_begun}
 use Rattle.taxi_base.specs.Faults.{route_fault, hold_fault}
 use Rattle.taxi_text.specs.declared.command.Filed.{Filed}
 use Rattle.taxi_text.specs.declared.command.Shut.{Shut}
@@ -108,6 +108,18 @@ abbrev pub already_moving : ℕ → Flight → Option Refusal
 already_moving time flight =
     refused_if (is_departure flight.request && nat_le (begin_of flight.steps) time) (refusal.AlreadyMoving (begin_of flight.steps))
 
+-- the flight has not begun by a time
+abbrev pub not_moving : ℕ → Flight → Option Refusal
+not_moving time flight = refused_if (nat_lt time (begin_of flight.steps)) (refusal.NotMoving (begin_of flight.steps))
+
+-- the flight leaves its step at a time as late as it is said to stay on it
+abbrev pub not_late : ℕ → ℕ → Flight → Option Refusal
+not_late time until flight = option_and_then (λ begun. refused_if (nat_le until begun.leave) (refusal.NotLate begun.leave)) (step_begun time flight.steps)
+
+-- it would stay past the horizon
+abbrev pub past_end : Airport → ℕ → Option Refusal
+past_end airport until = refused_if (nat_lt airport.horizon until) (refusal.PastEnd airport.horizon)
+
 abbrev pub full : State → Option Refusal
 full state = refused_if (nat_le most_holders (holder_count state)) refusal.Full
 
@@ -185,3 +197,6 @@ first_refusal airport state (command.DepartureAny asked) =
     ∷ no_stand airport asked.from ∷ not_all is_runway airport asked.nodes ∷ full state ∷ [])
 first_refusal airport state (command.Batch requests) =
     first_of (tests_of_requests airport state [] requests ++ full_with (length requests) state ∷ [])
+first_refusal airport state (command.Late flight time until) =
+    first_of (not_in_force state flight ∷ of_flight state flight not_routed ∷ of_flight state flight (already_done time)
+    ∷ of_flight state flight (not_moving time) ∷ of_flight state flight (not_late time until) ∷ past_end airport until ∷ [])

@@ -1,5 +1,6 @@
 -- What may a line be answered, and what does the answer promise?
-use Rattle.std.specs.Prelude.{ℕ, ◌≡◌, ◌⊎◌, List, [], ◌∷◌, Option, Some, All, IsTrue, MatchOption, ⊤}
+use Rattle.std.specs.Prelude.{ℕ, ◌≡◌, ◌⊎◌, Bool, List, [], ◌∷◌, Option, Some, All, Contains, IsTrue, IsFalse, MatchOption, bytes_eq, ⊤}
+use Rattle.std.specs.List.{list_any}
 use Rattle.taxi_base.specs.declared.rows.Step.{Step}
 use Rattle.taxi_base.specs.declared.answers.Flight.{Flight}
 use Rattle.taxi_base.specs.declared.answers.Party.{Party}
@@ -15,7 +16,7 @@ use Rattle.taxi_text.specs.declared.command.Command.{Command}
 use Rattle.taxi_text.specs.declared.command.Command.TheVariants as command
 use Rattle.taxi_text.specs.Commands.{command_of}
 use Rattle.certificate.specs.declared.block.Block.{Block}
-use Rattle.certificate.specs.declared.block.Block.TheVariants.{Refused, Filed, Cancelled, Route, NoRoute, Windows, Occupancy, Timetable, Batch}
+use Rattle.certificate.specs.declared.block.Block.TheVariants.{Refused, Filed, Cancelled, Route, NoRoute, Windows, Occupancy, Timetable, Batch, Late}
 use Rattle.certificate.specs.declared.entries.Entry.{Entry}
 use Rattle.certificate.specs.declared.entries.Entry.TheVariants as entry
 use Rattle.certificate.specs.Printable.{IsName, IsPrintable}
@@ -89,10 +90,30 @@ abbrev pub DoInTurn : Airport → State → List (List ℕ × Entry) → State �
 DoInTurn airport state [] after = after ≡ state
 DoInTurn airport state (told ∷ entries) after = (mid : State) × DoesEntry airport state told mid × DoInTurn airport mid entries after
 
+-- whether some entries tell of a name
+abbrev pub is_told_of : List (List ℕ × Entry) → List ℕ → Bool
+is_told_of entries name = list_any (λ told. bytes_eq told.0 name) entries
+
+-- a flight for which a route is told is in force on it
+abbrev pub IsHeldAsTold : State → List ℕ × Entry → Type 0
+IsHeldAsTold after (name, entry.Route second steps labels) = (flight : Flight) × Contains after.flights flight × (flight.name ≡ name) × (flight.steps ≡ steps)
+IsHeldAsTold after (name, entry.NoRoute labels) = ⊤
+IsHeldAsTold after (name, entry.Dropped) = ⊤
+
+-- Each route that is told is in force. Flights and work parties that are not told of are as before.
+pub record IsRepairIn (state : State) (entries : List (List ℕ × Entry)) (after : State) : Type 0 where
+  pub known : All (λ told. IsTrue (has_holder told.0 state)) entries
+  pub routes : All (IsHeldAsTold after) entries
+  pub flights_stay : (flight : Flight) → Contains state.flights flight → IsFalse (is_told_of entries flight.name) → Contains after.flights flight
+  pub flights_were : (flight : Flight) → Contains after.flights flight → IsFalse (is_told_of entries flight.name) → Contains state.flights flight
+  pub parties_stay : (party : Party) → Contains state.parties party → IsFalse (is_told_of entries party.name) → Contains after.parties party
+  pub parties_were : (party : Party) → Contains after.parties party → Contains state.parties party
+
 -- What a block says is so, and nothing else changes: what is filed is a flight or a work party, and goes in; what is cancelled
 -- was in force, and goes out; a route does what its flight asked for among the other holders, and its flight has it afterwards;
 -- the windows of a segment are those that the holders leave; the rows of an occupancy are those of all that holds a segment in
--- conflict with it; the rows of a timetable are those of the flights in force; the entries of a batch do so in turn.
+-- conflict with it; the rows of a timetable are those of the flights in force; the entries of a batch do so in turn;
+-- where a flight is late each route that is told is in force, and who is not told of is as before.
 abbrev pub DoesAsItSays : Airport → State → Block → State → Type 0
 DoesAsItSays airport state (Filed name start end) after = IsFlightIn airport state name start end after ⊎ IsPartyIn airport state name start end after
 DoesAsItSays airport state (Cancelled name) after = IsTrue (has_holder name state) × (after ≡ without name state)
@@ -103,6 +124,7 @@ DoesAsItSays airport state (Windows segment windows) after =
 DoesAsItSays airport state (Occupancy segment held) after = AreHeldRows airport state segment held × (after ≡ state)
 DoesAsItSays airport state (Timetable flights) after = (flights ≡ timetable_rows state) × (after ≡ state)
 DoesAsItSays airport state (Batch total entries) after = DoInTurn airport state entries after
+DoesAsItSays airport state (Late flight entries) after = IsRepairIn state entries after
 DoesAsItSays airport state (Refused why) after = after ≡ state
 
 -- the name of each holder is a name

@@ -28,8 +28,8 @@ pub record UnderWay : Type 0 where
   pub time : ℕ
 
 -- What a search seeks: a walk of the flight of a name that meets a request, with the node that is meant, or the same request for
--- one of other nodes. The flight may be in force. A departure may have to begin after a second, its floor; no command of today asks
--- for that. There may be none, or there must be one. The state afterwards is told for the walk's steps, and for no walk.
+-- one of other nodes. The flight may be in force. A departure that gives way to a late flight has to begin after a second, its floor.
+-- There may be none, or there must be one. The state afterwards is told for the walk's steps, and for no walk.
 pub record Sought : Type 0 where
   pub name : List ℕ
   pub conditions : Conditions
@@ -106,7 +106,7 @@ abbrev pub sought_to_one : Airport → State → List ℕ → List ℕ → Optio
 sought_to_one airport state name class asked =
     option_and_then (λ class. option_and_then (λ choice. sought_choice airport state name class choice (nodes_of choice)) asked) (class_named airport class)
 
--- What a command seeks; none for the commands that seek no walk, and none for a batch, which seeks one for each of its requests.
+-- What a command seeks; none for the commands that seek no walk, and none for a batch and for a late flight, which seek several.
 -- A reroute keeps the request, and the old steps are such a walk. A divert changes its target.
 abbrev pub sought_of : Airport → State → Command → Option Sought
 sought_of airport state (command.Arrival asked) = sought_by_class airport state asked.flight asked.class (arrival_named airport asked)

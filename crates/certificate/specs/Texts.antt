@@ -15,7 +15,7 @@ use Rattle.taxi_base.specs.declared.answers.Refusal.TheVariants as refusal
 use Rattle.taxi_base.specs.Airport.{Airport}
 use Rattle.airport_file.specs.Words.{class_word, segment_word, word_of_arc}
 use Rattle.certificate.specs.declared.block.Block.{Block}
-use Rattle.certificate.specs.declared.block.Block.TheVariants.{Refused, Filed, Cancelled, Route, NoRoute, Windows, Occupancy, Timetable, Batch}
+use Rattle.certificate.specs.declared.block.Block.TheVariants.{Refused, Filed, Cancelled, Route, NoRoute, Windows, Occupancy, Timetable, Batch, Late}
 use Rattle.certificate.specs.declared.entries.Entry.{Entry}
 use Rattle.certificate.specs.declared.entries.Entry.TheVariants as entry
 
@@ -52,6 +52,9 @@ refusal_words (refusal.AlreadyDone end) = codes "already-done" ∷ decimal end �
 refusal_words (refusal.AlreadyMoving start) = codes "already-moving" ∷ decimal start ∷ []
 refusal_words refusal.Full = codes "full" ∷ []
 refusal_words (refusal.Step fault) = codes "step" ∷ decimal fault.number ∷ cause_words fault.cause
+refusal_words (refusal.NotMoving start) = codes "not-moving" ∷ decimal start ∷ []
+refusal_words (refusal.NotLate leave) = codes "not-late" ∷ decimal leave ∷ []
+refusal_words (refusal.PastEnd horizon) = codes "past-end" ∷ decimal horizon ∷ []
 refusal_words refusal.Memory = codes "memory" ∷ []
 
 -- ---- rows
@@ -111,6 +114,7 @@ block_lines airport (Occupancy segment held) =
     (codes "occupancy" ∷ segment_word airport segment ∷ decimal (length held) ∷ []) ∷ map (held_words airport) held
 block_lines airport (Timetable flights) = (codes "timetable" ∷ decimal (length flights) ∷ []) ∷ map (flight_words airport) flights
 block_lines airport (Batch total entries) = (codes "batch" ∷ decimal (length entries) ∷ decimal total ∷ []) ∷ flat_map (entry_lines airport) entries
+block_lines airport (Late flight entries) = (codes "late" ∷ flight ∷ decimal (length entries) ∷ []) ∷ flat_map (entry_lines airport) entries
 
 -- the text of a block
 unfoldable pub block_text : Airport → Block → List ℕ

@@ -47,4 +47,9 @@ pub enum Block {
         total: u32,
         entries: Entries,
     },
+    /// The flight that is late and those in its way, in turn.
+    Late {
+        flight: Name,
+        entries: Entries,
+    },
 }

@@ -1,11 +1,15 @@
 //! What replies promise, as laws that are proved of their definition. The functions do nothing: their clauses are the laws.
-ghost use Rattle.std.specs.Prelude.{◌≡◌, ℕ, List, Some, None};
+ghost use Rattle.std.specs.Prelude.{◌≡◌, ◌↔◌, ℕ, List, Some, None, Contains, IsFalse};
+ghost use Rattle.taxi_base.specs.declared.answers.Flight.{Flight};
+ghost use Rattle.taxi_base.specs.declared.answers.Party.{Party};
 ghost use Rattle.taxi_base.specs.declared.rows.LabelRow.{LabelRow};
 ghost use Rattle.taxi_base.specs.declared.rows.Step.{Step};
 ghost use Rattle.taxi_base.specs.Airport.{Airport, IsWellFormed};
 ghost use Rattle.taxi_base.specs.Again.{IsBestFor};
-ghost use Rattle.taxi_base.specs.State.{State, IsSound};
+ghost use Rattle.taxi_base.specs.Late.{Delay, is_late, flight_meets, party_meets, KeepsEntered};
+ghost use Rattle.taxi_base.specs.State.{State, step_begun, IsSound};
 ghost use Rattle.taxi_text.specs.declared.command.Command.{Command};
+ghost use Rattle.taxi_text.specs.declared.command.Command.TheVariants as command;
 ghost use Rattle.certificate.specs.declared.block.Block.{Block};
 ghost use Rattle.certificate.specs.declared.entries.Entry.{Entry};
 ghost use Rattle.certificate.specs.declared.wish.Wish.{Wish};
@@ -15,6 +19,7 @@ ghost use Rattle.certificate.specs.Refusals.{first_refusal};
 ghost use Rattle.certificate.specs.CarriedOut.{second_of, IsCarriedOut};
 ghost use Rattle.certificate.specs.Replies.{IsDue, IsReply, DoesAsItSays, IsAnswered};
 ghost use Rattle.certificate.specs.Batches.{IsSequenced, IsNoDearer};
+ghost use Rattle.certificate.specs.Repairs.{delay_of};
 ghost use Rattle.certificate.specs.Sought.{Sought, sought_by, IsWalkFor};
 ghost use Rattle.certificate.specs.Passes.{IsPassed, TellsBest};
 
@@ -49,4 +54,12 @@ pub fn what_passes_is_best()
 /// cheaper.
 pub fn exchanges_lower_totals()
     ensures { (airport : Airport) (state : State) (wishes : List Wish) (total : ℕ) (entries : List (List ℕ × Entry)) (after : State) → IsWellFormed airport → IsSequenced airport state wishes total entries after → IsNoDearer airport state wishes total entries after }
+{}
+
+/// Where a flight is late, each flight that had begun by the time is in force afterwards, with the arcs and enters of the steps that it
+/// had entered. A flight that is neither late nor in the way is as before, and so is a party that is not in the way.
+pub fn late_repairs_keep_what_was_entered()
+    ensures entered { (airport : Airport) (state : State) (name : List ℕ) (time until : ℕ) (block : Block) (after : State) (flight : Flight) (begun : Step) → IsSound airport state → first_refusal airport state (command.Late name time until) ≡ None → IsCarriedOut airport state (command.Late name time until) block after → Contains state.flights flight → step_begun time flight.steps ≡ Some begun → (now : Flight) × Contains after.flights now × (now.name ≡ flight.name) × KeepsEntered time flight.steps now.steps }
+    ensures flights { (airport : Airport) (state : State) (name : List ℕ) (time until : ℕ) (block : Block) (after : State) (delay : Delay) (flight : Flight) → IsSound airport state → first_refusal airport state (command.Late name time until) ≡ None → IsCarriedOut airport state (command.Late name time until) block after → delay_of state name time until ≡ Some delay → Contains state.flights flight → IsFalse (is_late delay flight) → IsFalse (flight_meets airport delay flight) → Contains after.flights flight }
+    ensures parties { (airport : Airport) (state : State) (name : List ℕ) (time until : ℕ) (block : Block) (after : State) (delay : Delay) (party : Party) → IsSound airport state → first_refusal airport state (command.Late name time until) ≡ None → IsCarriedOut airport state (command.Late name time until) block after → delay_of state name time until ≡ Some delay → (Contains after.parties party ↔ (Contains state.parties party × IsFalse (party_meets airport delay party))) }
 {}

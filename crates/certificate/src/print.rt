@@ -65,6 +65,10 @@ fn print_long(airport: &Airport, block: &Block, out: &mut Vec<u8>) -> Result<(),
             write_batch_head(entries.len(), *total, &mut line);
             print_line_and_entries(airport, &mut line, entries, out)
         }
+        Block::Late { flight, entries } => {
+            write_late_head(flight, entries.len(), &mut line);
+            print_line_and_entries(airport, &mut line, entries, out)
+        }
         Block::Refused(_) | Block::Filed { .. } | Block::Cancelled { .. } => unreachable!(),
     }
 }
@@ -167,6 +171,15 @@ fn write_batch_head(entries: usize, total: u32, line: &mut LineBuffer)
     line.put_last_number(u64::from(total));
     line.put_number(entries as u64);
     line.put(b"batch ");
+}
+
+fn write_late_head(flight: &Name, entries: usize, line: &mut LineBuffer)
+    ensures { line.new ≡ line_text (codes "late" ∷ flight.now ∷ decimal entries ∷ []) }
+{
+    line.clear();
+    line.put_last_number(entries as u64);
+    line.put_name(flight);
+    line.put(b"late ");
 }
 
 // Of which flight is told, before the line as it stands.

@@ -34,7 +34,8 @@ pub(crate) fn short_text(block: &Block) -> Option<ShortText>
         | Block::Windows { .. }
         | Block::Occupancy { .. }
         | Block::Timetable { .. }
-        | Block::Batch { .. } => None,
+        | Block::Batch { .. }
+        | Block::Late { .. } => None,
     }
 }
 
@@ -75,6 +76,9 @@ fn refused_text(why: &Refusal) -> ShortText
         Refusal::AlreadyMoving { start } => refused_at(b"already-moving", *start),
         Refusal::Full => refused_as(b"full"),
         Refusal::Step(fault) => refused_step(fault),
+        Refusal::NotMoving { start } => refused_at(b"not-moving", *start),
+        Refusal::NotLate { leave } => refused_at(b"not-late", *leave),
+        Refusal::PastEnd { horizon } => refused_at(b"past-end", *horizon),
         Refusal::Memory => refused_as(b"memory"),
     }
 }

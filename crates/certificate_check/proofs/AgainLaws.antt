@@ -52,13 +52,13 @@ among-spans airport state name f found spans has steps are time request g there 
       asked = seeks.asked;
       nodes = seeks.nodes;
       under_way = seeks.under_way ∙ (λ i. Some (record { steps = same_steps i; time = time }));
-      no_floor = seeks.no_floor;
+      floor = seeks.floor;
     }
 
 -- what is sought again is sought so
 pub again-seeks : (airport : Airport) (state : State) (name : List ℕ) (time : ℕ) (may_be_none : Bool) (flight : Flight) (request : Request)
     → Seeks (conditions_of airport state flight) request [] (Some (record { steps = flight.steps; time = time })) (sought_again airport state name time may_be_none flight request)
-again-seeks airport state name time may_be_none flight request = record { conditions = refl; asked = refl; nodes = refl; under_way = refl; no_floor = refl }
+again-seeks airport state name time may_be_none flight request = record { conditions = refl; asked = refl; nodes = refl; under_way = refl; floor = refl }
 
 -- an answer that is an error, and one that is none
 pub never-ok : {E : Type 0} (r : Result Unit E) → is_err r ≡ true → (done : Unit) → r ≡ Ok done → ⊥

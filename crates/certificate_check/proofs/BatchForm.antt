@@ -45,7 +45,7 @@ told-all ((name, entry.NoRoute labels) ∷ entries) = (
 )
 told-all ((name, entry.Dropped) ∷ entries) = (λ e. absurd (cc e), λ all. absurd (All-head IsTold _ entries all))
 
-any-contains : (name : List ℕ) (entries : List (List ℕ × Entry)) → IsTrue (list_any (λ told. bytes_eq told.0 name) entries) ↔ Contains (names_told entries) name
+pub any-contains : (name : List ℕ) (entries : List (List ℕ × Entry)) → IsTrue (list_any (λ told. bytes_eq told.0 name) entries) ↔ Contains (names_told entries) name
 any-contains name [] = (λ e. absurd (cc e), λ h. absurd (let low : h.0 < 0 = h.1 in omega arith))
 any-contains name (e ∷ entries) =
     elim (cases_Bool (bytes_eq e.0 name)) [

@@ -18,8 +18,10 @@ use Rattle.certificate.specs.Passes.{KeepsTurn, BreaksFirst}
 use Rattle.transcripts.specs.declared.refused.CheckRefused.{CheckRefused}
 use Rattle.transcripts.specs.declared.refused.CheckRefused.TheVariants.{Wrong, Memory}
 use Rattle.certificate_check.specs.Judged.{IsDueForm, KeepsFor, BreaksFor, IsJudged}
-use Rattle.certificate_check.specs.Batch.{TellsWishes, turns_among, AreChecked}
-use Rattle.certificate_check.proofs.BatchTurns.{turns-same, form-unbroken}
+use Rattle.certificate_check.specs.Entries.{AreChecked}
+use Rattle.certificate_check.specs.Batch.{TellsWishes, turns_among}
+use Rattle.certificate_check.proofs.EntryTurns.{form-unbroken}
+use Rattle.certificate_check.proofs.BatchTurns.{turns-same}
 
 module _ (airport : Airport) (state : State) (requests : List BatchRequest) (wishes : List Wish) (none : first_refusal airport state (command.Batch requests) ≡ None)
     (known : wishes_of airport requests ≡ Some wishes) where

@@ -13,9 +13,10 @@ use Rattle.certificate.specs.Turns.{told_of, after_turns}
 use Rattle.transcripts.specs.declared.refused.CheckRefused.{CheckRefused}
 use Rattle.transcripts.specs.declared.refused.CheckRefused.TheVariants.{Wrong, Memory}
 use Rattle.certificate_check.specs.Judged.{IsToldOf}
-use Rattle.certificate_check.specs.Batch.{CanBeChecked, turns_among, AreChecked, without_all}
+use Rattle.certificate_check.specs.Entries.{AreChecked}
+use Rattle.certificate_check.specs.Batch.{CanBeChecked, turns_among, without_all}
 use Rattle.certificate_check.proofs.AgainLaws.{some-there}
-use Rattle.certificate_check.proofs.BatchTurns.{form-told, checked-on, checked-here, after-on}
+use Rattle.certificate_check.proofs.BatchTurns.{form-told, checked-on, checked-here, after-passed}
 use Rattle.certificate_check.proofs.BatchSteps.{block-told, first-told, first-named, rest-can, first-others}
 
 pub nothing-left : {X : Type 0} (xs : List X) → length xs ≡ 0 → xs ≡ []
@@ -61,7 +62,7 @@ module _ (airport : Airport) (wishes : List Wish) (start now : State) (all rest 
 
       pub goes-after : after_turns now (turns_among airport now wishes ((name, e) ∷ rest)) ≡ after_turns start (turns_among airport start wishes all)
           → after_turns new (turns_among airport new wishes rest) ≡ after_turns start (turns_among airport start wishes all)
-      goes-after so_far = after-on airport wishes now name e rest its_wish.0 its_wish.1 its_block.0 its_block.1 new goes ∙ so_far
+      goes-after so_far = after-passed airport wishes now name e rest its_wish.0 its_wish.1 its_block.0 its_block.1 new goes ∙ so_far
 
       pub goes-can : CanBeChecked wishes new rest
       goes-can = rest-can wishes now name e rest can airport its_wish.0 its_wish.1 its_block.0 new goes.1

@@ -9,7 +9,7 @@ use Rattle.taxi_base.specs.State.{State}
 use Rattle.taxi_text.specs.declared.command.Command.{Command}
 use Rattle.taxi_text.specs.declared.command.Command.TheVariants as command
 use Rattle.certificate.specs.declared.block.Block.{Block}
-use Rattle.certificate.specs.declared.block.Block.TheVariants.{Refused, Filed, Cancelled, Route, NoRoute, Windows, Occupancy, Timetable, Batch}
+use Rattle.certificate.specs.declared.block.Block.TheVariants.{Refused, Filed, Cancelled, Route, NoRoute, Windows, Occupancy, Timetable, Batch, Late}
 use Rattle.certificate.specs.declared.rule.Rule.{Rule}
 use Rattle.certificate.specs.declared.rule.Rule.TheVariants as rule
 use Rattle.certificate.specs.Refusals.{first_refusal}
@@ -17,7 +17,7 @@ use Rattle.certificate.specs.CarriedOut.{IsCarriedOut}
 use Rattle.certificate.specs.Sought.{Sought, sought_of}
 use Rattle.certificate.specs.declared.entries.Entry.{Entry}
 use Rattle.certificate.specs.declared.entries.Entry.TheVariants as entry
-use Rattle.certificate.specs.Turns.{Turn, after_told, tellings_of, in_turns, turns_for, sought_for}
+use Rattle.certificate.specs.Turns.{Turn, after_told, tellings_of, in_turns, begins_for, turns_for, sought_for}
 use Rattle.certificate.specs.Passes.{IsFormOf, IsAsAskedAlone, IsAsAsked, KeepsSought, KeepsTurn, IsFirstOf, BreaksFirst}
 use Rattle.certificate.proofs.TurnLaws.{IsAlone, asked-alone}
 use Rattle.transcripts.specs.declared.refused.CheckRefused.{CheckRefused}
@@ -122,11 +122,13 @@ IsPlain _ = ⊥
 
 plain-alone : (c : Command) → IsPlain c → IsAlone c
 plain-alone (command.Batch requests) plain = absurd plain
+plain-alone (command.Late name time until) plain = absurd plain
 plain-alone c plain = tt
 
-plain-for : (airport : Airport) (c : Command) → IsPlain c → (name : List ℕ) (now : State) → sought_for airport c name now ≡ None
-plain-for airport (command.Batch requests) plain name now = absurd plain
-plain-for airport c plain name now = refl
+plain-for : (airport : Airport) (before : State) (c : Command) → IsPlain c → (name : List ℕ) (now : State) → sought_for airport before c name now ≡ None
+plain-for airport before (command.Batch requests) plain name now = absurd plain
+plain-for airport before (command.Late flight time until) plain name now = absurd plain
+plain-for airport before c plain name now = refl
 
 module _ (airport : Airport) (state : State) where
   plain-sought : (c : Command) → IsPlain c → sought_of airport state c ≡ None
@@ -137,17 +139,30 @@ module _ (airport : Airport) (state : State) where
   plain-sought (command.ArrivalAny asked) plain = absurd plain
   plain-sought (command.DepartureAny asked) plain = absurd plain
   plain-sought (command.Batch requests) plain = absurd plain
+  plain-sought (command.Late name time until) plain = absurd plain
   plain-sought c plain = refl
 
   -- ---- commands of one request
 
   sought-alone : (c : Command) (s : Sought) → sought_of airport state c ≡ Some s → IsAlone c
   sought-alone (command.Batch requests) s sought = absurd (cc sought)
+  sought-alone (command.Late name time until) s sought = absurd (cc sought)
   sought-alone c s sought = tt
 
   alone-asked : (c : Command) (block : Block) → IsAlone c → IsAsAsked airport state c block → IsAsAskedAlone airport state c block
   alone-asked (command.Batch requests) block alone asked = absurd alone
+  alone-asked (command.Late name time until) block alone asked = absurd alone
   alone-asked c block alone asked = asked
+
+  -- ---- where searches begin
+
+  begins-alone : (c : Command) → IsAlone c → (block : Block) → begins_for airport state c block ≡ state
+  begins-alone (command.Late name time until) alone block = absurd alone
+  begins-alone c alone block = refl
+
+  begins-refused : (c : Command) (why : Refusal) → begins_for airport state c (Refused why) ≡ state
+  begins-refused (command.Late name time until) why = refl
+  begins-refused c why = refl
 
 module _ (airport : Airport) (state : State) (command : Command) (block : Block) where
   -- ---- a refusal is due
@@ -164,7 +179,7 @@ module _ (airport : Airport) (state : State) (command : Command) (block : Block)
       kept rule.Target = All-nil _
 
     pub refused-judged : block ≡ Refused why → IsJudged airport command block state (Ok tt) state
-    refused-judged is = (refused-keeps is, subst (λ b. IsAfterFor airport state command b state) (sym is) refl)
+    refused-judged is = (refused-keeps is, subst (λ b. IsAfterFor airport state command b state) (sym is) (sym (begins-refused airport state command why)))
 
     pub other-judged : (block ≡ Refused why → ⊥) → IsJudged airport command block state (Err (Wrong rule.Reply)) state
     other-judged other = ((λ form. other (rw due at form)), refl)
@@ -173,22 +188,23 @@ module _ (airport : Airport) (state : State) (command : Command) (block : Block)
     -- ---- a command that seeks no walk
 
     module _ (plain : IsPlain command) where
-      no-tellings : (entries : List (List ℕ × Entry)) → in_turns state (flat_map (tellings_of airport command) entries) ≡ []
-      no-tellings [] = refl
-      no-tellings ((name, entry.Route second steps labels) ∷ entries) = rw (plain-for airport command plain name state) refl
-      no-tellings ((name, entry.NoRoute labels) ∷ entries) = rw (plain-for airport command plain name state) refl
-      no-tellings ((name, entry.Dropped) ∷ entries) = no-tellings entries
+      no-tellings : (now : State) (entries : List (List ℕ × Entry)) → in_turns now (flat_map (tellings_of airport state command) entries) ≡ []
+      no-tellings now [] = refl
+      no-tellings now ((name, entry.Route second steps labels) ∷ entries) = rw (plain-for airport state command plain name now) refl
+      no-tellings now ((name, entry.NoRoute labels) ∷ entries) = rw (plain-for airport state command plain name now) refl
+      no-tellings now ((name, entry.Dropped) ∷ entries) = no-tellings now entries
 
       no-turns : (b : Block) → turns_for airport state command b ≡ []
-      no-turns (Route name second steps labels) = rw (plain-sought airport state command plain) refl
-      no-turns (NoRoute labels) = rw (plain-sought airport state command plain) refl
+      no-turns (Route name second steps labels) = rw (plain-sought airport (begins_for airport state command (Route name second steps labels)) command plain) refl
+      no-turns (NoRoute labels) = rw (plain-sought airport (begins_for airport state command (NoRoute labels)) command plain) refl
       no-turns (Refused why) = refl
       no-turns (Filed name start end) = refl
       no-turns (Cancelled name) = refl
       no-turns (Windows segment windows) = refl
       no-turns (Occupancy segment rows) = refl
       no-turns (Timetable rows) = refl
-      no-turns (Batch total entries) = no-tellings entries
+      no-turns (Batch total entries) = no-tellings (begins_for airport state command (Batch total entries)) entries
+      no-turns (Late name entries) = no-tellings (begins_for airport state command (Late name entries)) entries
 
       in-none : (r : Rule) → All (λ turn. KeepsTurn turn r) (turns_for airport state command block)
       in-none r = subst (All (λ turn. KeepsTurn turn r)) (sym (no-turns block)) (All-nil _)
@@ -217,12 +233,15 @@ module _ (airport : Airport) (state : State) (command : Command) (block : Block)
       abbrev turn : Turn
       turn = record { sought = s; told = block }
 
+      begins : (b : Block) → begins_for airport state command b ≡ state
+      begins b = begins-alone airport state command (sought-alone airport state command s sought) b
+
       -- what is of the form tells of one search
       one-turn : IsFormOf s block → turns_for airport state command block ≡ turn ∷ []
       one-turn form = go block form where
         go : (b : Block) → IsFormOf s b → turns_for airport state command b ≡ record { sought = s; told = b } ∷ []
-        go (Route name second steps labels) form = rw sought refl
-        go (NoRoute labels) form = rw sought refl
+        go (Route name second steps labels) form = rw (begins (Route name second steps labels), sought) refl
+        go (NoRoute labels) form = rw (begins (NoRoute labels), sought) refl
         go (Refused why) form = absurd form
         go (Filed name start end) form = absurd form
         go (Cancelled name) form = absurd form
@@ -230,6 +249,7 @@ module _ (airport : Airport) (state : State) (command : Command) (block : Block)
         go (Occupancy segment rows) form = absurd form
         go (Timetable rows) form = absurd form
         go (Batch total entries) form = absurd form
+        go (Late name entries) form = absurd form
 
       in-one : IsFormOf s block → (r : Rule) → KeepsTurn turn r → All (λ t. KeepsTurn t r) (turns_for airport state command block)
       in-one form r h = subst (All (λ t. KeepsTurn t r)) (sym (one-turn form)) (All-cons (λ t. KeepsTurn t r) turn [] h (All-nil _))
@@ -270,8 +290,8 @@ module _ (airport : Airport) (state : State) (command : Command) (block : Block)
           (due form, breaks form rule.Target (first.0, λ other low. kept-told s block other (first.1 other low)))
 
       after-for : (b : Block) (after : State) → IsFormOf s b → after ≡ after_told s b → IsAfterFor airport state command b after
-      after-for (Route name second steps labels) after form left = rw sought left
-      after-for (NoRoute labels) after form left = rw sought left
+      after-for (Route name second steps labels) after form left = rw (begins (Route name second steps labels), sought) left
+      after-for (NoRoute labels) after form left = rw (begins (NoRoute labels), sought) left
       after-for (Refused why) after form left = absurd form
       after-for (Filed name start end) after form left = absurd form
       after-for (Cancelled name) after form left = absurd form
@@ -279,6 +299,7 @@ module _ (airport : Airport) (state : State) (command : Command) (block : Block)
       after-for (Occupancy segment rows) after form left = absurd form
       after-for (Timetable rows) after form left = absurd form
       after-for (Batch total entries) after form left = absurd form
+      after-for (Late name entries) after form left = absurd form
 
       pub told-judged : (r : Result Unit CheckRefused) (after : State) → IsToldOf s block state r after → IsJudged airport command block state r after
       told-judged (Ok done) after told = (kept-for told.0, after-for block after (told.0 rule.Reply) told.1)

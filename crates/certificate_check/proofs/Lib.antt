@@ -11,6 +11,7 @@ mod ChoiceLaws
 mod GivenBack
 mod ApartLaws
 mod EachNamed
+mod EntryTurns
 mod BatchForm
 mod BatchEntries
 mod BatchState
@@ -18,3 +19,11 @@ mod BatchTurns
 mod BatchJudged
 mod BatchSteps
 mod BatchRun
+mod LateWay
+mod LateOrder
+mod LateForm
+mod LateSteps
+mod LateBase
+mod LateTurn
+mod LateTurns
+mod LateJudged

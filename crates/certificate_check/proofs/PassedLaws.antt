@@ -88,3 +88,9 @@ module _ (airport : Airport) (state : State) (well : IsWellFormed airport) (soun
     judged-checks (Ok done) after judged = passes after (passed airport state line block command read judged.0 after judged.1)
     judged-checks (Err (check.Wrong broken)) after judged = (first-broken airport state line block command read memory broken judged.0, judged.1)
     judged-checks (Err check.Memory) after judged = judged
+
+  -- whatever is answered, the state is sound then
+  pub checks-sound : (r : Result Unit CheckRefused) (after : State) → ChecksIn airport line block state r after → IsSound airport after
+  checks-sound (Ok done) after checks = checks.2
+  checks-sound (Err (check.Wrong broken)) after checks = subst (IsSound airport) (sym checks.1) sound
+  checks-sound (Err check.Memory) after checks = subst (IsSound airport) (sym checks) sound

@@ -48,10 +48,10 @@ ready-by airport held known state is sound go_on are_known spans = record {
 module _ (airport : Airport) (state : State) (name : List ℕ) (class : Class) (spans : HeldSpans) (has : AreSpansOf (holds_in airport state) spans) where
   -- what is sought of a new flight among the holders is sought so among their spans
   pub new-seeks : (request : Request) → Seeks (conditions_among airport class (holds_in_lists spans)) request [] None (sought_new airport state name class request)
-  new-seeks request = record { conditions = sym (same-conditions airport class spans (holds_in airport state) has); asked = refl; nodes = refl; under_way = refl; no_floor = refl }
+  new-seeks request = record { conditions = sym (same-conditions airport class spans (holds_in airport state) has); asked = refl; nodes = refl; under_way = refl; floor = refl }
 
   pub any-seeks : (choice : Choice) (node : Node) (others : List Node) → Seeks (conditions_among airport class (holds_in_lists spans)) (request_for choice node) others None (sought_any airport state name class choice node others)
-  any-seeks choice node others = record { conditions = sym (same-conditions airport class spans (holds_in airport state) has); asked = refl; nodes = refl; under_way = refl; no_floor = refl }
+  any-seeks choice node others = record { conditions = sym (same-conditions airport class spans (holds_in airport state) has); asked = refl; nodes = refl; under_way = refl; floor = refl }
 
 -- ---- what is told
 

@@ -1,19 +1,15 @@
--- How is the block of a batch checked: which entries tell of each wish once, and what is found of the entries one after the other?
-use Rattle.std.specs.Prelude.{ℕ, ◌≡◌, ◌+◌, ◌≤◌, pos, Bool, true, false, List, [], ◌∷◌, map, filter, flat_map, length, All, AllPairs, IsPermutation, IsFalse, IsSome, bytes_eq, Option, option_map, is_none, Result, Ok, Err, ⊤}
+-- How is the block of a batch checked: which entries tell of each wish once, and what do they seek one after the other?
+use Rattle.std.specs.Prelude.{ℕ, ◌≡◌, ◌+◌, ◌≤◌, pos, Bool, true, false, List, map, filter, length, All, AllPairs, IsPermutation, IsFalse, IsSome, bytes_eq, Option, option_map, is_none}
 use Rattle.taxi_base.specs.Airport.{Airport}
 use Rattle.taxi_base.specs.State.{State, has_holder, holder_count}
 use Rattle.certificate.specs.declared.entries.Entry.{Entry}
 use Rattle.certificate.specs.declared.entries.Entry.TheVariants as entry
 use Rattle.certificate.specs.declared.wish.Wish.{Wish}
-use Rattle.certificate.specs.declared.block.Block.TheVariants.{Route, NoRoute}
-use Rattle.certificate.specs.declared.rule.Rule.{Rule}
 use Rattle.certificate.specs.Printable.{IsTold}
 use Rattle.certificate.specs.Batches.{wish_named, names_of, total_of}
 use Rattle.certificate.specs.Sought.{Sought, sought_wish}
-use Rattle.certificate.specs.Turns.{Turn, Telling, in_turns}
-use Rattle.certificate.specs.Passes.{KeepsTurn, BreaksFirst}
-use Rattle.transcripts.specs.declared.refused.CheckRefused.{CheckRefused}
-use Rattle.transcripts.specs.declared.refused.CheckRefused.TheVariants.{Wrong, Memory}
+use Rattle.certificate.specs.Turns.{Turn}
+use Rattle.certificate_check.specs.Entries.{turns_by}
 
 -- ---- the form
 
@@ -36,21 +32,9 @@ TellsWishes wishes total entries = IsPermutation (map (λ told. told.0) entries)
 abbrev pub sought_named : Airport → List Wish → List ℕ → State → Option Sought
 sought_named airport wishes name state = option_map (sought_wish airport state) (wish_named name wishes)
 
-abbrev pub tellings_among : Airport → List Wish → List ℕ × Entry → List Telling
-tellings_among airport wishes (name, entry.Route second steps labels) =
-    record { sought_in = sought_named airport wishes name; told = Route name second steps labels } ∷ []
-tellings_among airport wishes (name, entry.NoRoute labels) = record { sought_in = sought_named airport wishes name; told = NoRoute labels } ∷ []
-tellings_among airport wishes (name, entry.Dropped) = []
-
--- those of the entries, each for its own wish, in the state after the entry before it
+-- the searches of entries, each for its own wish
 abbrev pub turns_among : Airport → State → List Wish → List (List ℕ × Entry) → List Turn
-turns_among airport state wishes entries = in_turns state (flat_map (tellings_among airport wishes) entries)
-
--- all searches keep every rule, or this one is the first that they break, or memory ran out
-abbrev pub AreChecked : List Turn → Result Unit CheckRefused → Type 0
-AreChecked turns (Ok done) = (rule : Rule) → All (λ turn. KeepsTurn turn rule) turns
-AreChecked turns (Err (Wrong broken)) = BreaksFirst turns broken
-AreChecked turns (Err Memory) = ⊤
+turns_among airport state wishes entries = turns_by (sought_named airport wishes) state entries
 
 -- the state without the flights that wishes name
 abbrev pub without_all : List Wish → State → State

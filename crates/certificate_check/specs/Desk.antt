@@ -1,8 +1,8 @@
 -- When are the parts of a checker in order?
-use Rattle.std.specs.Prelude.{All, ⊤}
+use Rattle.std.specs.Prelude.{All, IsTrue, ⊤}
 use Rattle.taxi_base.specs.declared.answers.Request.{Request}
 use Rattle.taxi_base.specs.declared.answers.Request.TheVariants as request
-use Rattle.taxi_base.specs.Airport.{Airport}
+use Rattle.taxi_base.specs.Airport.{Airport, layout_of, arc_exists}
 use Rattle.taxi_base.specs.State.{IsSound}
 use Rattle.checked_state.specs.declared.flights.HeldFlights.{HeldFlights}
 use Rattle.checked_state.specs.Flights.{state_of, HasSpansOf}
@@ -20,5 +20,12 @@ CanGoOn airport (request.Departure from to time queue) = CanBeSought airport (re
 pub record IsReady (airport : Airport) (held : HeldFlights) (known : KnownWindows) : Type 0 where
   pub is_sound : IsSound airport (state_of held)
   pub has_spans : HasSpansOf airport (state_of held) held
+  pub can_go_on : All (λ f. CanGoOn airport f.request) (state_of held).flights
+  pub are_known : AreKnownIn airport (state_of held) known
+
+-- The same of a state that may not be sound: its flights are on arcs of the airport.
+pub record IsTidy (airport : Airport) (held : HeldFlights) (known : KnownWindows) : Type 0 where
+  pub has_spans : HasSpansOf airport (state_of held) held
+  pub on_arcs : All (λ f. All (λ step. IsTrue (arc_exists (layout_of airport) step.arc)) f.steps) (state_of held).flights
   pub can_go_on : All (λ f. CanGoOn airport f.request) (state_of held).flights
   pub are_known : AreKnownIn airport (state_of held) known

@@ -10,7 +10,7 @@ use Rattle.certificate.specs.declared.rule.Rule.TheVariants as rule
 use Rattle.certificate.specs.Refusals.{first_refusal}
 use Rattle.certificate.specs.Replies.{IsDueTo}
 use Rattle.certificate.specs.Sought.{Sought}
-use Rattle.certificate.specs.Turns.{after_told, turns_for, after_turns}
+use Rattle.certificate.specs.Turns.{after_told, begins_for, turns_for, after_turns}
 use Rattle.certificate.specs.Passes.{IsFormOf, IsAsAsked, KeepsSought, KeepsTurn, IsFirstOf, BreaksFirst}
 use Rattle.transcripts.specs.declared.refused.CheckRefused.{CheckRefused}
 use Rattle.transcripts.specs.declared.refused.CheckRefused.TheVariants.{Wrong, Memory}
@@ -74,7 +74,7 @@ BreaksFor airport state command block rule.Target = IsDueForm airport state comm
 abbrev pub IsAfterFor : Airport → State → Command → Block → State → Type 0
 IsAfterFor airport state command (Filed name start end) after = IsDueTo airport state command (Filed name start end) after
 IsAfterFor airport state command (Cancelled name) after = IsDueTo airport state command (Cancelled name) after
-IsAfterFor airport state command block after = after ≡ after_turns state (turns_for airport state command block)
+IsAfterFor airport state command block after = after ≡ after_turns (begins_for airport state command block) (turns_for airport state command block)
 
 -- a block passes that keeps every rule, and only then the state changes
 abbrev pub IsJudged : Airport → Command → Block → State → Result Unit CheckRefused → State → Type 0

@@ -1,7 +1,9 @@
 pub mod Again
 pub mod Judged
+pub mod Entries
 pub mod Batch
 pub mod Desk
+pub mod Late
 pub mod Reports
 pub mod Checker
 pub mod Parties

@@ -195,6 +195,7 @@ fn route_among(
             steps: flight.steps.as_slice(),
             time: anew.time,
         }),
+        floor: None,
     };
     let broken = check_route(airport, flight.class, held.spans(), known, &sought, route)?;
     pass_unless(broken)
@@ -225,6 +226,7 @@ fn no_route_among(
             steps: flight.steps.as_slice(),
             time: anew.time,
         }),
+        floor: None,
     };
     let broken = check_no_route(airport, flight.class, held.spans(), known, &sought, labels)?;
     pass_unless(broken)

@@ -15,7 +15,8 @@ ghost use Rattle.checked_state.specs.Flights.{state_of};
 ghost use Rattle.check_walks.specs.Told.{CanBeSought};
 ghost use Rattle.certificate_check.specs.Desk.{IsReady};
 ghost use Rattle.certificate_check.specs.Judged.{IsJudged, IsToldOf};
-ghost use Rattle.certificate_check.specs.Batch.{AreChecked, CanBeChecked, turns_among, without_all};
+ghost use Rattle.certificate_check.specs.Entries.{AreChecked};
+ghost use Rattle.certificate_check.specs.Batch.{CanBeChecked, turns_among, without_all};
 
 use crate::CheckRefused;
 use crate::batch_form::{tells_each, wish_named};

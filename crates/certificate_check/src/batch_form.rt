@@ -42,7 +42,8 @@ fn are_named(wishes: &[Wish], entries: &[(Name, Entry)]) -> bool
     wishes.iter().all(|wish| is_named(&wish.name, entries))
 }
 
-fn is_named(name: &Name, entries: &[(Name, Entry)]) -> bool
+/// Whether an entry is that of a name.
+pub fn is_named(name: &Name, entries: &[(Name, Entry)]) -> bool
     ensures { result ≡ list_any (λ told. bytes_eq told.0 name.now) entries.now }
 {
     entries.iter().any(|told| told.0 == *name)

@@ -1,6 +1,7 @@
 //! The check of the block that answers a line.
 ghost use Rattle.std.specs.Prelude.{◌≡◌, ◌↔◌, IsTrue, Some};
 ghost use Rattle.taxi_base.specs.declared.answers.Refusal.TheVariants as refusal;
+ghost use Rattle.taxi_base.specs.State.{IsSound};
 ghost use Rattle.certificate.specs.declared.block.Block.TheVariants.{Refused};
 ghost use Rattle.certificate.specs.Asked.{IsInGrammar};
 ghost use Rattle.certificate.specs.Replies.{NeedsNoMemory};
@@ -15,6 +16,7 @@ use crate::anew::{check_divert, check_reroute};
 use crate::batch::check_batch;
 use crate::choice::{check_arrival_any, check_departure_any};
 use crate::filing::check_file;
+use crate::late::check_late;
 use crate::parties::{check_work, check_work_done};
 use crate::plain::{check_cancel, check_windows};
 use crate::reply::{is_refusal, pass_if};
@@ -84,7 +86,7 @@ fn judge(
     requires grammar { IsInGrammar command.now }
     requires ready { IsReady airport.now held.old known.old }
     ensures judged { IsJudged airport.now command.now block (state_of held.old) result (state_of held.new) }
-    ensures ready { IsReady airport.now held.new known.new }
+    ensures ready { IsSound airport.now (state_of held.new) → IsReady airport.now held.new known.new }
 {
     match command {
         Command::File(filed) => check_file(alloc, airport, held, known, filed, &block),
@@ -109,5 +111,10 @@ fn judge(
         Command::Batch(requests) => {
             check_batch(alloc, airport, held, known, requests.as_slice(), block)
         }
+        Command::Late {
+            flight,
+            time,
+            until,
+        } => check_late(alloc, airport, held, known, flight, *time, *until, block),
     }
 }

@@ -36,7 +36,11 @@ pub fn check_new(
     ensures told { IsToldOf (sought_new airport.now (state_of held.old) name.now class request) block (state_of held.old) result (state_of held.new) }
     ensures ready { IsReady airport.now held.new known.new }
 {
-    let sought = SoughtWalk { request, way: None };
+    let sought = SoughtWalk {
+        request,
+        way: None,
+        floor: None,
+    };
     match block {
         Block::Route {
             flight,

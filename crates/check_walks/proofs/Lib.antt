@@ -4,5 +4,5 @@ mod EndLaws
 pub mod CourseLaws
 pub mod ToldLaws
 mod TableLaws
-mod AskedLaws
+pub mod AskedLaws
 mod ChoiceLaws

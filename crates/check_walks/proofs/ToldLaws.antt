@@ -5,7 +5,7 @@ use Rattle.taxi_base.specs.declared.numbers.Node.{Node}
 use Rattle.taxi_base.specs.declared.rows.Step.{Step as Leg}
 use Rattle.taxi_base.specs.declared.rows.LabelRow.{LabelRow}
 use Rattle.taxi_base.specs.declared.answers.Request.{Request}
-use Rattle.taxi_base.specs.Walks.{Conditions}
+use Rattle.taxi_base.specs.Walks.{Conditions, begin_of}
 use Rattle.certificate.specs.declared.block.Block.TheVariants.{Route, NoRoute}
 use Rattle.certificate.specs.declared.rule.Rule.{Rule}
 use Rattle.certificate.specs.declared.rule.Rule.TheVariants as rule
@@ -17,7 +17,7 @@ use Rattle.check_rows.specs.declared.verdict.RowRule.{RowRule}
 use Rattle.check_rows.specs.declared.verdict.RowRule.TheVariants.{Rows, Start, Step, Target}
 use Rattle.check_rows.specs.Verdict.{IsVerdict}
 use Rattle.check_walks.specs.Course.{IsWalkIn}
-use Rattle.check_walks.specs.Told.{Seeks, IsVerdictOn, rule_of}
+use Rattle.check_walks.specs.Told.{BeginsAfter, SeeksAfter, IsVerdictOn, rule_of}
 
 -- the rules for rows, where there is a search
 match-verdict : {X : Type 0} (o : Option X) (P Q R S : X → Type 0) (verdict : Option RowRule) → MatchOption o ⊥ (λ x. IsVerdict (P x) (Q x) (R x) (S x) verdict)
@@ -83,21 +83,38 @@ module _ (IsKept : Rule → Type 0) (reply : IsKept rule.Reply) where
 -- ---- what is sought
 
 -- a walk that is sought where there are no other nodes
-pub among-alone : (c : Conditions) (request : Request) (way : Option UnderWay) (steps : List Leg) (second : ℕ) → IsWalkIn c request way steps × (second_of request steps ≡ second)
-    → DoesAsAsked c request [] way steps × (second_of request steps ≡ second)
-among-alone c request None steps second is = is
-among-alone c request (Some way) steps second is = is
+pub among-alone : (c : Conditions) (request : Request) (way : Option UnderWay) (steps : List Leg) → IsWalkIn c request way steps → DoesAsAsked c request [] way steps
+among-alone c request None steps is = is
+among-alone c request (Some way) steps is = is
+
+pub alone-among : (c : Conditions) (request : Request) (way : Option UnderWay) (steps : List Leg) → DoesAsAsked c request [] way steps → IsWalkIn c request way steps
+alone-among c request None steps is = is
+alone-among c request (Some way) steps is = is
+
+-- with the floor, where there is one
+pub with-floor : (floor : Option ℕ) (steps : List Leg) (P : Type 0) → P → BeginsAfter floor steps → MatchOption floor P (λ second. P × (second < begin_of steps))
+with-floor None steps P is after = is
+with-floor (Some second) steps P is after = (is, after)
+
+pub of-floor : (floor : Option ℕ) (steps : List Leg) (P : Type 0) → MatchOption floor P (λ second. P × (second < begin_of steps)) → P × BeginsAfter floor steps
+of-floor None steps P is = (is, tt)
+of-floor (Some second) steps P is = is
 
 -- the same walk with the conditions and the request that are known
-module _ (s : Sought) (c : Conditions) (request : Request) (others : List Node) (way : Option UnderWay) (seeks : Seeks c request others way s) where
+module _ (s : Sought) (c : Conditions) (request : Request) (others : List Node) (way : Option UnderWay) (floor : Option ℕ) (seeks : SeeksAfter c request others way floor s) where
   abbrev IsWalkOf : List Leg → ℕ → Type 0
-  IsWalkOf steps second = DoesAsAsked c request others way steps × (second_of request steps ≡ second)
+  IsWalkOf steps second = DoesAsAsked c request others way steps × BeginsAfter floor steps × (second_of request steps ≡ second)
 
   pub route-walk : (name : List ℕ) (second : ℕ) (steps : List Leg) (labels : List LabelRow) → IsWalkOf steps second → KeepsSought rule.Walk s (Route name second steps labels)
-  route-walk name second steps labels is = rw (seeks.conditions, seeks.asked, seeks.nodes, seeks.under_way, seeks.no_floor) is
+  route-walk name second steps labels is =
+      rw (seeks.conditions, seeks.asked, seeks.nodes, seeks.under_way, seeks.floor)
+      (with-floor floor steps (DoesAsAsked c request others way steps) is.0 is.1, is.2)
 
   pub walk-route : (name : List ℕ) (second : ℕ) (steps : List Leg) (labels : List LabelRow) → KeepsSought rule.Walk s (Route name second steps labels) → IsWalkOf steps second
-  walk-route name second steps labels keeps = rw (seeks.conditions, seeks.asked, seeks.nodes, seeks.under_way, seeks.no_floor) at keeps
+  walk-route name second steps labels keeps =
+      let kept = rw (seeks.conditions, seeks.asked, seeks.nodes, seeks.under_way, seeks.floor) at keeps in
+      let parts = of-floor floor steps (DoesAsAsked c request others way steps) kept.0 in
+      (parts.0, parts.1, kept.1)
 
   abbrev search : Option Search
   search = search_of request others way
@@ -114,8 +131,8 @@ module _ (s : Sought) (c : Conditions) (request : Request) (others : List Node) 
   route-first name second steps labels verdict walk is =
       rows-first (λ r. KeepsSought r s (Route name second steps labels)) tt (route-walk name second steps labels walk) verdict (on-search (Some second) labels verdict is)
 
-  pub no_route-first : (labels : List LabelRow) (verdict : Option RowRule) → IsVerdictOn c request others way None labels verdict → IsFirstOf (λ r. KeepsSought r s (NoRoute labels)) (rule_of verdict)
-  no_route-first labels verdict is = rows-first (λ r. KeepsSought r s (NoRoute labels)) tt tt verdict (rw seeks.no_floor (on-search None labels verdict is))
+  pub no_route-first : (labels : List LabelRow) (verdict : Option RowRule) → IsVerdictOn c request others way floor labels verdict → IsFirstOf (λ r. KeepsSought r s (NoRoute labels)) (rule_of verdict)
+  no_route-first labels verdict is = rows-first (λ r. KeepsSought r s (NoRoute labels)) tt tt verdict (rw seeks.floor (on-search floor labels verdict is))
 
   pub route-broken : (name : List ℕ) (second : ℕ) (steps : List Leg) (labels : List LabelRow) → (IsWalkOf steps second → ⊥)
       → IsFirstOf (λ r. KeepsSought r s (Route name second steps labels)) (Some rule.Walk)

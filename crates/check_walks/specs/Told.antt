@@ -1,11 +1,12 @@
 -- What can be sought, and which rule does the table of a search break first?
-use Rattle.std.specs.Prelude.{ℕ, ◌≡◌, ◌<◌, List, length, Option, Some, None, MatchOption}
+use Rattle.std.specs.Prelude.{ℕ, ◌≡◌, ◌<◌, List, length, Option, Some, None, MatchOption, ⊤}
 use Rattle.taxi_base.specs.declared.numbers.Node.{Node}
 use Rattle.taxi_base.specs.declared.answers.Request.{Request}
 use Rattle.taxi_base.specs.declared.answers.Request.TheVariants as request
 use Rattle.taxi_base.specs.declared.rows.LabelRow.{LabelRow}
+use Rattle.taxi_base.specs.declared.rows.Step.{Step as Leg}
 use Rattle.taxi_base.specs.Airport.{Airport}
-use Rattle.taxi_base.specs.Walks.{Conditions}
+use Rattle.taxi_base.specs.Walks.{Conditions, begin_of}
 use Rattle.certificate.specs.declared.rule.Rule.{Rule}
 use Rattle.certificate.specs.declared.rule.Rule.TheVariants as rule
 use Rattle.certificate.specs.Printable.{IsShort}
@@ -21,13 +22,22 @@ CanBeSought airport request.Filed = ⊥
 CanBeSought airport (request.Arrival from to time hold) = (from.0 < length airport.nodes) × (IsShort time × IsShort hold)
 CanBeSought airport (request.Departure from to time queue) = (to.0 < length airport.nodes) × (IsShort time × IsShort queue)
 
--- a search is for a walk under these conditions that does what is asked, with no floor
-pub record Seeks (c : Conditions) (request : Request) (others : List Node) (way : Option UnderWay) (s : Sought) : Type 0 where
+-- steps begin after a second, where there is one
+abbrev pub BeginsAfter : Option ℕ → List Leg → Type 0
+BeginsAfter None steps = ⊤
+BeginsAfter (Some second) steps = second < begin_of steps
+
+-- a search is for a walk under these conditions that does what is asked, and begins after a second where there is one
+pub record SeeksAfter (c : Conditions) (request : Request) (others : List Node) (way : Option UnderWay) (second : Option ℕ) (s : Sought) : Type 0 where
   pub conditions : s.conditions ≡ c
   pub asked : s.request ≡ request
   pub nodes : s.others ≡ others
   pub under_way : s.under_way ≡ way
-  pub no_floor : s.floor ≡ None
+  pub floor : s.floor ≡ second
+
+-- the same, whenever it begins
+abbrev pub Seeks : Conditions → Request → List Node → Option UnderWay → Sought → Type 0
+Seeks c request others way s = SeeksAfter c request others way None s
 
 -- ---- the table of a search; no public clause cites these
 

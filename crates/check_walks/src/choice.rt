@@ -133,6 +133,7 @@ fn goes_to(airport: &Airport, request: Request, node: Node, steps: &[Step]) -> b
     let sought = SoughtWalk {
         request: request.retargeted(node),
         way: None,
+        floor: None,
     };
     goes_as_asked(airport, &sought, steps)
 }

@@ -19,11 +19,13 @@ pub struct OnTheWay<'a> {
     pub time: Time,
 }
 
-/// The walk that is sought of a flight: what the flight asks for, and where it is if it is under way.
+/// The walk that is sought of a flight: what the flight asks for, and where it is if it is under way. It may have to begin after
+/// a second, the floor.
 #[derive(Clone, Copy)]
 pub struct SoughtWalk<'a> {
     pub request: Request,
     pub way: Option<OnTheWay<'a>>,
+    pub floor: Option<Time>,
 }
 
 /// The steps that stay, and how the walk begins after them.

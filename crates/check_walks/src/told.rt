@@ -7,7 +7,7 @@ ghost use Rattle.certificate.specs.Sought.{Sought};
 ghost use Rattle.certificate.specs.Passes.{KeepsSought, IsFirstOf};
 ghost use Rattle.check_rows.specs.Known.{AreKnown};
 ghost use Rattle.check_walks.specs.Course.{way_of};
-ghost use Rattle.check_walks.specs.Told.{CanBeSought, Seeks};
+ghost use Rattle.check_walks.specs.Told.{CanBeSought, SeeksAfter};
 
 use crate::course::SoughtWalk;
 use crate::tables::{check_table, rule_of};
@@ -41,7 +41,7 @@ pub fn check_route<H: HoldsOf>(
     requires early { ForSome (way_of sought.now.way) (λ way. All (λ step. step.enter ≤ 9999999) way.steps) }
     requires known { AreKnown (length airport.now.segments) (free_among airport.now (H.held holds.now)) known.old }
     ensures known { AreKnown (length airport.now.segments) (free_among airport.now (H.held holds.now)) known.new }
-    ensures first { IfOk result (λ broken. (s : Sought) → Seeks (conditions_among airport.now class (H.held holds.now)) sought.now.request [] (way_of sought.now.way) s → (name : List ℕ) → IsFirstOf (λ rule. KeepsSought rule s (Route name told.now.second told.now.steps.now told.now.labels.now)) broken) }
+    ensures first { IfOk result (λ broken. (s : Sought) → SeeksAfter (conditions_among airport.now class (H.held holds.now)) sought.now.request [] (way_of sought.now.way) sought.now.floor s → (name : List ℕ) → IsFirstOf (λ rule. KeepsSought rule s (Route name told.now.second told.now.steps.now told.now.labels.now)) broken) }
 {
     let walk = keeps_walk(
         airport,
@@ -60,7 +60,7 @@ pub fn check_route<H: HoldsOf>(
     Ok(rule_of(verdict))
 }
 
-/// The same where a block tells that there is no route.
+/// The same where a block tells that there is no route. The floor, where there is one, bounds the table.
 pub fn check_no_route<H: HoldsOf>(
     airport: &Airport,
     class: Class,
@@ -73,8 +73,8 @@ pub fn check_no_route<H: HoldsOf>(
     requires early { ForSome (way_of sought.now.way) (λ way. All (λ step. step.enter ≤ 9999999) way.steps) }
     requires known { AreKnown (length airport.now.segments) (free_among airport.now (H.held holds.now)) known.old }
     ensures known { AreKnown (length airport.now.segments) (free_among airport.now (H.held holds.now)) known.new }
-    ensures first { IfOk result (λ broken. (s : Sought) → Seeks (conditions_among airport.now class (H.held holds.now)) sought.now.request [] (way_of sought.now.way) s → IsFirstOf (λ rule. KeepsSought rule s (NoRoute labels.now)) broken) }
+    ensures first { IfOk result (λ broken. (s : Sought) → SeeksAfter (conditions_among airport.now class (H.held holds.now)) sought.now.request [] (way_of sought.now.way) sought.now.floor s → IsFirstOf (λ rule. KeepsSought rule s (NoRoute labels.now)) broken) }
 {
-    let verdict = check_table(airport, class, holds, known, sought, labels, None)?;
+    let verdict = check_table(airport, class, holds, known, sought, labels, sought.floor)?;
     Ok(rule_of(verdict))
 }

@@ -5,7 +5,7 @@ ghost use Rattle.taxi_base.specs.Walks.{conditions_among, free_among};
 ghost use Rattle.certificate.specs.Printable.{IsShort};
 ghost use Rattle.certificate.specs.CarriedOut.{second_of};
 ghost use Rattle.check_rows.specs.Known.{AreKnown};
-ghost use Rattle.check_walks.specs.Told.{CanBeSought};
+ghost use Rattle.check_walks.specs.Told.{CanBeSought, BeginsAfter};
 ghost use Rattle.check_walks.specs.Course.{way_of, IsWalkIn};
 ghost use Rattle.check_walks.specs.Steps.{GoesAsAsked, Departs};
 
@@ -14,9 +14,9 @@ use crate::feasible::is_feasible_walk;
 use airport_file::Airport;
 use check_rows::KnownWindows;
 use held_spans::HoldsOf;
-use taxi_base::{Class, Memory, Node, Request, Step, Time};
+use taxi_base::{Class, Memory, Node, Request, Step, Time, begin_of};
 
-/// Whether the steps are a walk that does what was asked for, and the second is that of the walk.
+/// Whether the steps are a walk that does what was asked for and begins after the floor, and the second is that of the walk.
 pub fn keeps_walk<H: HoldsOf>(
     airport: &Airport,
     class: Class,
@@ -29,7 +29,7 @@ pub fn keeps_walk<H: HoldsOf>(
     requires sought { CanBeSought airport.now sought.now.request }
     requires known { AreKnown (length airport.now.segments) (free_among airport.now (H.held holds.now)) known.old }
     ensures known { AreKnown (length airport.now.segments) (free_among airport.now (H.held holds.now)) known.new }
-    ensures walk { IfOk result (λ yes. IsTrue yes ↔ (IsWalkIn (conditions_among airport.now class (H.held holds.now)) sought.now.request (way_of sought.now.way) steps.now × (second_of sought.now.request steps.now ≡ second))) }
+    ensures walk { IfOk result (λ yes. IsTrue yes ↔ (IsWalkIn (conditions_among airport.now class (H.held holds.now)) sought.now.request (way_of sought.now.way) steps.now × BeginsAfter sought.now.floor steps.now × (second_of sought.now.request steps.now ≡ second))) }
 {
     let walk = is_feasible_walk(airport, class, holds, known, steps)?;
     if !walk {
@@ -38,7 +38,21 @@ pub fn keeps_walk<H: HoldsOf>(
     if !goes_as_asked(airport, sought, steps) {
         return Ok(false);
     }
+    if !begins_after(sought.floor, steps) {
+        return Ok(false);
+    }
     Ok(second_at(&sought.request, steps) == second)
+}
+
+// Whether steps begin after the floor, where there is one.
+fn begins_after(floor: Option<Time>, steps: &[Step]) -> bool
+    requires { 0 < length steps.now }
+    ensures { IsTrue result ↔ BeginsAfter floor steps.now }
+{
+    match floor {
+        Some(floor) => floor < begin_of(steps),
+        None => true,
+    }
 }
 
 /// Whether a walk begins and ends as was asked.

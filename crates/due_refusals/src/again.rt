@@ -9,15 +9,10 @@ pub fn reroute_refused(flight: &Flight, time: Time) -> Option<Refusal>
     requires { 0 < length flight.now.steps }
     ensures { result ≡ first_of (not_routed flight.now ∷ already_done time flight.now ∷ already_moving time flight.now ∷ []) }
 {
-    if is_filed(&flight.request) {
-        return Some(Refusal::NotRouted);
+    if let Some(why) = fixed_refused(flight, time) {
+        return Some(why);
     }
-    let steps = flight.steps.as_slice();
-    let end = end_of(steps);
-    if end <= time {
-        return Some(Refusal::AlreadyDone { end });
-    }
-    let start = begin_of(steps);
+    let start = begin_of(flight.steps.as_slice());
     if is_departure(&flight.request) && start <= time {
         return Some(Refusal::AlreadyMoving { start });
     }
@@ -34,6 +29,21 @@ pub fn divert_refused(flight: &Flight, time: Time) -> Option<Refusal>
     }
     if is_departure(&flight.request) {
         return Some(Refusal::NotArrival);
+    }
+    let end = end_of(flight.steps.as_slice());
+    if end <= time {
+        return Some(Refusal::AlreadyDone { end });
+    }
+    None
+}
+
+/// Why nothing of a flight is changed from a time on: its route was given by hand, or it has ended.
+pub(crate) fn fixed_refused(flight: &Flight, time: Time) -> Option<Refusal>
+    requires { 0 < length flight.now.steps }
+    ensures { result ≡ first_of (not_routed flight.now ∷ already_done time flight.now ∷ []) }
+{
+    if is_filed(&flight.request) {
+        return Some(Refusal::NotRouted);
     }
     let end = end_of(flight.steps.as_slice());
     if end <= time {

@@ -8,6 +8,7 @@ mod choice;
 mod faults;
 mod filed;
 mod holder;
+mod late;
 mod shut;
 mod taken;
 
@@ -16,4 +17,5 @@ pub use asked::{Named, named_arrival, named_departure};
 pub use batch::{NamedBatch, named_batch};
 pub use choice::{NamedAny, named_arrival_any, named_departure_any};
 pub use filed::{Due, find_due};
+pub use late::late_refused;
 pub use shut::{hold_fault, named_party};

@@ -8,5 +8,6 @@ mod onward;
 mod starting;
 
 pub use arriving::{arrive, arrive_to_one_of};
+pub use joining::push_steps;
 pub use onward::{Onward, arrive_onward};
 pub use starting::Start;

@@ -7,12 +7,12 @@ ghost use Rattle.place_cells.specs.Laid.{windows_of};
 ghost use Rattle.forward_search.specs.declared.starting.Start.TheVariants as start;
 
 use crate::arriving::arrive;
-use crate::joining::{after_steps, under_way};
+use crate::joining::after_steps;
 use crate::starting::Start;
 use airport_file::Airport;
 use place_cells::SearchRoom;
 use std::alloc::Global;
-use taxi_base::{Class, Found, Memory, Node, Step, Time};
+use taxi_base::{Class, Found, Memory, Node, Step, Time, under_way};
 use window_store::WindowStore;
 
 /// From where walks go on at a time: from the step that was entered last by then, or, where none was, from a node.

@@ -76,7 +76,8 @@ impl Summary {
             | Block::Windows { .. }
             | Block::Occupancy { .. }
             | Block::Timetable { .. }
-            | Block::Batch { .. } => (),
+            | Block::Batch { .. }
+            | Block::Late { .. } => (),
         }
     }
 }

@@ -144,6 +144,12 @@ pub enum Refusal {
     AlreadyMoving { start: Time },
     Full,
     Step(StepFault),
+    /// The flight has not begun: it begins at `start`.
+    NotMoving { start: Time },
+    /// The flight is not late: it leaves its segment at `leave`.
+    NotLate { leave: Time },
+    /// It would stay past the horizon.
+    PastEnd { horizon: Time },
     Memory,
 }
 

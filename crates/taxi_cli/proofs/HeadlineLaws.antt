@@ -35,6 +35,7 @@ use Rattle.certificate.specs.declared.wish.Wish.{Wish}
 use Rattle.certificate.specs.Printable.{IsPrintable, IsTold}
 use Rattle.certificate.specs.Asked.{asked_in}
 use Rattle.certificate.specs.Batches.{wishes_of, wish_named, names_of, TellsBatch}
+use Rattle.certificate.specs.Repairs.{TellsRepair}
 use Rattle.certificate.specs.CarriedOut.{second_of, IsCarriedOut}
 use Rattle.certificate.specs.Refusals.{first_refusal}
 use Rattle.certificate.specs.Replies.{IsAnswered, HaveNames}
@@ -45,7 +46,8 @@ use Rattle.certificate.specs.Turns.{Turn, told_of, told_in, after_told, turns_of
 use Rattle.certificate.proofs.PassLaws.{reply-passes}
 use Rattle.certificate.proofs.BestLaws.{passed-best}
 use Rattle.certificate.proofs.BatchNames.{wishes-names}
-use Rattle.certificate.proofs.BatchTurns.{block_of, turns_from, turns-cons, batch-turns}
+use Rattle.certificate.proofs.EntryTurns.{block_of, turns_from, turns-cons}
+use Rattle.certificate.proofs.BatchTurns.{wish-sought, batch-turns}
 use Rattle.certificate.proofs.TurnLaws.{all-one, one_turn}
 use Rattle.program_endings.specs.declared.status.Status.{Status}
 use Rattle.program_endings.specs.declared.status.Status.TheVariants as status
@@ -105,6 +107,7 @@ told-of_searches : (b : Block) → All IsOfSearch (told_in b)
 told-of_searches (block.Route name second steps labels) = all-one IsOfSearch (block.Route name second steps labels) tt
 told-of_searches (block.NoRoute labels) = all-one IsOfSearch (block.NoRoute labels) tt
 told-of_searches (block.Batch total entries) = entries-of_searches entries
+told-of_searches (block.Late name entries) = entries-of_searches entries
 told-of_searches (block.Refused why) = All-nil IsOfSearch
 told-of_searches (block.Filed name start end) = All-nil IsOfSearch
 told-of_searches (block.Cancelled name) = All-nil IsOfSearch
@@ -127,6 +130,7 @@ turn-answers s (block.Windows segment windows) is best = absurd is
 turn-answers s (block.Occupancy segment held) is best = absurd is
 turn-answers s (block.Timetable flights) is best = absurd is
 turn-answers s (block.Batch total entries) is best = absurd is
+turn-answers s (block.Late name entries) is best = absurd is
 
 searches-answered : (airport : Airport) (state : State) (line : List ℕ) (b : Block) → TellsBest airport state line b → All AnswersSearch (turns_of airport state line b)
 searches-answered airport state line b tells =
@@ -144,6 +148,7 @@ alone-form airport state command s b is asked =
 
 asked-form : (airport : Airport) (state : State) (command : Command) (s : Sought) (b : Block) → sought_of airport state command ≡ Some s → IsAsAsked airport state command b → IsFormOf s b
 asked-form airport state (command.Batch requests) s b is asked = absurd (none-some s is)
+asked-form airport state (command.Late name time until) s b is asked = absurd (none-some s is)
 asked-form airport state (command.File filed) s b is asked = alone-form airport state (command.File filed) s b is asked
 asked-form airport state (command.Arrival words) s b is asked = alone-form airport state (command.Arrival words) s b is asked
 asked-form airport state (command.Departure words) s b is asked = alone-form airport state (command.Departure words) s b is asked
@@ -173,23 +178,25 @@ names-found (wish ∷ wishes) =
     (All-weaker (λ n. IsTrue (is_some (wish_named n wishes))) (λ n. IsTrue (is_some (wish_named n (wish ∷ wishes))))
     (λ n there. elim (cases_Bool (bytes_eq wish.name n)) [ inl here ↦ rw here refl | inr other ↦ rw other there ]) (names_of wishes) (names-found wishes))
 
-module _ (airport : Airport) (requests : List BatchRequest) (wishes : List Wish) (known : wishes_of airport requests ≡ Some wishes) where
+module _ (airport : Airport) (before : State) (requests : List BatchRequest) (wishes : List Wish) (known : wishes_of airport requests ≡ Some wishes) where
   -- one for each entry, for the flight of its name
   searches-names : (state : State) (entries : List (List ℕ × Entry)) → All IsTold entries → All (λ (told : List ℕ × Entry). IsTrue (is_some (wish_named told.0 wishes))) entries
-      → map (λ turn. turn.sought.name) (turns_from airport requests wishes known state entries) ≡ map (λ told. told.0) entries
+      → map (λ turn. turn.sought.name) (turns_from airport before (command.Batch requests) state entries) ≡ map (λ told. told.0) entries
   searches-names state [] are found = refl
   searches-names state (told ∷ entries) are found =
       go (λ s. searches-names s entries (All-tail IsTold told entries are) (All-tail (λ (t : List ℕ × Entry). IsTrue (is_some (wish_named t.0 wishes))) told entries found)) (wish_named told.0 wishes) refl
       (All-head (λ (t : List ℕ × Entry). IsTrue (is_some (wish_named t.0 wishes))) told entries found)
     where
-      go : ((s : State) → map (λ turn. turn.sought.name) (turns_from airport requests wishes known s entries) ≡ map (λ (t : List ℕ × Entry). t.0) entries)
+      go : ((s : State) → map (λ turn. turn.sought.name) (turns_from airport before (command.Batch requests) s entries) ≡ map (λ (t : List ℕ × Entry). t.0) entries)
           → (o : Option Wish) → wish_named told.0 wishes ≡ o → IsTrue (is_some o)
-          → map (λ turn. turn.sought.name) (turns_from airport requests wishes known state (told ∷ entries)) ≡ map (λ (t : List ℕ × Entry). t.0) (told ∷ entries)
+          → map (λ turn. turn.sought.name) (turns_from airport before (command.Batch requests) state (told ∷ entries)) ≡ map (λ (t : List ℕ × Entry). t.0) (told ∷ entries)
       go later None named there = absurd (cc there)
       go later (Some wish) named there =
           let first : wish.name ≡ told.0 = lists.find-named (λ (w : Wish). w.name) told.0 wishes wish named in
-          let rest = later (after_told (sought_wish airport state wish) (block_of told)) in
-          ap (map (λ (turn : Turn). turn.sought.name)) (turns-cons airport requests wishes known state told entries wish (All-head IsTold told entries are) named) ∙ (λ i. first i ∷ rest i)
+          let s : Sought = sought_wish airport state wish in
+          let seeks = wish-sought airport before requests wishes known state told.0 wish named in
+          let rest = later (after_told s (block_of told)) in
+          ap (map (λ (turn : Turn). turn.sought.name)) (turns-cons airport before (command.Batch requests) state told entries s (All-head IsTold told entries are) seeks) ∙ (λ i. first i ∷ rest i)
 
 batch-searches : (airport : Airport) (state : State) (line : List ℕ) (requests : List BatchRequest) (b : Block) → command_of line ≡ Some (command.Batch requests) → TellsBatch airport requests b
     → IsPermutation (map (λ turn. turn.sought.name) (turns_of airport state line b)) (map (λ request. (asked_in request).flight) requests)
@@ -199,7 +206,7 @@ batch-searches airport state line requests (block.Batch total entries) read tell
     let found = All-permutation (λ n. IsTrue (is_some (wish_named n wishes))) (names_of wishes) (map (λ told. told.0) entries) back (names-found wishes) in
     let names : map (λ turn. turn.sought.name) (turns_of airport state line (block.Batch total entries)) ≡ map (λ (told : List ℕ × Entry). told.0) entries =
     ap (map (λ (turn : Turn). turn.sought.name)) (batch-turns airport state line requests total entries read)
-    ∙ searches-names airport requests wishes tells.1 state entries tells.3 (of_mapped (λ n. IsTrue (is_some (wish_named n wishes))) (λ (told : List ℕ × Entry). told.0) entries found) in
+    ∙ searches-names airport state requests wishes tells.1 state entries tells.3 (of_mapped (λ n. IsTrue (is_some (wish_named n wishes))) (λ (told : List ℕ × Entry). told.0) entries found) in
     subst (λ (ns : List (List ℕ)). IsPermutation ns (map (λ (request : BatchRequest). (asked_in request).flight) requests)) (sym names)
     (subst (IsPermutation (map (λ (told : List ℕ × Entry). told.0) entries)) (wishes-names airport requests wishes tells.1) tells.2)
 batch-searches airport state line requests (block.Route name second steps labels) read tells = absurd tells
@@ -210,6 +217,7 @@ batch-searches airport state line requests (block.Cancelled name) read tells = a
 batch-searches airport state line requests (block.Windows segment windows) read tells = absurd tells
 batch-searches airport state line requests (block.Occupancy segment held) read tells = absurd tells
 batch-searches airport state line requests (block.Timetable flights) read tells = absurd tells
+batch-searches airport state line requests (block.Late name entries) read tells = absurd tells
 
 -- ---- one command in its turn
 
@@ -224,6 +232,7 @@ answers-command airport state line b after well sound answered =
       all_told = best.all_told;
       searched = λ command read none s is memory. searched command read none s is memory (passed.keeps rule.Reply);
       batched = λ requests read none memory. batched requests read none memory (passed.keeps rule.Reply);
+      repaired = λ name time until read none memory. repaired name time until read none memory (passed.keeps rule.Reply);
       clash_free = answered.clash_free;
       passes = passed;
     }
@@ -238,6 +247,11 @@ answers-command airport state line b after well sound answered =
         → KeepsReply airport state line b → IsPermutation (map (λ turn. turn.sought.name) (turns_of airport state line b)) (map (λ request. (asked_in request).flight) requests)
     batched requests read none memory (inl want) = absurd (memory want.1)
     batched requests read none memory (inr form) = batch-searches airport state line requests b read (due-asked airport state line (command.Batch requests) b read none form)
+
+    repaired : (name : List ℕ) (time until : ℕ) → command_of line ≡ Some (command.Late name time until) → first_refusal airport state (command.Late name time until) ≡ None
+        → (b ≡ block.Refused refusal.Memory → ⊥) → KeepsReply airport state line b → TellsRepair airport state name time until b
+    repaired name time until read none memory (inl want) = absurd (memory want.1)
+    repaired name time until read none memory (inr form) = due-asked airport state line (command.Late name time until) b read none form
 
 -- ---- a run
 

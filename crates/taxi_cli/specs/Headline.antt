@@ -23,6 +23,7 @@ use Rattle.certificate.specs.declared.block.Block.{Block}
 use Rattle.certificate.specs.declared.block.Block.TheVariants.{Refused, Route, NoRoute}
 use Rattle.certificate.specs.Asked.{asked_in}
 use Rattle.certificate.specs.Refusals.{first_refusal}
+use Rattle.certificate.specs.Repairs.{TellsRepair}
 use Rattle.certificate.specs.Replies.{IsReply}
 use Rattle.certificate.specs.Passes.{IsPassed}
 use Rattle.certificate.specs.Sought.{Sought, sought_of, IsWalkFor}
@@ -71,6 +72,9 @@ pub record AnswersCommand (airport : Airport) (state : State) (line : List ℕ) 
   pub batched : (requests : List BatchRequest) → command_of line ≡ Some (command.Batch requests) → first_refusal airport state (command.Batch requests) ≡ None
       → (block ≡ Refused refusal.Memory → ⊥)
       → IsPermutation (map (λ turn. turn.sought.name) (turns_of airport state line block)) (map (λ request. (asked_in request).flight) requests)
+  -- so are the flight that is late and those in its way, in turn; who asked for nothing is dropped
+  pub repaired : (name : List ℕ) → (time until : ℕ) → command_of line ≡ Some (command.Late name time until) → first_refusal airport state (command.Late name time until) ≡ None
+      → (block ≡ Refused refusal.Memory → ⊥) → TellsRepair airport state name time until block
   -- no two aircraft hold conflicting segments at one moment
   pub clash_free : IsClashFree airport after
   -- the checker accepts the block

@@ -32,6 +32,7 @@ wants-needs airport state (command.WorkDone name) may needs = may
 wants-needs airport state (command.ArrivalAny asked) may needs = needs
 wants-needs airport state (command.DepartureAny asked) may needs = needs
 wants-needs airport state (command.Batch requests) may needs = needs
+wants-needs airport state (command.Late flight time until) may needs = needs
 
 module _ (old new : EngineState) (line : List ℕ) (well : IsWellFormed old.airport) (sound : IsSound old.airport old.state) (names : HaveNames old.state) where
   -- by what a reply says
@@ -89,6 +90,7 @@ module _ (old new : EngineState) (line : List ℕ) (well : IsWellFormed old.airp
     filing (command.ArrivalAny asked) file = tt
     filing (command.DepartureAny asked) file = tt
     filing (command.Batch requests) file = tt
+    filing (command.Late flight time until) file = absurd file
 
     go : (o : Option Command) → command_of line ≡ o → IsSomeAnd o EndsInList → Answers old line new
     go None e files = absurd files

@@ -1,12 +1,10 @@
 -- Of a batch that is refused nothing: its wishes can be sequenced, what comes of it can be written, and is due.
-use Rattle.std.proofs.Common.{◌≡◌, ℕ, ◌+◌, ◌≤◌, ◌<◌, nat_le, List, [], ◌∷◌, length, map, IsTrue, IsFalse, Some, None, option_map, refl, subst, arith, inl, inr, bytes_eq}
+use Rattle.std.proofs.Common.{◌≡◌, ℕ, ◌+◌, ◌≤◌, nat_le, List, [], ◌∷◌, length, IsTrue, IsFalse, Some, None, option_map, refl, subst, arith, inl, inr, bytes_eq}
 use Rattle.std.specs.Prelude.{All, AllPairs}
 use Rattle.std.proofs.lemmas.Bool.{and_parts, leb-true}
 use Rattle.std.proofs.lemmas.List.{length-map}
 use Rattle.std.proofs.lemmas.List.Elements.{All-nil, All-cons, All-head, All-tail, All-weaker}
 use Rattle.std.proofs.lemmas.List.Sorted.{All-permutation}
-use Rattle.taxi_base.specs.declared.rows.Step.{Step}
-use Rattle.taxi_base.specs.declared.rows.LabelRow.{LabelRow}
 use Rattle.taxi_base.specs.declared.answers.Request.{Request}
 use Rattle.taxi_base.specs.declared.answers.Request.TheVariants as request
 use Rattle.taxi_base.specs.Airport.{Airport, IsWellFormed, node_named}
@@ -87,7 +85,7 @@ module _ (airport : Airport) where
 
   -- ---- what comes of it can be written
 
-  printable-writable : (told : List ℕ × Entry) → IsPrintableEntry airport told → IsWritableEntry airport told
+  pub printable-writable : (told : List ℕ × Entry) → IsPrintableEntry airport told → IsWritableEntry airport told
   printable-writable (name, entry.Route second steps labels) fine = (
     All-weaker (IsPrintableStep airport) (λ s. HasArc airport s.arc) (λ s is. is.0) steps fine.1.0,
     All-weaker (IsPrintableLabel airport) (λ l. HasArc airport l.arc) (λ l is. is.0) labels fine.1.1,

@@ -8,3 +8,4 @@ mod ChosenDue
 pub mod ReroutedDue
 pub mod ReroutedTold
 pub mod BatchLaws
+mod LateDone

@@ -4,3 +4,4 @@ pub mod Routed
 pub mod Rerouted
 pub mod Choosing
 pub mod Batched
+pub mod Repaired

@@ -124,6 +124,11 @@ impl Engine {
             Command::ArrivalAny(asked) => self.route_arrival_any(asked),
             Command::DepartureAny(asked) => self.route_departure_any(asked),
             Command::Batch(requests) => self.route_batch(requests.as_slice()),
+            Command::Late {
+                flight,
+                time,
+                until,
+            } => self.repair_late(flight, *time, *until),
             Command::Cancel { flight } => self.cancel(flight),
             Command::Reroute { flight, time } => self.reroute(flight, *time),
             Command::Divert { flight, time, node } => self.divert(flight, *time, node),

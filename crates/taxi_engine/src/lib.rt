@@ -6,6 +6,7 @@ mod cancelling;
 mod choosing;
 mod engine;
 mod filing;
+mod late;
 mod reply;
 mod reporting;
 mod rerouting;

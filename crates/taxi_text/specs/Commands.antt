@@ -6,7 +6,7 @@ use Rattle.taxi_text.specs.declared.command.AskedAny.{AskedAny}
 use Rattle.taxi_text.specs.declared.command.BatchRequest.{BatchRequest}
 use Rattle.taxi_text.specs.declared.command.BatchRequest.TheVariants as requested
 use Rattle.taxi_text.specs.declared.command.Command.{Command}
-use Rattle.taxi_text.specs.declared.command.Command.TheVariants.{File, Arrival, Departure, Cancel, Reroute, Divert, Windows, Occupancy, Timetable, Work, WorkDone, ArrivalAny, DepartureAny, Batch}
+use Rattle.taxi_text.specs.declared.command.Command.TheVariants.{File, Arrival, Departure, Cancel, Reroute, Divert, Windows, Occupancy, Timetable, Work, WorkDone, ArrivalAny, DepartureAny, Batch, Late}
 use Rattle.taxi_text.specs.Words.{words_of}
 use Rattle.taxi_text.specs.Fields.{name_of, number_of, arc_word_of}
 
@@ -58,6 +58,10 @@ reroute_of = a_name (λ flight. a_number (λ time. the_end (Reroute flight time)
 -- FLIGHT TIME NODE
 abbrev pub divert_of : List (List ℕ) → Option Command
 divert_of = a_name (λ flight. a_number (λ time. a_name (λ node. the_end (Divert flight time node))))
+
+-- FLIGHT TIME UNTIL
+abbrev pub late_of : List (List ℕ) → Option Command
+late_of = a_name (λ flight. a_number (λ time. a_number (λ until. the_end (Late flight time until))))
 
 -- SEGMENT
 abbrev pub windows_of : List (List ℕ) → Option Command
@@ -166,12 +170,13 @@ unlisted_of verb words =
     else (if bytes_eq verb (codes "cancel") then cancel_of words
     else (if bytes_eq verb (codes "reroute") then reroute_of words
     else (if bytes_eq verb (codes "divert") then divert_of words
+    else (if bytes_eq verb (codes "late") then late_of words
     else (if bytes_eq verb (codes "windows") then windows_of words
     else (if bytes_eq verb (codes "occupancy") then occupancy_of words
     else (if bytes_eq verb (codes "timetable") then timetable_of words
     else (if bytes_eq verb (codes "work") then work_of words
     else (if bytes_eq verb (codes "workdone") then work_done_of words
-    else None)))))))))
+    else None))))))))))
 
 -- the form that the first word says, of the words after it
 abbrev pub command_of_words : List (List ℕ) → Option Command

@@ -95,6 +95,12 @@ pub enum Command {
     DepartureAny(AskedAny),
     /// 2 to 6 arrivals and departures, to be served in an order that no exchange of neighbours betters.
     Batch(List<BatchRequest>),
+    /// The flight stays on its segment at `time` until a second that is later than planned.
+    Late {
+        flight: Name,
+        time: Time,
+        until: Time,
+    },
 }
 
 /// Why no command was read.

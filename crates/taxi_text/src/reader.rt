@@ -1,6 +1,6 @@
 //! From a line to its command.
 ghost use Rattle.std.specs.Prelude.{◌≡◌, ◌↔◌, ◌==◌, Some, None, IfOk, IsSome, IsSomeAnd, length, take, drop};
-ghost use Rattle.taxi_text.specs.Commands.{command_of, EndsInList, file_of, unlisted_of, asked_of, arrival_of, departure_of, cancel_of, reroute_of, divert_of, windows_of, occupancy_of, timetable_of, work_of, work_done_of, first_as, the_end};
+ghost use Rattle.taxi_text.specs.Commands.{command_of, EndsInList, file_of, unlisted_of, asked_of, arrival_of, departure_of, cancel_of, reroute_of, divert_of, late_of, windows_of, occupancy_of, timetable_of, work_of, work_done_of, first_as, the_end};
 ghost use Rattle.taxi_text.specs.Fields.{name_of, number_of};
 ghost use Rattle.taxi_text.specs.Reading.{IsReading};
 ghost use Rattle.taxi_text.specs.Words.{words_left};
@@ -78,6 +78,8 @@ fn read_unlisted(verb: &[u8], words: &mut WordSlices<'_>) -> Option<Command>
         read_reroute(words)
     } else if verb == b"divert".as_slice() {
         read_divert(words)
+    } else if verb == b"late".as_slice() {
+        read_late(words)
     } else if verb == b"windows".as_slice() {
         read_windows(words)
     } else if verb == b"occupancy".as_slice() {
@@ -157,6 +159,22 @@ fn read_divert(words: &mut WordSlices<'_>) -> Option<Command>
     let time = next_number(words)?;
     let node = next_name(words)?;
     at_end(words, Command::Divert { flight, time, node })
+}
+
+fn read_late(words: &mut WordSlices<'_>) -> Option<Command>
+    ensures { result ≡ late_of (words_left words.old) }
+{
+    let flight = next_name(words)?;
+    let time = next_number(words)?;
+    let until = next_number(words)?;
+    at_end(
+        words,
+        Command::Late {
+            flight,
+            time,
+            until,
+        },
+    )
 }
 
 fn read_windows(words: &mut WordSlices<'_>) -> Option<Command>

@@ -4,8 +4,8 @@ use std::test::Fail;
 use taxi_base::{Memory, Time};
 use taxi_text::{Command, CommandRefused, push_bytes, read_command};
 
-// A line, its first word, its numbers, and how many steps or nodes it lists.
-const FORMS: [(&[u8], &str, Time, Time, usize); 14] = [
+// A line, its first word, its numbers, and how many steps, nodes or requests it lists.
+const FORMS: [(&[u8], &str, Time, Time, usize); 15] = [
     (b"file F1 M 007 A+ 30 B-- 60", "file", 7, 0, 2),
     (b"arrival F1 M R S1 0 600", "arrival", 0, 600, 0),
     (b"departure F1 M S1 R 900 60", "departure", 900, 60, 0),
@@ -32,15 +32,16 @@ const FORMS: [(&[u8], &str, Time, Time, usize); 14] = [
         1,
     ),
     (
-        b"batch arrival F1 M R S1 100 60 departure G1 M S2 R 400 0",
+        b"batch arrival F1 M R S1 0 600 departure G1 M S1 R 900 60",
         "batch",
         0,
         0,
         2,
     ),
+    (b"late F1 12 60", "late", 12, 60, 0),
 ];
 
-const BAD_LINES: [&[u8]; 15] = [
+const BAD_LINES: [&[u8]; 18] = [
     b"",
     b"cancel",
     b"cancel  F1",
@@ -56,9 +57,12 @@ const BAD_LINES: [&[u8]; 15] = [
     b"file F1 M 0",
     b"file F1 M 0 A+ 30 B+",
     b"departure-any G1 M S2 200 60",
+    b"batch arrival F1 M R S1 0 600",
+    b"late F1 12",
+    b"late F1 12 60 S2",
 ];
 
-// The first word of a command, its numbers, and how many steps or nodes it lists.
+// The first word of a command, its numbers, and how many steps, nodes or requests it lists.
 fn form_of(command: &Command) -> (&'static str, Time, Time, usize) {
     match command {
         Command::File(filed) => ("file", filed.start, 0, filed.steps.as_slice().len()),
@@ -81,6 +85,7 @@ fn form_of(command: &Command) -> (&'static str, Time, Time, usize) {
             ("departure-any", asked.time, asked.slack, listed)
         }
         Command::Batch(requests) => ("batch", 0, 0, requests.as_slice().len()),
+        Command::Late { time, until, .. } => ("late", *time, *until, 0),
     }
 }
 
@@ -124,7 +129,7 @@ fn lists_have_a_greatest_length(rt: HostRuntime) -> Result<(), Fail> {
         (b"file F1 M 0".as_slice(), b" A+ 1".as_slice(), 256u32),
         (b"arrival-any F1 M R 0 0", b" S1", 16),
         (b"departure-any G1 M S2 200 60", b" R", 16),
-        (b"batch", b" arrival F1 M R S1 0 0", 6),
+        (b"batch", b" arrival F1 M R S1 0 600", 6),
     ] {
         let whole = longer(alloc, front, piece, most)?;
         assert!(rt; read_command(alloc, &whole).is_ok());

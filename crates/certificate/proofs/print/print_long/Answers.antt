@@ -54,3 +54,11 @@ returns-in-Batch-clause-ok c = search rules
 pub returns-in-Batch-clause-err : goal.returns-in-Batch-clause-err
 unfolding block_text
 returns-in-Batch-clause-err c = search rules
+
+pub returns-in-Late-clause-ok : goal.returns-in-Late-clause-ok
+unfolding block_text
+returns-in-Late-clause-ok c = search rules
+
+pub returns-in-Late-clause-err : goal.returns-in-Late-clause-err
+unfolding block_text
+returns-in-Late-clause-err c = search rules

@@ -8,7 +8,8 @@ use Rattle.certificate.specs.Turns.{after_turns}
 use Rattle.certificate.specs.Passes.{KeepsTurn}
 use Rattle.checked_state.specs.Flights.{state_of}
 use Rattle.transcripts.specs.declared.refused.CheckRefused.{CheckRefused}
-use Rattle.certificate_check.specs.Batch.{CanBeChecked, turns_among, AreChecked, without_all}
+use Rattle.certificate_check.specs.Entries.{AreChecked}
+use Rattle.certificate_check.specs.Batch.{CanBeChecked, turns_among, without_all}
 use Rattle.certificate_check.proofs.BatchSteps.{first-new}
 use Rattle.certificate_check.proofs.BatchRun.{SoFar, nothing-left, stops-checked, stops-same, goes-checked, goes-after, goes-can, goes-others}
 use Rattle.certificate_check.proofs.batch.check_entries.Goals as goal

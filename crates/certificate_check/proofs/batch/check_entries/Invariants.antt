@@ -5,7 +5,8 @@ use Rattle.certificate.specs.Turns.{after_turns}
 use Rattle.checked_state.specs.Flights.{state_of}
 use Rattle.transcripts.specs.declared.refused.CheckRefused.{CheckRefused}
 use Rattle.certificate_check.specs.Desk.{IsReady}
-use Rattle.certificate_check.specs.Batch.{CanBeChecked, turns_among, AreChecked, without_all}
+use Rattle.certificate_check.specs.Entries.{AreChecked}
+use Rattle.certificate_check.specs.Batch.{CanBeChecked, turns_among, without_all}
 use Rattle.certificate_check.proofs.batch.check_entries.Given as goal
 
 abbrev pub invariant-loop-name : goal.invariant-loop-name

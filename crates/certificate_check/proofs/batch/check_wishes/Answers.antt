@@ -6,7 +6,8 @@ use Rattle.certificate.specs.declared.entries.Entry.{Entry}
 use Rattle.certificate.specs.Turns.{after_turns}
 use Rattle.checked_state.specs.Flights.{state_of}
 use Rattle.certificate_check.specs.Judged.{IsJudged}
-use Rattle.certificate_check.specs.Batch.{CanBeChecked, turns_among, AreChecked}
+use Rattle.certificate_check.specs.Entries.{AreChecked}
+use Rattle.certificate_check.specs.Batch.{CanBeChecked, turns_among}
 use Rattle.certificate_check.proofs.JudgedLaws.{form-ok}
 use Rattle.certificate_check.proofs.AgainLaws.{ok-there}
 use Rattle.certificate_check.proofs.BatchState.{without-new}

@@ -4,7 +4,7 @@ use Rattle.certificate.specs.Asked.{IsInGrammar}
 use Rattle.certificate.proofs.GrammarLaws.{command_of-in_grammar}
 use Rattle.check_rows.proofs.LoopLaws.{says-no, says-yes}
 use Rattle.checked_state.specs.Flights.{state_of}
-use Rattle.certificate_check.proofs.PassedLaws.{memory-passes, bad-checks, judged-checks}
+use Rattle.certificate_check.proofs.PassedLaws.{memory-passes, bad-checks, judged-checks, checks-sound}
 use Rattle.certificate_check.proofs.line.check_line.Goals as goal
 
 pub judge-requires-clause-grammar : goal.judge-requires-clause-grammar
@@ -19,6 +19,16 @@ pub returns-in-Ok-clause-checks : goal.returns-in-Ok-clause-checks
 returns-in-Ok-clause-checks c =
     judged-checks c.args.airport.now (state_of c.args.held.now) c.horizon.ensures.rules c.requires.is_sound c.args.line.now c.args.block c.in-Ok.command c.in-Ok.ensures.ok
     (says-no _ c.if-may_want_memory.false c.may_want_memory.ensures) c.judge.result (state_of c.judge.new.held) c.judge.ensures.judged
+
+pub returns-in-Ok-clause-ready : goal.returns-in-Ok-clause-ready
+returns-in-Ok-clause-ready c =
+    let airport = c.args.airport.now in
+    let state = state_of c.args.held.now in
+    let line = c.args.line.now in
+    c.judge.ensures.ready
+    (checks-sound airport state c.horizon.ensures.rules c.requires.is_sound line c.args.block c.judge.result (state_of c.judge.new.held)
+    (judged-checks airport state c.horizon.ensures.rules c.requires.is_sound line c.args.block c.in-Ok.command c.in-Ok.ensures.ok
+    (says-no _ c.if-may_want_memory.false c.may_want_memory.ensures) c.judge.result (state_of c.judge.new.held) c.judge.ensures.judged))
 
 pub returns-in-Err-BadLine-clause-checks : goal.returns-in-Err-BadLine-clause-checks
 returns-in-Err-BadLine-clause-checks c =

@@ -9,4 +9,4 @@ returns-clause-first g c s seeks =
     let conditions = conditions_among c.args.airport.now c.args.class (g.H.HoldsOf.held c.args.holds.now) in
     let sought = c.args.sought.now in
     rw c.rule_of.ensures
-    (no_route-first s conditions sought.request [] (way_of sought.way) seeks c.args.labels.now c.in_ok-verdict.verdict c.in_ok-verdict.ensures.verdict)
+    (no_route-first s conditions sought.request [] (way_of sought.way) sought.floor seeks c.args.labels.now c.in_ok-verdict.verdict c.in_ok-verdict.ensures.verdict)

@@ -32,11 +32,18 @@ returns-then-not-goes_as_asked-clause-walk g c =
       λ is. absurd (says-no _ c.if-not-goes_as_asked.true c.goes_as_asked.ensures (walk-asked conditions c.args.sought.now.request (way_of c.args.sought.now.way) c.args.steps.now is.0).1),
     )
 
+pub returns-then-not-begins_after-clause-walk : goal.returns-then-not-begins_after-clause-walk
+returns-then-not-begins_after-clause-walk g c = (
+  λ e. absurd (false≢true e),
+  λ is. absurd (says-no _ c.if-not-begins_after.true c.begins_after.ensures is.1),
+)
+
 pub returns-clause-walk : goal.returns-clause-walk
 returns-clause-walk g c =
     let conditions = conditions_among c.args.airport.now c.args.class (g.H.HoldsOf.held c.args.holds.now) in
     let walk = says-yes _ c.if-not-walk.false c.in_ok-walk.ensures.walk in
-    let goes = says-yes _ c.if-not-goes_as_asked.false c.goes_as_asked.ensures in (
-      λ e. (asked-walk conditions c.args.sought.now.request (way_of c.args.sought.now.way) c.args.steps.now walk goes c.requires.sought, sym c.second_at.ensures ∙ eqb-true _ _ e),
-      λ is. eq-eqb _ _ (c.second_at.ensures ∙ is.1),
+    let goes = says-yes _ c.if-not-goes_as_asked.false c.goes_as_asked.ensures in
+    let after = says-yes _ c.if-not-begins_after.false c.begins_after.ensures in (
+      λ e. (asked-walk conditions c.args.sought.now.request (way_of c.args.sought.now.way) c.args.steps.now walk goes c.requires.sought, after, sym c.second_at.ensures ∙ eqb-true _ _ e),
+      λ is. eq-eqb _ _ (c.second_at.ensures ∙ is.2),
     )

@@ -2,8 +2,8 @@ use Rattle.std.proofs.Common.{◌≡◌, length, take, Some, None}
 use Rattle.std.specs.Prelude.{MatchOption}
 use Rattle.std.specs.List.{IsLastAndRest}
 use Rattle.taxi_base.specs.State.{step_begun, steps_done}
-use Rattle.forward_search.proofs.WayOn.{none-begun, last-begun, last-done}
-use Rattle.forward_search.proofs.joining.under_way.Goals as goal
+use Rattle.taxi_base.proofs.UnderWay.{none-begun, last-begun, last-done}
+use Rattle.taxi_base.proofs.steps.under_way.Goals as goal
 
 pub returns : goal.returns
 returns c =

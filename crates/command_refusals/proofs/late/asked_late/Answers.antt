@@ -1,0 +1,14 @@
+use Rattle.std.proofs.Common.{◌≤◌, length, sym, arith}
+use Rattle.std.proofs.lemmas.List.Elements.{All-contains}
+use Rattle.certificate.proofs.FlightLaws.{flight_named-there}
+use Rattle.command_refusals.proofs.late.asked_late.Goals as goal
+
+pub delay_refusal-requires : goal.delay_refusal-requires
+delay_refusal-requires c =
+    let flights = c.args.ledger.now.state.flights in
+    let f = c.in-Some.flight.now in
+    let found = sym (rw c.in-Some.is at c.flight.ensures) in
+    omega (
+      arith,
+      All-contains (λ x. 1 ≤ length x.steps) flights f c.count-flights.ensures.book.routed (flight_named-there c.args.name.now flights f found),
+    )

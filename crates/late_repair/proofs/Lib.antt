@@ -1,0 +1,11 @@
+pub mod DelayLaws
+pub mod MeetingLaws
+pub mod InOrderLaws
+pub mod WayLaws
+pub mod OthersLaws
+pub mod WalkSteps
+pub mod BaseSteps
+pub mod KeptLaws
+pub mod SeekingLaws
+pub mod TurnSteps
+pub mod TurnsLaws

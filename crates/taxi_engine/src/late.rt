@@ -1,0 +1,86 @@
+//! A flight that stays on its segment longer than planned, and everyone in its way.
+ghost use Rattle.std.specs.Prelude.{◌≡◌, IfOk, OnErr, None};
+ghost use Rattle.taxi_base.specs.State.{IsSound};
+ghost use Rattle.taxi_text.specs.declared.command.Command.TheVariants as command;
+ghost use Rattle.certificate.specs.declared.block.Block.{Block as BlockSeen};
+ghost use Rattle.certificate.specs.Texts.{block_text};
+ghost use Rattle.certificate.specs.Printable.{IsName};
+ghost use Rattle.certificate.specs.Refusals.{first_refusal};
+ghost use Rattle.certificate.specs.Replies.{HaveNames};
+ghost use Rattle.certificate.specs.Repairs.{IsRepairTold};
+ghost use Rattle.commitments.specs.Book.{Fits};
+ghost use Rattle.taxi_engine.specs.Done.{IsDoneOrMemory};
+ghost use Rattle.taxi_engine.specs.Repaired.{IsRepairedTold};
+
+use crate::Engine;
+use crate::reply::ReplyText;
+use airport_file::Airport;
+use certificate::Block;
+use command_refusals::asked_late;
+use commitments::Ledger;
+use late_repair::{Lateness, repair};
+use place_cells::SearchRoom;
+use std::alloc::Global;
+use taxi_base::{Memory, Name, Refusal, Time};
+
+impl Engine {
+    /// Keeps a flight on its step at a time until a second and lets those in its way take their turns, or refuses it.
+    pub(crate) fn repair_late(&mut self, flight: &Name, time: Time, until: Time)
+        requires { IsName flight.now }
+        ensures { IsDoneOrMemory (command.Late flight.now time until) self.old self.new }
+    {
+        match asked_late(&self.airport, &self.ledger, flight, time, until) {
+            Ok(()) => self.tell_repaired(&Lateness {
+                flight: *flight,
+                time,
+                until,
+            }),
+            Err(why) => self.refuse(&why),
+        }
+    }
+
+    // Repairs, and tells what came of it. Where memory runs out nothing else changes.
+    fn tell_repaired(&mut self, late: &Lateness)
+        requires name { IsName late.now.flight }
+        requires none { first_refusal self.old.airport self.old.state (command.Late late.now.flight late.now.time late.now.until) ≡ None }
+        ensures { IsRepairedTold late.now.flight late.now.time late.now.until self.old self.new }
+    {
+        let (room, reply) = (&mut self.room, &mut self.reply);
+        match print_repaired(self.alloc, room, &self.airport, &self.ledger, reply, late) {
+            Ok(after) => self.ledger = after,
+            Err(_) => self.refuse(&Refusal::Memory),
+        }
+    }
+}
+
+// Writes what comes of a flight that is late as the reply, and hands back the ledger that is in force then.
+fn print_repaired(
+    alloc: Global,
+    room: &mut SearchRoom,
+    airport: &Airport,
+    ledger: &Ledger,
+    reply: &mut ReplyText,
+    late: &Lateness,
+) -> Result<Ledger, Memory>
+    requires fits { Fits airport.now ledger.now }
+    requires unlifted { ledger.now.lifted ≡ None }
+    requires sound { IsSound airport.now ledger.now.state }
+    requires named { HaveNames ledger.now.state }
+    requires name { IsName late.now.flight }
+    requires none { first_refusal airport.now ledger.now.state (command.Late late.now.flight late.now.time late.now.until) ≡ None }
+    ensures told { IfOk result (λ after. (block : BlockSeen) × IsRepairTold airport.now ledger.now.state late.now.flight late.now.time late.now.until block after.state × (reply.new ≡ block_text airport.now block)) }
+    ensures sound { IfOk result (λ after. IsSound airport.now after.state) }
+    ensures named { IfOk result (λ after. HaveNames after.state) }
+    ensures unlifted { IfOk result (λ after. after.lifted ≡ None) }
+    ensures fits { IfOk result (Fits airport.now) }
+{
+    // The airport keeps its rules, so what is due can be written.
+    let _horizon = airport.horizon();
+    let done = repair(alloc, room, airport, ledger, late)?;
+    let block = Block::Late {
+        flight: late.flight,
+        entries: done.entries,
+    };
+    reply.print(airport, &block)?;
+    Ok(done.ledger)
+}
