@@ -2,3 +2,5 @@ pub mod Reading
 pub mod SoFar
 pub mod Stops
 pub mod Supplied
+pub mod Taken
+pub mod Told

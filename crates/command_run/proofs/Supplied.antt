@@ -1,5 +1,5 @@
 -- A run over lines up to some line, in which memory ran out for none.
-use Rattle.std.proofs.Common.{◌≡◌, ◌++◌, ◌∷◌, ◌∙◌, [], ℕ, List, true, false, All, refl, sym, ap, append-nil, codes}
+use Rattle.std.proofs.Common.{◌≡◌, ◌++◌, ◌∷◌, ◌∙◌, [], ℕ, List, true, false, refl, sym, ap, append-nil, codes}
 use Rattle.std.specs.Prelude.{bytes_eq}
 use Rattle.std.specs.Cmp.Lexicographic.{bytes_decides}
 use Rattle.std.proofs.lemmas.Bool.{both_ways}
@@ -12,7 +12,6 @@ use Rattle.certificate.specs.declared.block.Block.{Block}
 use Rattle.certificate.specs.declared.block.Block.TheVariants.{Refused}
 use Rattle.certificate.specs.Texts.{block_text}
 use Rattle.certificate.specs.Replies.{IsAnswered}
-use Rattle.transcripts.specs.Runs.{IsRun}
 use Rattle.transcripts.proofs.RunLaws.{in_turn-append}
 use Rattle.transcripts.proofs.CommandsIn.{commands_in, split-more, commands_in-skipped, commands_in-kept}
 use Rattle.command_run.specs.Supplied.{FoundMemory, IsSuppliedRun}

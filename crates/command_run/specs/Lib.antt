@@ -1,4 +1,5 @@
 pub mod Refusals
 pub mod Ended
 pub mod Answered
+pub mod Told
 pub mod Supplied

@@ -13,7 +13,7 @@ use taxi_text::{LineReader, skipped};
 use transcripts::Router;
 
 /// The bytes that one read asks for at most.
-const PIECE: usize = 4096;
+pub(crate) const PIECE: usize = 4096;
 
 /// Has a router answer each command of the begun file at its airport, from no flight in force, as soon as its line
 /// has ended, and writes the block as one piece, before more of the file is read. At the end of the file a last line without a line feed is

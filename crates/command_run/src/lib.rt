@@ -4,8 +4,10 @@
 mod answering;
 pub mod laws;
 mod refused;
+mod telling;
 mod whole;
 
 pub use answering::run_commands;
 pub use refused::RunRefused;
+pub use telling::{Teller, run_told};
 pub use whole::run_all;

@@ -8,23 +8,31 @@ use Rattle.program_endings.specs.declared.status.Status.TheVariants as status
 use Rattle.program_endings.specs.Call.{Call}
 use Rattle.program_files.specs.Inputs.{airport_limit}
 use Rattle.program_files.proofs.DueLaws.{longer-due, judged-due, run-due, run-large}
-use Rattle.tool_words.specs.Verb.{Verb, Graph, Plan}
+use Rattle.tool_words.specs.Verb.{Verb, Graph, Lint, Plan, Json}
 use Rattle.taxi_tools.specs.Outcomes.{IsDoneText}
-use Rattle.taxi_tools.specs.Reads.{IsRefused, IsTooLarge}
+use Rattle.taxi_tools.specs.Reads.{IsRefused}
+use Rattle.taxi_tools.specs.Halts.{IsLargeText}
 use Rattle.taxi_tools.specs.Due.{IsDueOf}
 use Rattle.taxi_tools.specs.Endings.{Ends}
 
 done-due : (files : Files) (asked : Verb) (text : List ℕ) → IsDoneText (Some files) asked text → IsDueOf files (Some asked) status.Done
 done-due files (Graph airport) text t = judged-due files airport (Ok t.airport) _ status.Done t.accepted refl
+done-due files (Lint airport) text t = judged-due files airport (Ok t.airport) _ status.Done t.accepted refl
 done-due files (Plan names start) text t = run-due files names t.airport t.commands (λ airport commands. status.Done ≡ status.Done) status.Done t.accepted refl
+done-due files (Json names) text t = run-due files names t.airport t.commands (λ airport commands. status.Done ≡ status.Done) status.Done t.accepted refl
 
 refused-due : (files : Files) (asked : Verb) (fault : RecordFault) → IsRefused (Some files) asked fault → IsDueOf files (Some asked) status.AirportRefused
 refused-due files (Graph airport) fault judged = judged-due files airport (Err fault) _ status.AirportRefused judged refl
+refused-due files (Lint airport) fault judged = judged-due files airport (Err fault) _ status.AirportRefused judged refl
 refused-due files (Plan names start) fault judged = judged-due files names.airport (Err fault) _ status.AirportRefused judged refl
+refused-due files (Json names) fault judged = judged-due files names.airport (Err fault) _ status.AirportRefused judged refl
 
-large-due : (files : Files) (asked : Verb) → IsTooLarge (Some files) asked → IsDueOf files (Some asked) status.TooLarge
-large-due files (Graph airport) longer = longer-due files airport airport_limit _ longer
-large-due files (Plan names start) large = run-large files names (λ airport commands. status.TooLarge ≡ status.Done) large
+large-due : (files : Files) (asked : Verb) (text : List ℕ) → IsLargeText (Some files) asked text → IsDueOf files (Some asked) status.TooLarge
+large-due files (Graph airport) text longer = longer-due files airport airport_limit _ longer.0
+large-due files (Lint airport) text longer = longer-due files airport airport_limit _ longer.0
+large-due files (Plan names start) text large = run-large files names (λ airport commands. status.TooLarge ≡ status.Done) large.0
+large-due files (Json names) text (inl longer) = run-large files names (λ airport commands. status.TooLarge ≡ status.Done) (inl longer.0)
+large-due files (Json names) text (inr (file, is, more, t)) = run-large files names (λ airport commands. status.TooLarge ≡ status.Done) (inr (t.airport, t.accepted, (file, is, more)))
 
 -- a call that ends where no fault was counted ends with the status that is due, but for want of memory
 pub due-is : (call : Call) (files : Files) (asked : Option Verb) (ended : Status) → call.files ≡ Some files → Ends call asked ended
@@ -40,7 +48,7 @@ due-is call files (Some asked) status.Usage told ends no_read no_write = absurd 
 due-is call files (Some asked) status.Done told ends no_read no_write = inl (done-due files asked ends.0 (subst (λ t. IsDoneText t asked ends.0) told ends.1))
 due-is call files (Some asked) status.AirportRefused told ends no_read no_write = inl (refused-due files asked ends.1.0 (subst (λ t. IsRefused t asked ends.1.0) told ends.1.1))
 due-is call files (Some asked) status.ReadFault told ends no_read no_write = absurd (no_read ends.1.0)
-due-is call files (Some asked) status.TooLarge told ends no_read no_write = inl (large-due files asked (subst (λ t. IsTooLarge t asked) told ends.1.0))
+due-is call files (Some asked) status.TooLarge told ends no_read no_write = inl (large-due files asked ends.0 (subst (λ t. IsLargeText t asked ends.0) told ends.1))
 due-is call files (Some asked) status.Wrong told ends no_read no_write = absurd ends.1
 due-is call files (Some asked) status.ScheduleRefused told ends no_read no_write = absurd ends.1
 due-is call files asked status.WriteFault told ends no_read no_write = absurd (no_write ends.0)

@@ -1,3 +1,4 @@
 pub mod EndingLaws
 pub mod DueLaws
 pub mod Promises
+pub mod JsonEndings

@@ -5,7 +5,7 @@ use Rattle.program_endings.specs.declared.status.Status.TheVariants.{Memory}
 use Rattle.program_endings.specs.Call.{Call}
 use Rattle.tool_words.specs.Verb.{Verb}
 use Rattle.taxi_tools.specs.Exit.{KeepsPromises}
-use Rattle.taxi_tools.proofs.EndingLaws.{nothing-in_one}
+use Rattle.taxi_tools.proofs.EndingLaws.{nothing-handed}
 
 pub no-words : (call : Call) (asked : Option Verb) (tried : List (List ℕ)) (Unread : Type 0) → Unread → call.taken.1 ≡ call.taken.0
     → call.reads.0 ≤ call.reads.1 → call.writes.0 ≤ call.writes.1 → KeepsPromises call asked (tried, tried) Unread Memory
@@ -14,7 +14,7 @@ no-words call asked tried Unread unread nothing reads writes = record {
   usage = λ none. inr (inr refl);
   unread = λ none. unread;
   complete = λ files told no_read no_write. inr refl;
-  handed = nothing-in_one call asked Memory refl nothing;
+  handed = nothing-handed call asked Memory refl nothing;
   order = inr (refl, unread);
   reads_later = reads;
   writes_later = writes;

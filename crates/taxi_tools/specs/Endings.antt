@@ -6,20 +6,20 @@ use Rattle.airport_file.specs.Reading.{RecordFault}
 use Rattle.program_endings.specs.declared.status.Status.{Status}
 use Rattle.program_endings.specs.declared.status.Status.TheVariants.{Done, Usage, AirportRefused, ReadFault, TooLarge}
 use Rattle.program_endings.specs.Call.{Call, EndsAs}
-use Rattle.program_endings.specs.Lines.{read_fault_line, too_large_line}
 use Rattle.program_files.specs.Lines.{refusal_line}
 use Rattle.tool_words.specs.Usage.{usage_line}
 use Rattle.tool_words.specs.Verb.{Verb}
 use Rattle.taxi_tools.specs.Outcomes.{IsDoneText}
-use Rattle.taxi_tools.specs.Reads.{IsRefused, IsTooLarge}
+use Rattle.taxi_tools.specs.Reads.{IsRefused}
+use Rattle.taxi_tools.specs.Halts.{IsFaultText, IsLargeText}
 
 -- the whole text that a call is due to write where it ends with a status, for what its words ask for
 abbrev pub IsDueText : Call → Option Verb → Status → List ℕ → Type 0
 IsDueText call None Usage text = text ≡ usage_line
 IsDueText call (Some asked) Done text = IsDoneText call.files asked text
 IsDueText call (Some asked) AirportRefused text = (fault : RecordFault) × IsRefused call.files asked fault × (text ≡ refusal_line fault)
-IsDueText call (Some asked) ReadFault text = Rose call.reads.0 call.reads.1 × (text ≡ read_fault_line)
-IsDueText call (Some asked) TooLarge text = IsTooLarge call.files asked × (text ≡ too_large_line)
+IsDueText call (Some asked) ReadFault text = Rose call.reads.0 call.reads.1 × IsFaultText call.files asked text
+IsDueText call (Some asked) TooLarge text = IsLargeText call.files asked text
 IsDueText call _ _ text = ⊥
 
 abbrev pub Ends : Call → Option Verb → Status → Type 0

@@ -7,7 +7,8 @@ use Rattle.program_endings.specs.declared.status.Status.TheVariants.{Usage, Writ
 use Rattle.program_endings.specs.Call.{Call}
 use Rattle.tool_words.specs.Verb.{Verb}
 use Rattle.taxi_tools.specs.Due.{IsDueOf}
-use Rattle.taxi_tools.specs.Endings.{Ends, IsInOnePiece}
+use Rattle.taxi_tools.specs.Endings.{Ends}
+use Rattle.taxi_tools.specs.Handed.{IsHandedOver}
 use Rattle.taxi_tools.specs.Order.{IsInOrder}
 
 -- What `tools` promises, clause by clause, of what the words ask for; by the names that were tried before and after, and that the shelf is
@@ -18,7 +19,7 @@ pub record KeepsPromises (call : Call) (asked : Option Verb) (tried : List (List
   pub unread : asked ≡ None → Unread
   pub complete : (files : Files) → call.files ≡ Some files → (Rose call.reads.0 call.reads.1 → ⊥) → (Rose call.writes.0 call.writes.1 → ⊥)
       → IsDueOf files asked ended ⊎ (ended ≡ Memory)
-  pub handed : IsInOnePiece call asked ended
+  pub handed : IsHandedOver call asked ended
   pub order : IsInOrder call.files asked tried.0 tried.1 ⊎ ((ended ≡ Memory) × Unread)
   pub reads_later : call.reads.0 ≤ call.reads.1
   pub writes_later : call.writes.0 ≤ call.writes.1

@@ -1,5 +1,9 @@
+pub mod Objects
 pub mod Outcomes
 pub mod Reads
+pub mod Halts
+pub mod Handed
+pub mod RunEnds
 pub mod Endings
 pub mod Due
 pub mod Order

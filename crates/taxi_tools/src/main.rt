@@ -11,6 +11,9 @@ ghost use Rattle.tool_words.specs.Verb.{IsNamed, asked_by};
 ghost use Rattle.taxi_tools.specs.Exit.{KeepsPromises};
 
 mod graphs;
+mod lints;
+mod object_teller;
+mod objects;
 mod plans;
 #[cfg(test)]
 mod tests;

@@ -28,6 +28,18 @@ fn small_drawn() -> &'static [u8] {
       }\n"
 }
 
+fn its_advice() -> &'static [u8] {
+    b"class M no-arrival\n\
+      class M no-departure\n\
+      segment B no-seconds\n\
+      node R no-arrival\n\
+      node R no-departure\n\
+      node S1 no-arrival\n\
+      node S1 no-departure\n\
+      arc A+ dead-end\n\
+      done 8\n"
+}
+
 fn two_flights() -> &'static [u8] {
     b"file X1 M 0 A+ 30\n\
       file X2 M 100 A+ 160\n\
@@ -39,6 +51,13 @@ fn their_plan() -> &'static [u8] {
       X1,filed,M,R,J,1,A,forward,R,J,0,30,30,30,0,70\n\
       X2,filed,M,R,J,1,A,forward,R,J,100,160,160,30,30,3440\n\
       W1,work,,J,S1,1,B,,J,S1,0,100,100,100,0,3500\n"
+}
+
+fn their_objects() -> &'static [u8] {
+    b"{\"command\":1,\"end\":30,\"flight\":\"X1\",\"line\":1,\"reply\":\"filed\",\"start\":0,\"words\":[\"file\",\"X1\",\"M\",\"0\",\"A+\",\"30\"]}\n\
+      {\"command\":2,\"end\":160,\"flight\":\"X2\",\"line\":2,\"reply\":\"filed\",\"start\":100,\"words\":[\"file\",\"X2\",\"M\",\"100\",\"A+\",\"160\"]}\n\
+      {\"command\":3,\"end\":100,\"flight\":\"W1\",\"line\":3,\"reply\":\"filed\",\"start\":0,\"words\":[\"work\",\"W1\",\"B\",\"0\",\"100\"]}\n\
+      {\"done\":3}\n"
 }
 
 fn words_of(alloc: Global, line: &str) -> Result<Vec<String>, AllocError> {
@@ -87,6 +106,17 @@ fn an_airport_is_drawn(rt: HostRuntime) -> Result<(), Fail> {
 }
 
 #[test]
+fn advice_is_written(rt: HostRuntime) -> Result<(), Fail> {
+    expect_call(
+        &rt,
+        rt.alloc(),
+        "lint airport.csv",
+        Status::Done,
+        its_advice(),
+    )
+}
+
+#[test]
 fn a_plan_is_written(rt: HostRuntime) -> Result<(), Fail> {
     expect_call(
         &rt,
@@ -94,5 +124,16 @@ fn a_plan_is_written(rt: HostRuntime) -> Result<(), Fail> {
         "plan airport.csv commands.txt",
         Status::Done,
         their_plan(),
+    )
+}
+
+#[test]
+fn replies_are_objects(rt: HostRuntime) -> Result<(), Fail> {
+    expect_call(
+        &rt,
+        rt.alloc(),
+        "json airport.csv commands.txt",
+        Status::Done,
+        their_objects(),
     )
 }

@@ -5,10 +5,13 @@ ghost use Rattle.taxi_io.specs.Files.{Files};
 ghost use Rattle.program_endings.specs.Call.{call_of};
 ghost use Rattle.tool_words.specs.Verb.{IsNamed, asked_by};
 ghost use Rattle.taxi_tools.specs.Due.{IsDueOf};
-ghost use Rattle.taxi_tools.specs.Endings.{Ends, IsInOnePiece};
+ghost use Rattle.taxi_tools.specs.Endings.{Ends};
+ghost use Rattle.taxi_tools.specs.Handed.{IsHandedOver};
 ghost use Rattle.taxi_tools.specs.Order.{IsInOrder};
 
 use crate::graphs::graph;
+use crate::lints::lint;
+use crate::objects::json;
 use crate::plans::plan;
 use program_endings::{Status, write_last};
 use std::alloc::Global;
@@ -37,8 +40,8 @@ pub fn tools<S: Shelf, K: Sink>(
         ¬ Rose (S.faults shelf.old) (S.faults shelf.new) → ¬ Rose (K.faults out.old) (K.faults out.new) →
         IsDueOf files (asked_by (map string_bytes words.now)) result ⊎ (result ≡ Status.Memory) }
 
-    // It hands its whole output over as one piece.
-    ensures handed { IsInOnePiece (call_of S.files S.faults S.given K.faults K.written (shelf.old, shelf.new) (out.old, out.new)) (asked_by (map string_bytes words.now)) result }
+    // It hands its whole output over as one piece, and with `json` each object as one.
+    ensures handed { IsHandedOver (call_of S.files S.faults S.given K.faults K.written (shelf.old, shelf.new) (out.old, out.new)) (asked_by (map string_bytes words.now)) result }
 
     ensures order { IsInOrder (S.files shelf.old) (asked_by (map string_bytes words.now)) (S.tried shelf.old) (S.tried shelf.new) }
     ensures reads_later { S.faults shelf.old ≤ S.faults shelf.new }
@@ -46,6 +49,7 @@ pub fn tools<S: Shelf, K: Sink>(
 {
     match asked_by(words) {
         Some(Verb::Graph { airport }) => graph(alloc, airport, shelf, out),
+        Some(Verb::Lint { airport }) => lint(alloc, airport, shelf, out),
         Some(
             Verb::Plan {
                 airport,
@@ -53,6 +57,7 @@ pub fn tools<S: Shelf, K: Sink>(
                 start,
             },
         ) => plan(alloc, airport, commands, &start, shelf, out),
+        Some(Verb::Json { airport, commands }) => json(alloc, airport, commands, shelf, out),
         None => write_last(out, usage_line(), Status::Usage),
     }
 }

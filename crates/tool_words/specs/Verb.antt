@@ -4,22 +4,27 @@ use Rattle.taxi_text.specs.Commands.{◌>>=◌}
 use Rattle.program_words.specs.Verb.{FileNames}
 use Rattle.civil_times.specs.Later.{is_start}
 
--- What is asked for: the airport of a file as a graph, or the plan that a run leaves as a table, with its times as seconds or, where a start is
--- given, as civil times.
+-- What is asked for: the airport of a file as a graph, or what is odd about it; or the plan that a run leaves as a table, with its times as
+-- seconds or, where a start is given, as civil times; or each reply of a run as a JSON object.
 pub data Verb : Type 0 where
   Graph : (airport : List ℕ) → Verb
+  Lint : (airport : List ℕ) → Verb
   Plan : FileNames → (start : Option (List ℕ)) → Verb
+  Json : FileNames → Verb
 
 -- what a verb and one more word ask for
 abbrev pub asked_of_one : List ℕ → List ℕ → Option Verb
-asked_of_one verb airport = if bytes_eq verb (codes "graph") then Some (Graph airport) else None
+asked_of_one verb airport =
+    if bytes_eq verb (codes "graph") then Some (Graph airport) else (if bytes_eq verb (codes "lint") then Some (Lint airport) else None)
 
 abbrev pub names_of : List ℕ → List ℕ → FileNames
 names_of airport commands = record { airport = airport; commands = commands }
 
 -- what a verb and two more words ask for
 abbrev pub asked_of_two : List ℕ → List ℕ → List ℕ → Option Verb
-asked_of_two verb airport commands = if bytes_eq verb (codes "plan") then Some (Plan (names_of airport commands) None) else None
+asked_of_two verb airport commands =
+    if bytes_eq verb (codes "plan") then Some (Plan (names_of airport commands) None)
+    else (if bytes_eq verb (codes "json") then Some (Json (names_of airport commands)) else None)
 
 -- the start that a word names; none where it names none
 abbrev pub start_of : List ℕ → Option (List ℕ)
@@ -41,4 +46,6 @@ asked_by _ = None
 abbrev pub IsNamed : Option Verb → List ℕ → Type 0
 IsNamed None name = ⊥
 IsNamed (Some (Graph airport)) name = name ≡ airport
+IsNamed (Some (Lint airport)) name = name ≡ airport
 IsNamed (Some (Plan names start)) name = (name ≡ names.airport) ⊎ (name ≡ names.commands)
+IsNamed (Some (Json names)) name = (name ≡ names.airport) ⊎ (name ≡ names.commands)

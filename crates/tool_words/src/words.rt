@@ -11,10 +11,17 @@ pub enum Verb<'a> {
     Graph {
         airport: &'a str,
     },
+    Lint {
+        airport: &'a str,
+    },
     Plan {
         airport: &'a str,
         commands: &'a str,
         start: Option<Start>,
+    },
+    Json {
+        airport: &'a str,
+        commands: &'a str,
     },
 }
 
@@ -42,6 +49,7 @@ fn asked_of_one<'a>(verb: &str, airport: &'a str) -> Option<Verb<'a>>
 {
     match verb {
         "graph" => Some(Verb::Graph { airport }),
+        "lint" => Some(Verb::Lint { airport }),
         _ => None,
     }
 }
@@ -55,6 +63,7 @@ fn asked_of_two<'a>(verb: &str, airport: &'a str, commands: &'a str) -> Option<V
             commands,
             start: None,
         }),
+        "json" => Some(Verb::Json { airport, commands }),
         _ => None,
     }
 }

@@ -1,0 +1,5 @@
+use Rattle.airport_lint.specs.Advice.{below, arc_advice, Tells}
+use Rattle.airport_lint.proofs.tell.tell_arcs.Given as goal
+
+abbrev pub invariant-loop-number : goal.invariant-loop-number
+invariant-loop-number l = Tells l.airport (below l.number arc_advice) l.initial.told.items l.told.items

@@ -1,0 +1,140 @@
+use Rattle.std.proofs.Common.{◌≡◌, ◌∙◌, ◌-◌, Err, length, take, refl, sym, ap, subst, arith, rules}
+use Rattle.std.proofs.lemmas.List.{length-take}
+use Rattle.std.proofs.lemmas.Result.{err_from_is_err_and}
+use Rattle.command_run.specs.Told.{IsStoppedTold}
+use Rattle.command_run.proofs.SoFar.{ended-left}
+use Rattle.command_run.proofs.Told.{so_far-nothing, told-fed, told-first, numbers-few, so_far-left, first-stops, last-stops, whole-last, whole-none, read-stops}
+use Rattle.command_run.proofs.telling.run_told.Goals as goal
+use Rattle.command_run.proofs.telling.run_told.Goals.{in-Some-last_line+in_ok-count-2, in_default-last_line}
+
+pub loop-line-init : goal.loop-line-init
+loop-line-init g c = record {
+  so_far = rw c.new-reader.ensures (so_far-nothing g.T.Teller.telling _ _ _ _ _ c.requires.fresh);
+  airport = refl;
+  begun = search rules;
+  tried = refl;
+  reads_later = omega arith;
+  writes_later = omega arith;
+  files = refl;
+  names = search rules;
+}
+
+pub overflow_add-number : goal.overflow_add-number
+overflow_add-number g c =
+    let some = numbers-few _ _ _ _ _ _ _ _ _ _ _ _ c.loop-line.invariant.so_far in
+    let countable = c.requires.countable in
+    omega (arith, some.0, countable)
+
+pub tell_line-requires : goal.tell_line-requires
+tell_line-requires g c =
+    let some = numbers-few _ _ _ _ _ _ _ _ _ _ _ _ c.loop-line.invariant.so_far in
+    let countable = c.requires.countable in
+    omega (arith, some.1, countable)
+
+pub overflow_add-count : goal.overflow_add-count
+overflow_add-count g c =
+    let some = numbers-few _ _ _ _ _ _ _ _ _ _ _ _ c.loop-line.invariant.so_far in
+    let few = c.in_ok-count.ensures.few in
+    let countable = c.requires.countable in
+    omega (arith, some.1, few, countable)
+
+pub loop-line-preserved-in-Some : goal.loop-line-preserved-in-Some
+loop-line-preserved-in-Some g c =
+    let inv = c.loop-line.invariant in
+    let later = c.tell_line.ensures.later in
+    let before = inv.writes_later in
+    record {
+      so_far = rw c.drop_first.ensures
+          (told-first _ _ _ _ _ _ _ _ _ _ _ _ inv.so_far c.in-Some.line.now (sym c.in-Some.ensures) _ _ _ (rw inv.airport at c.in_ok-count.ensures.told));
+      airport = c.tell_line.ensures.airport ∙ inv.airport;
+      begun = inv.begun;
+      tried = inv.tried;
+      reads_later = inv.reads_later;
+      writes_later = omega (arith, later, before);
+      files = inv.files;
+      names = inv.names;
+    }
+
+pub returns-in_err-count-clause-stopped : goal.returns-in_err-count-clause-stopped
+returns-in_err-count-clause-stopped g c =
+    let so_far = c.loop-line.invariant.so_far in
+    let stopped = err_from_is_err_and c.from_residual.result c.from_residual.ensures.1 in
+    let first = sym c.in-Some.ensures in
+    let cut = rw c.loop-line.invariant.airport at c.in_err-count.ensures.cut in
+    rw stopped.1
+    (subst (IsStoppedTold g.T.Teller.telling (g.T.Teller.airport c.args.teller.now) c.args.limit (g.S.Shelf.rest c.args.shelf.now, g.S.Shelf.rest c.loop-line.shelf) (g.K.Sink.written c.args.out.now, g.K.Sink.written c.tell_line.new.out)) (sym stopped.2)
+    (first-stops _ _ _ _ _ _ _ _ _ _ _ _ so_far c.in-Some.line.now first _ cut c.in_err-count.field-0.0))
+
+pub returns-in_err-taken-clause-stopped : goal.returns-in_err-taken-clause-stopped
+returns-in_err-taken-clause-stopped g c =
+    let so_far = c.loop-line.invariant.so_far in
+    let stopped = err_from_is_err_and c.from_residual-in_err-taken.result c.from_residual-in_err-taken.ensures.1 in
+    rw stopped.1
+    (subst (IsStoppedTold g.T.Teller.telling (g.T.Teller.airport c.args.teller.now) c.args.limit (g.S.Shelf.rest c.args.shelf.now, g.S.Shelf.rest c.read_piece.new.shelf) (g.K.Sink.written c.args.out.now, g.K.Sink.written c.loop-line.out)) (sym stopped.2)
+    (read-stops _ _ _ _ _ _ _ _ _ _ _ _ so_far (sym c.in_default.ensures) _ c.in_err-taken.field-0.0
+    (λ e. c.in_err-taken.ensures.too_large (ap Err e)) (λ e. c.in_err-taken.ensures.kept (ap Err e))))
+
+pub returns-in_err-feed-clause-stopped : goal.returns-in_err-feed-clause-stopped
+returns-in_err-feed-clause-stopped g c =
+    let stopped = err_from_is_err_and c.from_residual-in_err-feed.result c.from_residual-in_err-feed.ensures.1 in
+    rw stopped.1
+    (subst (IsStoppedTold g.T.Teller.telling (g.T.Teller.airport c.args.teller.now) c.args.limit (g.S.Shelf.rest c.args.shelf.now, g.S.Shelf.rest c.read_piece.new.shelf) (g.K.Sink.written c.args.out.now, g.K.Sink.written c.loop-line.out)) (sym stopped.2)
+    (so_far-left _ _ _ _ _ _ _ _ _ _ _ _ c.loop-line.invariant.so_far _))
+
+pub loop-line-preserved : goal.loop-line-preserved
+loop-line-preserved g c =
+    let inv = c.loop-line.invariant in
+    let bound = c.in_ok-taken.ensures.bound in
+    let long = length-take c.in_ok-taken.taken c.read_piece.new.buffer in
+    let later = c.read_piece.ensures.later in
+    let before = inv.reads_later in
+    record {
+      so_far = rw c.in_ok-feed.ensures.ok
+          (told-fed _ _ _ _ _ _ _ _ _ _ _ _ inv.so_far _ (take c.in_ok-taken.taken c.read_piece.new.buffer) _ c.in_ok-taken.ensures.bytes
+          (omega (arith, bound, long)) (let all : length (take c.in_ok-taken.taken c.read_piece.new.buffer) ≡ c.in_ok-taken.taken = omega (arith, bound, long) in ap (λ n. c.loop-line.left - n) (sym all)));
+      airport = inv.airport;
+      begun = search rules;
+      tried = c.read_piece.ensures.tried ∙ inv.tried;
+      reads_later = omega (arith, later, before);
+      writes_later = inv.writes_later;
+      files = c.read_piece.ensures.files ∙ inv.files;
+      names = search rules;
+    }
+
+pub returns-in_err-count-2-clause-stopped : goal.returns-in_err-count-2-clause-stopped
+returns-in_err-count-2-clause-stopped g c =
+    let stopped = err_from_is_err_and c.from_residual-in_err-count-2.result c.from_residual-in_err-count-2.ensures.1 in
+    let ended = ended-left _ _ _ _ c.if-taken-eq0.true c.in_ok-taken.ensures.end c.in_ok-taken.ensures.bytes in
+    let none = sym c.in_default.ensures in
+    let last = sym c.in-Some-last_line.ensures in
+    let cut = rw c.loop-line.invariant.airport at c.in_err-count-2.ensures.cut in
+    rw stopped.1
+    (subst (IsStoppedTold g.T.Teller.telling (g.T.Teller.airport c.args.teller.now) c.args.limit (g.S.Shelf.rest c.args.shelf.now, g.S.Shelf.rest c.read_piece.new.shelf) (g.K.Sink.written c.args.out.now, g.K.Sink.written c.tell_line-in-Some-last_line.new.out)) (sym stopped.2)
+    (last-stops _ _ _ _ _ _ _ _ _ _ _ _ c.loop-line.invariant.so_far none c.in-Some-last_line.line.now last _ ended.0 (rw ended.0 at ended.1) _ cut c.in_err-count-2.field-0.0))
+
+pub overflow_add-count-in-Some-last_line : goal.overflow_add-count-in-Some-last_line
+overflow_add-count-in-Some-last_line g c =
+    let some = numbers-few _ _ _ _ _ _ _ _ _ _ _ _ c.loop-line.invariant.so_far in
+    let few = c.in_ok-count-2.ensures.few in
+    let countable = c.requires.countable in
+    omega (arith, some.1, few, countable)
+
+pub returns-clause-whole : goal.returns-clause-whole
+returns-clause-whole g c =
+    let ended = ended-left _ _ _ _ c.if-taken-eq0.true c.in_ok-taken.ensures.end c.in_ok-taken.ensures.bytes in
+    let none = sym c.in_default.ensures in
+    let so_far = c.loop-line.invariant.so_far in
+    let at_end = rw ended.0 at ended.1 in
+    elim c.match-last_line.branch [
+      | in-Some-last_line+in_ok-count-2 w ↦
+          let told = rw c.loop-line.invariant.airport at w.in_ok-count-2.ensures.told in
+          rw (w.out-is, w.count-is) (whole-last _ _ _ _ _ _ _ _ _ _ _ _ so_far none w.in-Some-last_line.line.now (sym w.in-Some-last_line.ensures) _ ended.0 at_end _ _ _ told)
+      | in_default-last_line w ↦
+          rw (w.out-is, w.count-is) (whole-none _ _ _ _ _ _ _ _ _ _ _ _ so_far none (sym w.in_default-last_line.ensures) _ ended.0 at_end)
+    ]
+
+pub tell_line-requires-in-Some-last_line : goal.tell_line-requires-in-Some-last_line
+tell_line-requires-in-Some-last_line g c =
+    let some = numbers-few _ _ _ _ _ _ _ _ _ _ _ _ c.loop-line.invariant.so_far in
+    let countable = c.requires.countable in
+    omega (arith, some.1, countable)

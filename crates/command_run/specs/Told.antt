@@ -1,0 +1,126 @@
+-- What is written of each command of a file beside its block, and what was written, by how the run ended?
+use Rattle.std.specs.Prelude.{◌≡◌, ◌<◌, ◌≤◌, ◌⊎◌, ◌+◌, ℕ, true, false, List, [], ◌∷◌, ◌++◌, length, take, nat_lt, if◌then◌else◌}
+use Rattle.std.specs.List.{flat_map}
+use Rattle.taxi_base.specs.Airport.{Airport}
+use Rattle.taxi_base.specs.State.{State, no_holder}
+use Rattle.taxi_text.specs.Lines.{lines_of, is_skipped}
+use Rattle.taxi_io.specs.Files.{Gave}
+use Rattle.taxi_io.specs.Written.{Grew, GrewInPart, Handed, HandedInPart, AreHanded, AreHandedInPart}
+use Rattle.certificate.specs.declared.block.Block.{Block}
+use Rattle.certificate.specs.Replies.{IsAnswered}
+use Rattle.transcripts.specs.Runs.{IsRun}
+use Rattle.command_run.specs.declared.refused.RunRefused.{RunRefused}
+use Rattle.command_run.specs.declared.refused.RunRefused.TheVariants.{ReadFault, TooLarge, WriteFault, Memory}
+use Rattle.command_run.specs.Ended.{ended_lines_of, commands_among}
+use Rattle.command_run.specs.Answered.{Told, Outputs, AreLeft}
+
+-- ---- commands with their numbers
+
+-- a command of a file: which of the commands it is and which of all lines, both counted from 1, and the line
+pub record Numbered : Type 0 where
+  pub command : ℕ
+  pub line : ℕ
+  pub text : List ℕ
+
+-- the commands among lines, where the first command and the first line have these numbers
+abbrev pub numbered_from : (command line : ℕ) → List (List ℕ) → List Numbered
+numbered_from command line [] = []
+numbered_from command line (text ∷ lines) =
+    if is_skipped text then numbered_from command (line + 1) lines
+    else record { command = command; line = line; text = text } ∷ numbered_from (command + 1) (line + 1) lines
+
+abbrev pub numbered_among : List (List ℕ) → List Numbered
+numbered_among lines = numbered_from 1 1 lines
+
+-- the lines of a file whose commands are answered: all of a file of so many bytes at most, and of a longer one those that have ended in
+-- its first so many bytes
+abbrev pub lines_within : ℕ → List ℕ → List (List ℕ)
+lines_within limit file = if nat_lt limit (length file) then ended_lines_of (take limit file) else lines_of file
+
+-- ---- what is written
+
+-- what is written of a command and the block that answers it
+abbrev pub Telling : Type 0
+Telling = Airport → Numbered → Block → List ℕ
+
+-- what is written of each of some commands
+abbrev pub texts_told : Telling → Airport → List Numbered → List Block → List (List ℕ)
+texts_told telling airport (command ∷ commands) (block ∷ blocks) = telling airport command block ∷ texts_told telling airport commands blocks
+texts_told telling airport commands blocks = []
+
+-- the whole of it
+abbrev pub all_told : Telling → Airport → List (List ℕ) → List Block → List ℕ
+all_told telling airport lines blocks = flat_map (λ text. text) (texts_told telling airport (numbered_among lines) blocks)
+
+-- each command among these lines is answered in turn by a block, of so many, and what is told of it is written, each handed over as one
+-- piece
+pub record AreTold (telling : Telling) (airport : Airport) (lines : List (List ℕ)) (written : Outputs) (count : ℕ) (after : State) : Type 0 where
+  pub blocks : List Block
+  pub run : IsRun airport no_holder (commands_among lines) blocks after
+  pub grew : Grew written.0 written.1 (all_told telling airport lines blocks)
+  pub handed : AreHanded written.0 written.1 (texts_told telling airport (numbered_among lines) blocks)
+  pub counted : count ≡ length blocks
+
+-- one command is answered by a block, and what is told of it is this text
+pub record IsTold (telling : Telling) (airport : Airport) (before : State) (command : Numbered) (text : List ℕ) (after : State) : Type 0 where
+  pub block : Block
+  pub answered : IsAnswered airport before command.text block after
+  pub is_text : text ≡ telling airport command block
+
+-- ---- how a run ended
+
+-- the file was read to its end, within the limit, and all its commands are told
+pub record IsWholeTold (telling : Telling) (airport : Airport) (limit : ℕ) (left : Told) (written : Outputs) (count : ℕ) : Type 0 where
+  pub bytes : List ℕ
+  pub gave : Gave left.0 left.1 bytes
+  pub file : AreLeft left.0 bytes
+  pub at_end : AreLeft left.1 []
+  pub within : length bytes ≤ limit
+  pub after : State
+  pub told : AreTold telling airport (lines_of bytes) written count after
+
+-- Reading ended after these bytes of the file were taken. The commands whose lines have ended in them are told, where only so many
+-- bytes count.
+pub record IsHaltedTold (telling : Telling) (airport : Airport) (limit : ℕ) (left : Told) (written : Outputs) (taken : List ℕ) : Type 0 where
+  pub gave : Gave left.0 left.1 taken
+  pub count : ℕ
+  pub after : State
+  pub told : AreTold telling airport (ended_lines_of (take limit taken)) written count after
+
+-- a front was written of what is told of the file's commands, each text handed over as one piece
+pub record IsCutTold (telling : Telling) (airport : Airport) (limit : ℕ) (left : Told) (written : Outputs) : Type 0 where
+  pub bytes : List ℕ
+  pub file : AreLeft left.0 bytes
+  pub blocks : List Block
+  pub after : State
+  pub run : IsRun airport no_holder (commands_among (lines_within limit bytes)) blocks after
+  pub front : List ℕ
+  pub behind : List ℕ
+  pub split : front ++ behind ≡ all_told telling airport (lines_within limit bytes) blocks
+  pub grew : Grew written.0 written.1 front
+  pub handed : AreHandedInPart written.0 written.1 (texts_told telling airport (numbered_among (lines_within limit bytes)) blocks)
+
+-- how much was told where a run didn't come to the end of its file
+abbrev pub IsStoppedTold : Telling → Airport → ℕ → Told → Outputs → RunRefused → Type 0
+IsStoppedTold telling airport limit left written ReadFault = (taken : List ℕ) × (length taken ≤ limit) × IsHaltedTold telling airport limit left written taken
+IsStoppedTold telling airport limit left written TooLarge = (taken : List ℕ) × (limit < length taken) × IsHaltedTold telling airport limit left written taken
+IsStoppedTold telling airport limit left written WriteFault = IsCutTold telling airport limit left written
+IsStoppedTold telling airport limit left written Memory = IsCutTold telling airport limit left written
+
+-- ---- one line, for private clauses
+
+-- a line that holds no command is passed over; else its command is told, and what is told is handed over as one piece
+abbrev pub IsLineTold : Telling → Airport → State → (count line : ℕ) → List ℕ → Outputs → ℕ → State → Type 0
+IsLineTold telling airport before count line text written few after =
+    ((is_skipped text ≡ true) × (few ≡ 0) × (written.1 ≡ written.0) × (after ≡ before))
+    ⊎ ((is_skipped text ≡ false) × (few ≡ 1)
+    × ((told : List ℕ) × IsTold telling airport before (record { command = count + 1; line = line; text = text }) told after
+    × Grew written.0 written.1 told × Handed written.0 written.1 told))
+
+-- nothing is written of a line, or a front of what is told of its command, and not the whole
+abbrev pub IsLineCut : Telling → Airport → State → (count line : ℕ) → List ℕ → Outputs → Type 0
+IsLineCut telling airport before count line text written =
+    (written.1 ≡ written.0)
+    ⊎ ((is_skipped text ≡ false)
+    × ((told : List ℕ) × (after : State) × IsTold telling airport before (record { command = count + 1; line = line; text = text }) told after
+    × GrewInPart written.0 written.1 told × HandedInPart written.0 written.1 told))

@@ -1,0 +1,6 @@
+pub mod Floatless
+mod InARow
+mod Quoted
+mod ListTexts
+mod ObjectTexts
+mod Encoded

@@ -1,0 +1,13 @@
+use Rattle.std.proofs.lemmas.Result.{on_ok_weaker}
+use Rattle.reply_json.proofs.ObjectTexts.{entry_route-written}
+use Rattle.reply_json.proofs.entries.write_route_of.Goals as goal
+
+pub returns : goal.returns
+returns c =
+    on_ok_weaker c.push_bytes-2.result
+    (entry_route-written c.args.airport.now c.args.name.now c.args.second c.args.steps.now c.args.labels.now c.args.out.now.items _ _ _ _ _
+    c.in_ok-write_name.ensures
+    c.in_ok-push_bytes.ensures.ok
+    c.in_ok-write_rows.ensures
+    c.in_ok-write_second_and_steps.ensures)
+    c.push_bytes-2.ensures.ok

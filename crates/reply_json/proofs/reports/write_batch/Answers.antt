@@ -1,0 +1,16 @@
+use Rattle.std.proofs.Common.{◌∙◌, ◌++◌, ℕ, ap, decimal}
+use Rattle.std.proofs.lemmas.Result.{on_ok_weaker}
+use Rattle.reply_json.proofs.ObjectTexts.{batch-written}
+use Rattle.reply_json.proofs.reports.write_batch.Goals as goal
+
+pub returns : goal.returns
+returns c =
+    on_ok_weaker c.write_words.result
+    (batch-written c.args.airport.now c.args.place.now.command c.args.place.now.line c.args.total c.args.entries.now _ c.args.out.now.items _ _ _ _ _ _ _
+    c.in_ok-write_command.ensures
+    c.in_ok-push_bytes.ensures.ok
+    c.in_ok-write_rows.ensures
+    c.in_ok-write_line.ensures
+    c.in_ok-push_bytes-2.ensures.ok
+    (c.in_ok-push_number.ensures.ok ∙ ap (λ (n : ℕ). c.push_bytes-2.new.out.items ++ decimal n) c.from.ensures))
+    c.write_words.ensures

@@ -1,0 +1,15 @@
+use Rattle.std.proofs.lemmas.Result.{on_ok_weaker}
+use Rattle.reply_json.proofs.ObjectTexts.{occupancy-written}
+use Rattle.reply_json.proofs.reports.write_occupancy.Goals as goal
+
+pub returns : goal.returns
+returns c =
+    on_ok_weaker c.write_words.result
+    (occupancy-written c.args.airport.now c.args.place.now.command c.args.place.now.line c.args.segment c.args.held.now _ c.args.out.now.items _ _ _ _ _ _ _
+    c.in_ok-write_command.ensures
+    c.in_ok-push_bytes.ensures.ok
+    c.in_ok-write_rows.ensures
+    c.in_ok-write_line.ensures
+    c.in_ok-push_bytes-2.ensures.ok
+    c.in_ok-write_segment.ensures)
+    c.write_words.ensures

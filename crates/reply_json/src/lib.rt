@@ -1,0 +1,17 @@
+//! Replies as JSON: one object for each command, on a line of its own.
+#![tactic(auto)]
+
+mod entries;
+mod line;
+mod lists;
+mod members;
+mod pieces;
+mod place;
+mod refusals;
+mod reports;
+mod routes;
+mod rows;
+mod short_replies;
+mod words;
+
+pub use line::{done_line, object_line};

@@ -1,0 +1,362 @@
+-- How `json` ends: what was due where it came to the end of its command file, where it was halted, and where it was cut short.
+use Rattle.std.proofs.Common.{◌≡◌, ◌<◌, ◌≤◌, ◌++◌, ◌∷◌, ◌∙◌, [], inl, inr, ℕ, List, Bool, true, false, cond, Option, Some, None, Result, Ok, Err, OnOk, OnErr, length, take, nat_lt, refl, sym, ap, subst, append_assoc, arith}
+use Rattle.std.proofs.lemmas.Bool.{ltb-true, ltb-false}
+use Rattle.std.proofs.lemmas.List.{length-append, take-append-le}
+use Rattle.taxi_base.specs.Airport.{Airport}
+use Rattle.taxi_base.specs.State.{State, no_holder}
+use Rattle.taxi_text.specs.Lines.{lines_of}
+use Rattle.taxi_io.specs.Counts.{Rose}
+use Rattle.taxi_io.specs.Files.{Files, IsFile, Begins, Gave}
+use Rattle.taxi_io.specs.Written.{Output, Grew, GrewInPart, AreHanded, AreHandedInPart}
+use Rattle.taxi_io.specs.declared.trouble.Trouble.{Trouble}
+use Rattle.taxi_io.specs.declared.trouble.Trouble.TheVariants as trouble
+use Rattle.taxi_io.proofs.Pieces.{grew-nothing, grew-more, handed-nothing, handed-on, handed-all, handed-longer}
+use Rattle.certificate.specs.declared.block.Block.{Block}
+use Rattle.transcripts.specs.Runs.{IsRun}
+use Rattle.command_run.specs.declared.refused.RunRefused.{RunRefused}
+use Rattle.command_run.specs.declared.refused.RunRefused.TheVariants as refused
+use Rattle.command_run.specs.Ended.{ended_lines_of, commands_among}
+use Rattle.command_run.specs.Answered.{Outputs, AreLeft}
+use Rattle.command_run.specs.Told.{numbered_among, lines_within, texts_told, all_told, IsWholeTold, IsHaltedTold, IsCutTold, IsStoppedTold}
+use Rattle.reply_json.specs.Lines.{done_line}
+use Rattle.program_endings.specs.declared.status.Status.{Status}
+use Rattle.program_endings.specs.declared.status.Status.TheVariants as status
+use Rattle.program_endings.specs.Call.{Call, IsWholeAs, IsCutShortAs, EndsAs}
+use Rattle.program_endings.specs.LastLine.{status_after, IsWriting, EndsWith}
+use Rattle.program_endings.specs.Lines.{read_fault_line, too_large_line}
+use Rattle.program_endings.proofs.EndingLaws.{IsTaken, writing-ends_as, last-ends_as}
+use Rattle.program_files.specs.declared.stop.Stop.{Stop}
+use Rattle.program_files.specs.declared.stop.Stop.TheVariants as stop
+use Rattle.program_files.specs.Inputs.{commands_limit, IsJudged}
+use Rattle.program_files.specs.Lines.{refusal_line}
+use Rattle.program_files.specs.Stops.{IsCauseOfAirport, IsCauseOfBegin, StopsWith}
+use Rattle.program_words.specs.Verb.{FileNames}
+use Rattle.tool_words.specs.Verb.{Json}
+use Rattle.taxi_tools.specs.Endings.{IsDueText, Ends}
+use Rattle.taxi_tools.specs.Handed.{AreJsonTexts, IsInPieces}
+use Rattle.taxi_tools.specs.Objects.{object_of}
+use Rattle.taxi_tools.specs.RunEnds.{HaltsWith, HasOutcome, IsRunEnd}
+
+-- ---- what is written behind objects
+
+front-behind : (before now then : Output) (done line : List ℕ) → Grew before now done → GrewInPart now then line → GrewInPart before then (done ++ line)
+front-behind before now then done line grew front =
+    (done ++ front.0, front.1, append_assoc done front.0 front.1 ∙ ap (λ (l : List ℕ). done ++ l) front.2, front.3, grew-more before now then done front.0 grew front.4)
+
+-- a line is written behind a text that was written whole
+writing-behind : (done line : List ℕ) (before between after : ℕ) (old now then : Output) (written : Result (Unit {0}) Trouble) → before ≤ between
+    → Grew old now done → IsWriting line (between, after) (now, then) written → IsTaken (done ++ line) (before, after) (old, then) written
+writing-behind done line before between after old now then written later grew writing = record {
+  whole = on_ok written writing.whole;
+  front = on_err written writing.front;
+  failed = λ failed. let rose = writing.failed failed in omega arith;
+}
+  where
+    on_ok : (written : Result (Unit {0}) Trouble) → OnOk written (Grew now then line) → OnOk written (Grew old then (done ++ line))
+    on_ok (Ok _) whole = grew-more old now then done line grew whole
+    on_ok (Err _) whole = tt
+
+    on_err : (written : Result (Unit {0}) Trouble) → OnErr written (GrewInPart now then line) → OnErr written (GrewInPart old then (done ++ line))
+    on_err (Ok _) front = tt
+    on_err (Err _) front = front-behind old now then done line grew front
+
+-- a front of a text, and what is behind it, is a front of the text with a line
+front-of : (old now : Output) (front behind text line : List ℕ) → front ++ behind ≡ text → 0 < length line → Grew old now front → GrewInPart old now (text ++ line)
+front-of old now front behind text line split some grew = (
+  front,
+  behind ++ line,
+  sym (append_assoc front behind line) ∙ ap (λ (t : List ℕ). t ++ line) split,
+  (let l = length-append behind line in omega (arith, l, some)),
+  grew,
+)
+
+-- ---- the file that is begun
+
+begun-file : (told : Option Files) (name : List ℕ) (rest : Option (List ℕ)) (bytes : List ℕ) → Begins told name rest → AreLeft rest bytes → IsFile told name bytes
+begun-file None name rest bytes begins left = tt
+begun-file (Some files) name rest bytes begins left = begins.1 ∙ ap (λ (b : List ℕ). Some b) (subst (λ (r : Option (List ℕ)). AreLeft r bytes) begins.2 left)
+
+-- what was taken of it is its front
+taken-file : (told : Option Files) (name : List ℕ) (rest left : Option (List ℕ)) (taken : List ℕ) → Begins told name rest → Gave rest left taken
+    → (more : List ℕ) × IsFile told name (taken ++ more)
+taken-file None name rest left taken begins gave = ([], tt)
+taken-file (Some files) name rest None taken begins gave = absurd (cc (begins.2, gave))
+taken-file (Some files) name rest (Some more) taken begins gave =
+    let same : begins.0 ≡ taken ++ more = cc (begins.2, gave) in (more, begins.1 ∙ ap (λ (b : List ℕ). Some b) same)
+
+-- the lines of a file whose commands are answered, by whether it is longer than a command file may be
+abbrev lines_if : List ℕ → Bool → List (List ℕ)
+lines_if bytes longer = cond longer (ended_lines_of (take commands_limit bytes)) (lines_of bytes)
+
+-- ---- before a command is read
+
+module _ (call : Call) (names : FileNames) where
+  abbrev Due : Status → List ℕ → Type 0
+  Due = IsDueText call (Some (Json names))
+
+  -- the airport file ends the call
+  pub airport-ends : (why : Stop) (ended : Status) → IsCauseOfAirport call.files names.airport call.reads why → StopsWith why call.writes call.taken ended → Ends call (Some (Json names)) ended
+  airport-ends (stop.Refused at why) ended cause stops =
+      last-ends_as Due call.writes call.taken status.AirportRefused (refusal_line (record { at = at; why = why })) _ ended (record { at = at; why = why }, cause, refl) refl stops (λ whole. whole)
+  airport-ends stop.ReadFault ended cause stops = last-ends_as Due call.writes call.taken status.ReadFault read_fault_line _ ended (cause, inl refl) refl stops (λ whole. whole)
+  airport-ends stop.TooLarge ended cause stops = last-ends_as Due call.writes call.taken status.TooLarge too_large_line _ ended (inl (cause, refl)) refl stops (λ whole. whole)
+  airport-ends stop.Memory ended cause stops = rw stops.0 (inl (rw stops.1 (grew-nothing call.taken.0)))
+
+  -- the command file can't be begun
+  begin-ends : (why : Stop) (ended : Status) (before : ℕ) → IsCauseOfBegin (before, call.reads.1) why → call.reads.0 ≤ before → StopsWith why call.writes call.taken ended
+      → Ends call (Some (Json names)) ended
+  begin-ends (stop.Refused at why) ended before cause later stops = absurd cause
+  begin-ends stop.TooLarge ended before cause later stops = absurd cause
+  begin-ends stop.Memory ended before cause later stops = rw stops.0 (inl (rw stops.1 (grew-nothing call.taken.0)))
+  begin-ends stop.ReadFault ended before cause later stops =
+      let rose : Rose call.reads.0 call.reads.1 = omega (arith, cause, later) in
+      last-ends_as Due call.writes call.taken status.ReadFault read_fault_line _ ended (rose, inl refl) refl stops (λ whole. whole)
+
+-- ---- a run at an accepted airport, over the command file that was begun
+
+module _ (call : Call) (names : FileNames) (airport : Airport) (accepted : IsJudged call.files names.airport (Ok airport)) (rest left : Option (List ℕ)) (between : Output)
+    (begins : Begins call.files names.commands rest) (mid : ℕ) (later : call.writes.0 ≤ mid) where
+  abbrev Asked : Status → List ℕ → Type 0
+  Asked = IsDueText call (Some (Json names))
+
+  -- the objects are written, and the last line decides the status
+  ended-by : (objects line last : List ℕ) (due ended : Status) → Grew call.taken.0 between objects → line ≡ last → Asked due (objects ++ last)
+      → (IsWholeAs Asked call.taken due → EndsAs Asked call.writes call.taken due) → EndsWith line due (mid, call.writes.1) (between, call.taken.1) ended → Ends call (Some (Json names)) ended
+  ended-by objects line last due ended grew same text as_whole ends =
+      rw ends.2 (writing-ends_as Asked call.writes call.taken due (objects ++ line) ends.0 (rw same text)
+      (writing-behind objects line call.writes.0 mid call.writes.1 call.taken.0 between call.taken.1 ends.0 later grew ends.1) as_whole)
+
+  -- the whole file is read
+  whole-ends : (count : ℕ) (ended : Status) → IsWholeTold object_of airport commands_limit (rest, left) (call.taken.0, between) count
+      → EndsWith (done_line count) status.Done (mid, call.writes.1) (between, call.taken.1) ended → Ends call (Some (Json names)) ended
+  whole-ends count ended whole ends =
+      ended-by (all_told object_of airport (lines_of whole.bytes) whole.told.blocks) (done_line count) (done_line (length whole.told.blocks)) status.Done ended whole.told.grew (ap done_line whole.told.counted)
+      (record {
+        airport = airport;
+        commands = whole.bytes;
+        accepted = record { accepted = accepted; file = begun-file call.files names.commands rest whole.bytes begins whole.file; within = whole.within };
+        blocks = whole.told.blocks;
+        after = whole.after;
+        run = whole.told.run;
+        whole = refl;
+      })
+      (λ whole. whole) ends
+
+  fault-ends : (taken : List ℕ) (ended : Status) → Rose call.reads.0 call.reads.1 → IsHaltedTold object_of airport commands_limit (rest, left) (call.taken.0, between) taken
+      → EndsWith read_fault_line status.ReadFault (mid, call.writes.1) (between, call.taken.1) ended → Ends call (Some (Json names)) ended
+  fault-ends taken ended rose halted ends =
+      let file = taken-file call.files names.commands rest left taken begins halted.gave in
+      ended-by (all_told object_of airport (ended_lines_of (take commands_limit taken)) halted.told.blocks) read_fault_line read_fault_line status.ReadFault ended halted.told.grew refl
+      (rose, inr (taken, file.0, file.1, record { airport = airport; accepted = accepted; blocks = halted.told.blocks; after = halted.after; run = halted.told.run; whole = refl }))
+      (λ whole. whole) ends
+
+  large-ends : (taken : List ℕ) (ended : Status) → commands_limit < length taken → IsHaltedTold object_of airport commands_limit (rest, left) (call.taken.0, between) taken
+      → EndsWith too_large_line status.TooLarge (mid, call.writes.1) (between, call.taken.1) ended → Ends call (Some (Json names)) ended
+  large-ends taken ended more halted ends =
+      let file = taken-file call.files names.commands rest left taken begins halted.gave in
+      let longer : commands_limit < length (taken ++ file.0) = let l = length-append taken file.0 in omega (arith, l, more) in
+      let counted : take commands_limit taken ≡ take commands_limit (taken ++ file.0) = sym (take-append-le commands_limit taken file.0 (omega (arith, more))) in
+      ended-by (all_told object_of airport (ended_lines_of (take commands_limit taken)) halted.told.blocks) too_large_line too_large_line status.TooLarge ended halted.told.grew refl
+      (inr (
+        taken ++ file.0,
+        file.1,
+        longer,
+        record {
+          airport = airport;
+          accepted = accepted;
+          blocks = halted.told.blocks;
+          after = halted.after;
+          run = subst (λ (t : List ℕ). IsRun airport no_holder (commands_among (ended_lines_of t)) halted.told.blocks halted.after) counted halted.told.run;
+          whole = ap (λ (t : List ℕ). all_told object_of airport (ended_lines_of t) halted.told.blocks ++ too_large_line) counted;
+        },
+      ))
+      (λ whole. whole) ends
+
+  -- a front of the objects is written
+  cut-ends : IsCutTold object_of airport commands_limit (rest, left) call.taken → IsCutShortAs Asked call.taken
+  cut-ends cut = go (nat_lt commands_limit (length cut.bytes)) refl where
+    file : IsFile call.files names.commands cut.bytes
+    file = begun-file call.files names.commands rest cut.bytes begins cut.file
+
+    run-if : (b : Bool) → nat_lt commands_limit (length cut.bytes) ≡ b → IsRun airport no_holder (commands_among (lines_if cut.bytes b)) cut.blocks cut.after
+    run-if b is = subst (λ (c : Bool). IsRun airport no_holder (commands_among (lines_if cut.bytes c)) cut.blocks cut.after) is cut.run
+
+    split-if : (b : Bool) → nat_lt commands_limit (length cut.bytes) ≡ b → cut.front ++ cut.behind ≡ all_told object_of airport (lines_if cut.bytes b) cut.blocks
+    split-if b is = subst (λ (c : Bool). cut.front ++ cut.behind ≡ all_told object_of airport (lines_if cut.bytes c) cut.blocks) is cut.split
+
+    go : (b : Bool) → nat_lt commands_limit (length cut.bytes) ≡ b → IsCutShortAs Asked call.taken
+    go false is = (
+      status.Done,
+      all_told object_of airport (lines_of cut.bytes) cut.blocks ++ done_line (length cut.blocks),
+      record {
+        airport = airport;
+        commands = cut.bytes;
+        accepted = record { accepted = accepted; file = file; within = ltb-false _ _ is };
+        blocks = cut.blocks;
+        after = cut.after;
+        run = run-if false is;
+        whole = refl;
+      },
+      front-of call.taken.0 call.taken.1 cut.front cut.behind (all_told object_of airport (lines_of cut.bytes) cut.blocks) (done_line (length cut.blocks)) (split-if false is) (omega arith) cut.grew,
+    )
+    go true is = (
+      status.TooLarge,
+      all_told object_of airport (ended_lines_of (take commands_limit cut.bytes)) cut.blocks ++ too_large_line,
+      inr (cut.bytes, file, ltb-true _ _ is, record { airport = airport; accepted = accepted; blocks = cut.blocks; after = cut.after; run = run-if true is; whole = refl }),
+      front-of call.taken.0 call.taken.1 cut.front cut.behind (all_told object_of airport (ended_lines_of (take commands_limit cut.bytes)) cut.blocks) too_large_line (split-if true is) (omega arith) cut.grew,
+    )
+
+  halt-ends : (why : RunRefused) (ended : Status) (before : ℕ) → IsStoppedTold object_of airport commands_limit (rest, left) (call.taken.0, between) why
+      → (why ≡ refused.ReadFault → Rose before call.reads.1) → call.reads.0 ≤ before → (why ≡ refused.WriteFault → Rose call.writes.0 mid) → mid ≤ call.writes.1
+      → HaltsWith why (mid, call.writes.1) (between, call.taken.1) ended → Ends call (Some (Json names)) ended
+  halt-ends refused.ReadFault ended before stopped reads earlier write after halts =
+      let risen = reads refl in
+      let rose : Rose call.reads.0 call.reads.1 = omega (arith, risen, earlier) in
+      fault-ends stopped.0 ended rose stopped.2 halts
+  halt-ends refused.TooLarge ended before stopped reads earlier write after halts = large-ends stopped.0 ended stopped.1 stopped.2 halts
+  halt-ends refused.WriteFault ended before stopped reads earlier write after halts =
+      let risen = write refl in
+      let rose : Rose call.writes.0 call.writes.1 = omega (arith, risen, after) in
+      rw halts.0 (rose, cut-ends (subst (λ (t : Output). IsCutTold object_of airport commands_limit (rest, left) (call.taken.0, t)) (sym halts.1) stopped))
+  halt-ends refused.Memory ended before stopped reads earlier write after halts =
+      rw halts.0 (inr (cut-ends (subst (λ (t : Output). IsCutTold object_of airport commands_limit (rest, left) (call.taken.0, t)) (sym halts.1) stopped)))
+
+-- ---- the pieces that are handed over
+
+other-status : (line : List ℕ) (whole ended other : Status) (faults : ℕ × ℕ) (taken : Outputs) → EndsWith line whole faults taken ended → ended ≡ other
+    → (whole ≡ other → ⊥) → (status.WriteFault ≡ other → ⊥) → (status.Memory ≡ other → ⊥) → ⊥
+other-status line whole ended other faults taken ends is no_whole no_fault no_memory = go ends.0 (sym ends.2 ∙ is) where
+  go : (written : Result (Unit {0}) Trouble) → status_after written whole ≡ other → ⊥
+  go (Ok done) same = no_whole same
+  go (Err trouble.Failed) same = no_fault same
+  go (Err trouble.Memory) same = no_memory same
+
+-- a line is handed over, whole or in part
+line-handed : (line : List ℕ) (whole ended : Status) (faults : ℕ × ℕ) (taken : Outputs) → EndsWith line whole faults taken ended → AreHandedInPart taken.0 taken.1 (line ∷ [])
+line-handed line whole ended faults taken ends = go ends.0 ends.1 where
+  go : (written : Result (Unit {0}) Trouble) → IsWriting line faults taken written → AreHandedInPart taken.0 taken.1 (line ∷ [])
+  go (Ok done) writing = inr (taken.1, writing.handed, refl)
+  go (Err why) writing = inl (inr writing.in_part)
+
+-- and whole with `Done`
+line-handed-whole : (line : List ℕ) (ended : Status) (faults : ℕ × ℕ) (taken : Outputs) → EndsWith line status.Done faults taken ended → ended ≡ status.Done → AreHanded taken.0 taken.1 (line ∷ [])
+line-handed-whole line ended faults taken ends is = go ends.0 (sym ends.2 ∙ is) ends.1 where
+  go : (written : Result (Unit {0}) Trouble) → status_after written status.Done ≡ status.Done → IsWriting line faults taken written → AreHanded taken.0 taken.1 (line ∷ [])
+  go (Ok done) same writing = (taken.1, writing.handed, refl)
+  go (Err trouble.Failed) same writing = absurd (cc same)
+  go (Err trouble.Memory) same writing = absurd (cc same)
+
+-- one line alone is written
+module _ (call : Call) (names : FileNames) where
+  one-line : (line : List ℕ) (whole ended : Status) → (whole ≡ status.Done → ⊥) → EndsWith line whole call.writes call.taken ended → IsInPieces call names ended
+  one-line line whole ended other ends = record {
+    texts = line ∷ [];
+    are = inl (line, refl);
+    handed = line-handed line whole ended call.writes call.taken ends;
+    done = λ is. absurd (other-status line whole ended status.Done call.writes call.taken ends is other (λ e. cc e) (λ e. cc e));
+  }
+
+  pub stop-handed : (why : Stop) (ended : Status) → StopsWith why call.writes call.taken ended → IsInPieces call names ended
+  stop-handed (stop.Refused at why) ended stops = one-line (refusal_line (record { at = at; why = why })) status.AirportRefused ended (λ e. cc e) stops
+  stop-handed stop.ReadFault ended stops = one-line read_fault_line status.ReadFault ended (λ e. cc e) stops
+  stop-handed stop.TooLarge ended stops = one-line too_large_line status.TooLarge ended (λ e. cc e) stops
+  stop-handed stop.Memory ended stops = record {
+    texts = [] ∷ [];
+    are = inl ([], refl);
+    handed = handed-nothing call.taken.0 call.taken.1 ([] ∷ []) (ap (λ (o : Output). o.pieces) stops.1);
+    done = λ is. absurd (cc (stops.0, is));
+  }
+
+module _ (call : Call) (names : FileNames) (airport : Airport) (accepted : IsJudged call.files names.airport (Ok airport)) (rest left : Option (List ℕ)) (between : Output) where
+  abbrev texts : List (List ℕ) → List Block → List (List ℕ)
+  texts lines blocks = texts_told object_of airport (numbered_among lines) blocks
+
+  objects-and-line : (lines : List (List ℕ)) (blocks : List Block) (after : State) (line : List ℕ) → IsRun airport no_holder (commands_among lines) blocks after
+      → AreJsonTexts call.files names (texts lines blocks ++ line ∷ [])
+  objects-and-line lines blocks after line run =
+      inr (record { airport = airport; accepted = accepted; lines = lines; blocks = blocks; after = after; run = run; last = line; are = refl })
+
+  -- the whole file is read
+  whole-handed : (begins : Begins call.files names.commands rest) (count : ℕ) (ended : Status) (faults : ℕ × ℕ) → IsWholeTold object_of airport commands_limit (rest, left) (call.taken.0, between) count
+      → EndsWith (done_line count) status.Done faults (between, call.taken.1) ended → IsInPieces call names ended
+  whole-handed begins count ended faults whole ends =
+      let told = whole.told in
+      let objects = texts (lines_of whole.bytes) told.blocks in
+      record {
+        texts = objects ++ done_line count ∷ [];
+        are = objects-and-line (lines_of whole.bytes) told.blocks whole.after (done_line count) told.run;
+        handed = handed-on call.taken.0 between call.taken.1 objects (done_line count ∷ []) told.handed (line-handed (done_line count) status.Done ended faults (between, call.taken.1) ends);
+        done = λ is. (
+          all_told object_of airport (lines_of whole.bytes) told.blocks ++ done_line (length told.blocks),
+          record {
+            airport = airport;
+            commands = whole.bytes;
+            accepted = record { accepted = accepted; file = begun-file call.files names.commands rest whole.bytes begins whole.file; within = whole.within };
+            blocks = told.blocks;
+            after = whole.after;
+            run = told.run;
+            whole = refl;
+          },
+          subst (λ (n : ℕ). AreHanded call.taken.0 call.taken.1 (objects ++ done_line n ∷ [])) told.counted
+              (handed-all call.taken.0 between call.taken.1 objects (done_line count ∷ []) told.handed (line-handed-whole (done_line count) ended faults (between, call.taken.1) ends is)),
+        );
+      }
+
+  halted-handed : (taken line : List ℕ) (whole ended : Status) (faults : ℕ × ℕ) → (whole ≡ status.Done → ⊥) → IsHaltedTold object_of airport commands_limit (rest, left) (call.taken.0, between) taken
+      → EndsWith line whole faults (between, call.taken.1) ended → IsInPieces call names ended
+  halted-handed taken line whole ended faults other halted ends =
+      let told = halted.told in
+      let objects = texts (ended_lines_of (take commands_limit taken)) told.blocks in
+      record {
+        texts = objects ++ line ∷ [];
+        are = objects-and-line (ended_lines_of (take commands_limit taken)) told.blocks halted.after line told.run;
+        handed = handed-on call.taken.0 between call.taken.1 objects (line ∷ []) told.handed (line-handed line whole ended faults (between, call.taken.1) ends);
+        done = λ is. absurd (other-status line whole ended status.Done faults (between, call.taken.1) ends is other (λ e. cc e) (λ e. cc e));
+      }
+
+  cut-handed : (ended : Status) → (ended ≡ status.Done → ⊥) → IsCutTold object_of airport commands_limit (rest, left) call.taken → IsInPieces call names ended
+  cut-handed ended other cut =
+      let objects = texts (lines_within commands_limit cut.bytes) cut.blocks in
+      record {
+        texts = objects ++ [] ∷ [];
+        are = objects-and-line (lines_within commands_limit cut.bytes) cut.blocks cut.after [] cut.run;
+        handed = handed-longer call.taken.0 call.taken.1 objects ([] ∷ []) cut.handed;
+        done = λ is. absurd (other is);
+      }
+
+  halt-handed : (why : RunRefused) (ended : Status) (faults : ℕ × ℕ) → IsStoppedTold object_of airport commands_limit (rest, left) (call.taken.0, between) why
+      → HaltsWith why faults (between, call.taken.1) ended → IsInPieces call names ended
+  halt-handed refused.ReadFault ended faults stopped halts = halted-handed stopped.0 read_fault_line status.ReadFault ended faults (λ e. cc e) stopped.2 halts
+  halt-handed refused.TooLarge ended faults stopped halts = halted-handed stopped.0 too_large_line status.TooLarge ended faults (λ e. cc e) stopped.2 halts
+  halt-handed refused.WriteFault ended faults stopped halts =
+      cut-handed ended (λ is. cc (halts.0, is)) (subst (λ (t : Output). IsCutTold object_of airport commands_limit (rest, left) (call.taken.0, t)) (sym halts.1) stopped)
+  halt-handed refused.Memory ended faults stopped halts =
+      cut-handed ended (λ is. cc (halts.0, is)) (subst (λ (t : Output). IsCutTold object_of airport commands_limit (rest, left) (call.taken.0, t)) (sym halts.1) stopped)
+
+-- ---- the call as a whole
+
+run-outcome : (call : Call) (names : FileNames) (airport : Airport) (accepted : IsJudged call.files names.airport (Ok airport)) (rest left : Option (List ℕ)) (between : Output)
+    (before mid : ℕ) (ended : Status) (outcome : Result ℕ RunRefused) → Begins call.files names.commands rest → call.writes.0 ≤ mid → mid ≤ call.writes.1 → call.reads.0 ≤ before
+    → HasOutcome (record { files = call.files; reads = (before, call.reads.1); writes = call.writes; left = left; taken = call.taken }) airport rest between mid ended outcome
+    → Ends call (Some (Json names)) ended × IsInPieces call names ended
+run-outcome call names airport accepted rest left between before mid ended (Ok count) begins later after earlier has = (
+  whole-ends call names airport accepted rest left between begins mid later count ended has.0 has.1,
+  whole-handed call names airport accepted rest left between begins count ended (mid, call.writes.1) has.0 has.1,
+)
+run-outcome call names airport accepted rest left between before mid ended (Err why) begins later after earlier has = (
+  halt-ends call names airport accepted rest left between begins mid later why ended before has.0 has.2 earlier has.3 after has.1,
+  halt-handed call names airport accepted rest left between why ended (mid, call.writes.1) has.0 has.1,
+)
+
+-- how the run ends ends the call
+pub run-ends : (call : Call) (names : FileNames) (airport : Airport) (told : Option Files) (left : Option (List ℕ)) (before : ℕ) (ended : Status)
+    → IsJudged call.files names.airport (Ok airport) → told ≡ call.files → call.reads.0 ≤ before
+    → IsRunEnd (record { files = told; reads = (before, call.reads.1); writes = call.writes; left = left; taken = call.taken }) airport names.commands ended
+    → Ends call (Some (Json names)) ended × IsInPieces call names ended
+run-ends call names airport told left before ended accepted same earlier (inl stopped) = (
+  begin-ends call names stopped.why ended before stopped.cause earlier stopped.stops,
+  stop-handed call names stopped.why ended stopped.stops,
+)
+run-ends call names airport told left before ended accepted same earlier (inr run) =
+    run-outcome call names airport accepted run.rest left run.between before run.mid ended run.outcome
+    (subst (λ (t : Option Files). Begins t names.commands run.rest) same run.begins) run.later run.after earlier run.has

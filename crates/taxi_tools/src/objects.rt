@@ -1,0 +1,107 @@
+//! The verb `json`.
+ghost use Rattle.std.specs.Prelude.{◌≡◌, ◌≤◌, ◌∷◌, [], Some, IfOk, IfErr, IsErrOf, IsTrue};
+ghost use Rattle.taxi_io.specs.Counts.{Rose};
+ghost use Rattle.taxi_io.specs.Files.{BeganMore};
+ghost use Rattle.command_run.specs.Told.{IsWholeTold, IsStoppedTold};
+ghost use Rattle.program_endings.specs.Call.{call_of};
+ghost use Rattle.program_files.specs.Inputs.{commands_limit};
+ghost use Rattle.tool_words.specs.Verb.{Json, names_of};
+ghost use Rattle.taxi_tools.specs.Endings.{Ends};
+ghost use Rattle.taxi_tools.specs.Handed.{IsInPieces};
+ghost use Rattle.taxi_tools.specs.Objects.{object_of};
+ghost use Rattle.taxi_tools.specs.Order.{IsInOrder};
+ghost use Rattle.taxi_tools.specs.RunEnds.{HaltsWith, IsRunEnd};
+
+use crate::object_teller::ObjectTeller;
+use airport_file::Airport;
+use command_run::{RunRefused, run_told};
+use program_endings::{Status, read_fault_line, too_large_line, write_last};
+use program_files::{COMMANDS_LIMIT, begin_commands, read_airport_file, write_stop};
+use reply_json::done_line;
+use std::alloc::Global;
+use taxi_io::{Shelf, Sink};
+
+/// Answers the commands of one file at the airport of another, and writes each reply as a JSON object.
+pub(crate) fn json<S: Shelf, K: Sink>(
+    alloc: Global,
+    airport: &str,
+    commands: &str,
+    shelf: &mut S,
+    out: &mut K,
+) -> Status
+    requires airport { S.knows shelf.old airport.now }
+    requires commands { S.knows shelf.old commands.now }
+    ensures ends { Ends (call_of S.files S.faults S.given K.faults K.written (shelf.old, shelf.new) (out.old, out.new)) (Some (Json (names_of airport.now commands.now))) result }
+    ensures handed { IsInPieces (call_of S.files S.faults S.given K.faults K.written (shelf.old, shelf.new) (out.old, out.new)) (names_of airport.now commands.now) result }
+    ensures order { IsInOrder (S.files shelf.old) (Some (Json (names_of airport.now commands.now))) (S.tried shelf.old) (S.tried shelf.new) }
+    ensures reads_later { S.faults shelf.old ≤ S.faults shelf.new }
+    ensures writes_later { K.faults out.old ≤ K.faults out.new }
+{
+    match read_airport_file(alloc, shelf, airport) {
+        Ok(airport) => json_at(alloc, airport, commands, shelf, out),
+        Err(stop) => write_stop(out, stop),
+    }
+}
+
+// The same at an airport.
+fn json_at<S: Shelf, K: Sink>(
+    alloc: Global,
+    airport: Airport,
+    commands: &str,
+    shelf: &mut S,
+    out: &mut K,
+) -> Status
+    requires { S.knows shelf.old commands.now }
+    ensures run { IsRunEnd (record {
+      files = S.files shelf.old;
+      reads = (S.faults shelf.old, S.faults shelf.new);
+      writes = (K.faults out.old, K.faults out.new);
+      left = S.rest shelf.new;
+      taken = (K.written out.old, K.written out.new);
+    }) airport commands.now result }
+    ensures tried { BeganMore (S.tried shelf.old) (S.tried shelf.new) (commands.now ∷ []) }
+    ensures reads_later { S.faults shelf.old ≤ S.faults shelf.new }
+    ensures writes_later { K.faults out.old ≤ K.faults out.new }
+{
+    match begin_commands(shelf, commands) {
+        Ok(()) => match run_teller(alloc, airport, shelf, out) {
+            Ok(count) => write_last(out, done_line(count).bytes(), Status::Done),
+            Err(refused) => write_halt(out, refused),
+        },
+        Err(stop) => write_stop(out, stop),
+    }
+}
+
+// The same for the begun file.
+fn run_teller<S: Shelf, K: Sink>(
+    alloc: Global,
+    airport: Airport,
+    shelf: &mut S,
+    out: &mut K,
+) -> Result<u64, RunRefused>
+    requires { IsTrue (S.begun shelf.old) }
+    ensures whole { IfOk result (IsWholeTold object_of airport commands_limit (S.rest shelf.old, S.rest shelf.new) (K.written out.old, K.written out.new)) }
+    ensures stopped { IfErr result (IsStoppedTold object_of airport commands_limit (S.rest shelf.old, S.rest shelf.new) (K.written out.old, K.written out.new)) }
+    ensures read_fault { IsErrOf result RunRefused.ReadFault → Rose (S.faults shelf.old) (S.faults shelf.new) }
+    ensures write_fault { IsErrOf result RunRefused.WriteFault → Rose (K.faults out.old) (K.faults out.new) }
+    ensures tried { S.tried shelf.new ≡ S.tried shelf.old }
+    ensures reads_later { S.faults shelf.old ≤ S.faults shelf.new }
+    ensures writes_later { K.faults out.old ≤ K.faults out.new }
+    ensures files { S.files shelf.new ≡ S.files shelf.old }
+{
+    let mut teller = ObjectTeller::new(alloc, airport)?;
+    run_told(alloc, &mut teller, shelf, COMMANDS_LIMIT, out)
+}
+
+// Writes the line that says why a run ends before the end of its file, and gives the status that goes with it.
+fn write_halt<K: Sink>(out: &mut K, why: RunRefused) -> Status
+    ensures ends { HaltsWith why (K.faults out.old, K.faults out.new) (K.written out.old, K.written out.new) result }
+    ensures later { K.faults out.old ≤ K.faults out.new }
+{
+    match why {
+        RunRefused::ReadFault => write_last(out, read_fault_line(), Status::ReadFault),
+        RunRefused::TooLarge => write_last(out, too_large_line(), Status::TooLarge),
+        RunRefused::WriteFault => Status::WriteFault,
+        RunRefused::Memory => Status::Memory,
+    }
+}

@@ -1,0 +1,37 @@
+"""Asks a router one command after the other, and reads its answers as JSON: objects.py TAXI-TOOLS AIRPORT <COMMANDS"""
+
+import json
+import subprocess
+import sys
+
+
+class Router:
+    """A router that runs beside this program and answers a command at a time."""
+
+    def __init__(self, tools, airport):
+        words = [tools, "json", airport, "-"]
+        self.process = subprocess.Popen(words, stdin=subprocess.PIPE, stdout=subprocess.PIPE, text=True)
+
+    def ask(self, command):
+        """The answer as a dictionary."""
+        self.process.stdin.write(command + "\n")
+        self.process.stdin.flush()
+        line = self.process.stdout.readline()
+        if not line.startswith("{"):
+            raise EOFError(f"the router said {line!r} and ended with status {self.process.wait()}")
+        return json.loads(line)
+
+
+def told(answer):
+    """What a controller is told of an answer."""
+    if answer["reply"] == "route":
+        return f"{answer['flight']}: at {answer['second']} by {' '.join(step['arc'] for step in answer['steps'])}"
+    if answer["reply"] == "refused":
+        return f"{answer['words'][0]}: refused, {answer.get('cause', answer['why'])}"
+    return answer["reply"]
+
+
+router = Router(sys.argv[1], sys.argv[2])
+for line in map(str.strip, sys.stdin):
+    if line and not line.startswith("#"):
+        print(told(router.ask(line)))
