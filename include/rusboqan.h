@@ -3,8 +3,9 @@
    An engine answers commands over one airport, as the program `taxi route` does. docs/FORMATS.md has the commands and replies.
 
    You owe: a handle that rusboqan_open wrote and rusboqan_close has not taken; one call at a time for each engine; bytes that
-   stay readable during the call. Engines are apart from one another, so each thread may have its own. The library takes its
-   memory from malloc. It keeps no pointer to your bytes when a call has returned. */
+   stay readable during the call; a lent reply that is only read, and only until the next call for its engine. Engines are
+   apart from one another, so each thread may have its own. The library takes its memory from malloc. It keeps no pointer to
+   your bytes when a call has returned. */
 #ifndef RUSBOQAN_H
 #define RUSBOQAN_H
 
@@ -42,6 +43,11 @@ uint8_t rusboqan_why(const uint8_t *airport, size_t length, uint32_t *record);
    if the line is a comment or blank; such a line changes nothing. If memory runs out the reply is "refused memory\n" and
    nothing else has changed. The line may not be null; its length may be 0. */
 size_t rusboqan_answer(struct rusboqan *engine, const uint8_t *line, size_t length);
+
+/* Lends the reply to the last command: writes to *text where it begins, and gives its length. Each of its lines ends with a
+   line feed; no zero byte follows. You may read it, not write it, until the next call for this engine, whichever that is.
+   Before the first command the length is 0; *text is never null. The parameter text may not be null. */
+size_t rusboqan_text(struct rusboqan *engine, const uint8_t **text);
 
 /* Copies the reply to the last command to room, if it fits in size bytes, and gives its length in any case. Each of its lines
    ends with a line feed; no zero byte is added. The room may not be null; nothing else may use it during the call. */

@@ -34,10 +34,14 @@ public:
     }
 
     // The reply to one command; empty if the line is a comment or blank.
-    std::string answer(std::string_view line) {
-        std::string reply(rusboqan_answer(engine.get(), rusboqan_detail::bytes_of(line), line.size()), '\0');
-        if (!reply.empty()) rusboqan_reply(engine.get(), reinterpret_cast<uint8_t *>(reply.data()), reply.size());
-        return reply;
+    std::string answer(std::string_view line) { return std::string(answer_view(line)); }
+
+    // The same where it lies in the engine: it can be read until the next call for this engine, or until its owner ends.
+    std::string_view answer_view(std::string_view line) & {
+        const uint8_t *text = nullptr;
+        const std::size_t length = rusboqan_answer(engine.get(), rusboqan_detail::bytes_of(line), line.size());
+        if (length) rusboqan_text(engine.get(), &text);
+        return {reinterpret_cast<const char *>(text), length};
     }
 };
 

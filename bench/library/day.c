@@ -28,16 +28,8 @@ static struct text whole(const char *name) {
     return text;
 }
 
-/* Makes room for so many bytes. */
-static void make_room(struct text *room, size_t length) {
-    if (length <= room->length) return;
-    room->bytes = realloc(room->bytes, length);
-    if (!room->bytes) stop("out of memory");
-    room->length = length;
-}
-
 /* Answers each line, writes the replies if they are wanted, and gives the number of commands. */
-static size_t answer_all(struct rusboqan *engine, struct text commands, struct text *room, bool writes) {
+static size_t answer_all(struct rusboqan *engine, struct text commands, bool writes) {
     size_t count = 0;
     const uint8_t *line = commands.bytes, *end = commands.bytes + commands.length;
     while (line < end) {
@@ -46,9 +38,9 @@ static size_t answer_all(struct rusboqan *engine, struct text commands, struct t
         if (length && stops[-1] == '\r') length--;
         size_t reply = rusboqan_answer(engine, line, length);
         if (reply) {
-            make_room(room, reply);
-            if (rusboqan_reply(engine, room->bytes, room->length) != reply) stop("a reply changed its length");
-            if (writes) fwrite(room->bytes, 1, reply, stdout);
+            const uint8_t *text = 0;
+            if (rusboqan_text(engine, &text) != reply) stop("a reply changed its length");
+            if (writes) fwrite(text, 1, reply, stdout);
             count++;
         }
         line = feed ? feed + 1 : end;
@@ -60,7 +52,7 @@ int main(int argc, char **argv) {
     /* A reply is one piece: a buffer would copy it once more. */
     setvbuf(stdout, 0, _IONBF, 0);
     if (argc < 3 || argc > 4) stop("day AIRPORT COMMANDS [TIMES]");
-    struct text airport = whole(argv[1]), commands = whole(argv[2]), room = {0, 0};
+    struct text airport = whole(argv[1]), commands = whole(argv[2]);
     long times = argc == 4 ? atol(argv[3]) : 1;
     for (long time = 1; time <= times; time++) {
         struct rusboqan *engine = 0;
@@ -70,12 +62,11 @@ int main(int argc, char **argv) {
             fprintf(stderr, "day: no engine, why %u, record %u\n", why, record);
             return 2;
         }
-        size_t count = answer_all(engine, commands, &room, time == times);
+        size_t count = answer_all(engine, commands, time == times);
         if (time == times) printf("done %zu\n", count);
         rusboqan_close(engine);
     }
     free(airport.bytes);
     free(commands.bytes);
-    free(room.bytes);
     return 0;
 }

@@ -14,7 +14,7 @@ int main(int argc, char **argv) {
     std::size_t count = 0;
     for (std::string line; std::getline(lines, line);) {
         if (!line.empty() && line.back() == '\r') line.pop_back();
-        const std::string reply = engine->answer(line);
+        const std::string_view reply = engine->answer_view(line);
         std::cout << reply;
         count += !reply.empty();
     }

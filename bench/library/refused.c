@@ -19,8 +19,12 @@ static size_t whole(const char *name, uint8_t *bytes, size_t size) {
 
 static size_t ask(struct rusboqan *engine, const uint8_t *line, size_t length) {
     size_t reply = rusboqan_answer(engine, line, length);
+    const uint8_t *text = 0;
     if (reply > sizeof room) abort();
-    if (reply) rusboqan_reply(engine, room, sizeof room);
+    if (!reply) return 0;
+    /* The reply that is copied is the one that is lent. */
+    if (rusboqan_reply(engine, room, sizeof room) != reply) abort();
+    if (rusboqan_text(engine, &text) != reply || memcmp(text, room, reply)) abort();
     return reply;
 }
 

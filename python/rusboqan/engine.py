@@ -11,7 +11,6 @@ from types import TracebackType
 from .reply import Reply
 
 SOUND, REFUSED, TOO_LARGE, MEMORY = range(4)
-ROOM = 1 << 16
 
 
 class AirportRefused(ValueError):
@@ -32,7 +31,7 @@ def library(path: str | None = None) -> ctypes.CDLL:
         ("rusboqan_open", [text, size, ctypes.POINTER(handle)], ctypes.c_bool),
         ("rusboqan_why", [text, size, ctypes.POINTER(ctypes.c_uint32)], ctypes.c_uint8),
         ("rusboqan_answer", [handle, text, size], size),
-        ("rusboqan_reply", [handle, text, size], size),
+        ("rusboqan_text", [handle, ctypes.POINTER(handle)], size),
         ("rusboqan_close", [handle], None),
     ):
         call = getattr(calls, name)
@@ -55,7 +54,7 @@ class Engine:
     def __init__(self, airport: bytes, library_path: str | None = None) -> None:
         self._calls = library(library_path)
         self._handle = ctypes.c_void_p()
-        self._room = ctypes.create_string_buffer(ROOM)
+        self._text = ctypes.c_void_p()
         if not self._calls.rusboqan_open(airport, len(airport), ctypes.byref(self._handle)):
             self._handle = ctypes.c_void_p()
             self._refuse(airport)
@@ -84,12 +83,11 @@ class Engine:
         line = line.removesuffix(b"\n").removesuffix(b"\r")
         if b"\n" in line:
             raise ValueError("one line is answered at a time")
-        length = self._calls.rusboqan_answer(self._handle, line, len(line))
-        if length > len(self._room):
-            self._room = ctypes.create_string_buffer(2 * length)
-        if length:
-            self._calls.rusboqan_reply(self._handle, self._room, len(self._room))
-        return self._room[:length]
+        if not self._calls.rusboqan_answer(self._handle, line, len(line)):
+            return b""
+        # The engine lends its reply until the next call, so the bytes are taken at once.
+        length = self._calls.rusboqan_text(self._handle, ctypes.byref(self._text))
+        return ctypes.string_at(self._text, length)
 
     def close(self) -> None:
         """Gives the memory back. A second call does nothing."""

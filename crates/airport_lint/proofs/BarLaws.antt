@@ -1,6 +1,6 @@
 -- What advice leaves no walk.
-use Rattle.std.proofs.Common.{◌<◌, ◌+◌, ◌&&◌, ℕ, List, [], ◌∷◌, length, get_or, None, IsTrue, inl, inr, sym, subst, arith}
-use Rattle.std.specs.Prelude.{is_some, slice_index_or}
+use Rattle.std.proofs.Common.{◌<◌, ◌+◌, ◌&&◌, ℕ, List, [], ◌∷◌, length, get_or, Bool, Some, None, ◌≡◌, IsTrue, inl, inr, refl, sym, subst, arith}
+use Rattle.std.specs.Prelude.{is_some, slice_get, slice_index_or}
 use Rattle.std.proofs.lemmas.Bool.{both_ways, and_parts, and_from}
 use Rattle.std.proofs.lemmas.List.{length-map}
 use Rattle.std.proofs.lemmas.List.Elements.{Contains-get_or}
@@ -15,7 +15,7 @@ use Rattle.taxi_base.specs.declared.answers.Request.TheVariants.{Arrival, Depart
 use Rattle.taxi_base.specs.Airport.{Airport, NodeRow, layout_of, segment_of, seconds, seconds_in, times_of, is_runway, is_stand}
 use Rattle.taxi_base.specs.Walks.{Conditions, IsFeasibleStep, LeavesNode, LeavesNodeWithin, ReachesNode, ReachesNodeWithin, AtFirst, AtLast, Meets}
 use Rattle.taxi_base.proofs.ListLaws.{list_any-member}
-use Rattle.class_ways.specs.Ways.{is_of, is_open, IsWay, Leads}
+use Rattle.class_ways.specs.Ways.{is_junction, is_of, is_open, IsWay, Leads}
 use Rattle.class_ways.proofs.WayLaws.{open-class, open-seconds}
 use Rattle.class_ways.proofs.WalkLaws.{step-open, walk-leads}
 use Rattle.airport_lint.specs.declared.advice.Advice.{Advice}
@@ -23,20 +23,51 @@ use Rattle.airport_lint.specs.declared.advice.Advice.TheVariants.{ClassNoSeconds
 use Rattle.airport_lint.specs.Advice.{has_seconds, is_shared, IsSo}
 use Rattle.airport_lint.specs.Bars.{BarsArrival, BarsDeparture}
 
--- a runway node is no stand
-pub apart : (airport : Airport) (node : Node) → IsTrue (is_of Runway airport node) → IsTrue (is_of Stand airport node) → ⊥
-apart airport node runway stand = elim (slice_get_cases airport.nodes node.0).1 [
-  | inl there ↦ kinds there.0 (rw there.2 at runway) (rw there.2 at stand)
-  | inr past ↦ (let no = rw past.1 at runway in cc no)
+-- a node is of one kind
+pub one-kind : (airport : Airport) (node : Node) (one other : Kind) → (one ≡ other → ⊥) → IsTrue (is_of one airport node) → IsTrue (is_of other airport node) → ⊥
+one-kind airport node one other differ is also = elim (slice_get_cases airport.nodes node.0).1 [
+  | inl there ↦ kinds there.0 one other differ (by_row there.0 there.2 one is) (by_row there.0 there.2 other also)
+  | inr past ↦ nowhere past.1 one is
 ]
   where
-    kinds : (row : NodeRow) → IsTrue (is_runway row.kind) → IsTrue (is_stand row.kind) → ⊥
-    kinds row runway stand = by_kind row.kind runway stand
+    of_kind : Kind → Kind → Bool
+    of_kind Runway kind = is_runway kind
+    of_kind Junction kind = is_junction kind
+    of_kind Stand kind = is_stand kind
+
+    by_row : (row : NodeRow) → slice_get airport.nodes node.0 ≡ Some row → (kind : Kind) → IsTrue (is_of kind airport node) → IsTrue (of_kind kind row.kind)
+    by_row row at Runway h = rw at at h
+    by_row row at Junction h = rw at at h
+    by_row row at Stand h = rw at at h
+
+    nowhere : slice_get airport.nodes node.0 ≡ None → (kind : Kind) → IsTrue (is_of kind airport node) → ⊥
+    nowhere at Runway h = (let no = rw at at h in cc no)
+    nowhere at Junction h = (let no = rw at at h in cc no)
+    nowhere at Stand h = (let no = rw at at h in cc no)
+
+    kinds : (row : NodeRow) (one other : Kind) → (one ≡ other → ⊥) → IsTrue (of_kind one row.kind) → IsTrue (of_kind other row.kind) → ⊥
+    kinds row one other differ is also = by_kind row.kind one other differ is also
       where
-        by_kind : (kind : Kind) → IsTrue (is_runway kind) → IsTrue (is_stand kind) → ⊥
-        by_kind Runway one other = cc other
-        by_kind Junction one other = cc one
-        by_kind Stand one other = cc one
+        by_kind : (kind one other : Kind) → (one ≡ other → ⊥) → IsTrue (of_kind one kind) → IsTrue (of_kind other kind) → ⊥
+        by_kind Runway Runway Runway differ is also = differ refl
+        by_kind Runway Runway Junction differ is also = cc also
+        by_kind Runway Runway Stand differ is also = cc also
+        by_kind Runway Junction other differ is also = cc is
+        by_kind Runway Stand other differ is also = cc is
+        by_kind Junction Junction Junction differ is also = differ refl
+        by_kind Junction Junction Runway differ is also = cc also
+        by_kind Junction Junction Stand differ is also = cc also
+        by_kind Junction Runway other differ is also = cc is
+        by_kind Junction Stand other differ is also = cc is
+        by_kind Stand Stand Stand differ is also = differ refl
+        by_kind Stand Stand Runway differ is also = cc also
+        by_kind Stand Stand Junction differ is also = cc also
+        by_kind Stand Runway other differ is also = cc is
+        by_kind Stand Junction other differ is also = cc is
+
+-- a runway node is no stand
+pub apart : (airport : Airport) (node : Node) → IsTrue (is_of Runway airport node) → IsTrue (is_of Stand airport node) → ⊥
+apart airport node runway stand = one-kind airport node Runway Stand (λ e. cc) runway stand
 
 -- a class that may take some arc has seconds
 open-has : (airport : Airport) (class : Class) (way : List _) → IsWay airport class way → IsTrue (has_seconds airport class)
@@ -77,11 +108,11 @@ module _ (airport : Airport) (class : Class) (from to : Node) (leads : Leads air
   bars-departure (SameSet set first) stand runway so is = is
   bars-departure (NeedlessSet set) stand runway so is = is
 
-first-at : (P Q : Step → Type 0) (steps : List Step) → ((s : Step) → P s → Q s) → AtFirst P steps → AtFirst Q steps
+pub first-at : (P Q : Step → Type 0) (steps : List Step) → ((s : Step) → P s → Q s) → AtFirst P steps → AtFirst Q steps
 first-at P Q [] to at = at
 first-at P Q (s ∷ steps) to at = to s at
 
-last-at : (P Q : Step → Type 0) (steps : List Step) → ((s : Step) → P s → Q s) → AtLast P steps → AtLast Q steps
+pub last-at : (P Q : Step → Type 0) (steps : List Step) → ((s : Step) → P s → Q s) → AtLast P steps → AtLast Q steps
 last-at P Q [] to at = at
 last-at P Q (s ∷ []) to at = to s at
 last-at P Q (s ∷ t ∷ steps) to at = last-at P Q (t ∷ steps) to at

@@ -2,6 +2,7 @@ pub mod TellLaws
 pub mod ReachLaws
 pub mod SetLaws
 pub mod BarLaws
+pub mod PassedLaws
 pub mod LoopLaws
 pub mod JudgeLaws
 pub mod TextLaws

@@ -1,5 +1,5 @@
 -- What is odd about an airport?
-use Rattle.std.specs.Prelude.{ℕ, zero, suc, ◌≡◌, ◌⊎◌, ◌+◌, ◌&&◌, nat_lt, Bool, true, IsTrue, IsFalse, List, [], ◌∷◌, ◌++◌, length, flat_map, Some, None, is_some, slice_index_or}
+use Rattle.std.specs.Prelude.{ℕ, zero, suc, ◌≡◌, ◌⊎◌, ◌+◌, ◌&&◌, nat_lt, Bool, true, IsTrue, IsFalse, List, [], ◌∷◌, ◌++◌, length, filter, flat_map, Some, None, is_some, slice_index_or}
 use Rattle.std.specs.List.{list_any}
 use Rattle.taxi_base.specs.declared.numbers.Node.{Node}
 use Rattle.taxi_base.specs.declared.numbers.Segment.{Segment}
@@ -62,6 +62,10 @@ IsSo airport (DeadEnd arc) = IsDeadEnd airport arc
 IsSo airport (IdleTurn x y) = IsFalse (is_shared airport (segment_of x) (segment_of y))
 IsSo airport (SameSet set first) = IsTrue (nat_lt first set)
 IsSo airport (NeedlessSet set) = (first_like airport.conflicts set ≡ set) × IsFalse (slice_index_or (needed_marks [] airport.conflicts) set true)
+
+-- the airport without the forbidden turns that are idle
+abbrev pub without_idle : Airport → Airport
+without_idle airport = record airport { forbidden = filter (λ turn. is_shared airport (segment_of turn.0) (segment_of turn.1)) airport.forbidden }
 
 -- ---- the order
 

@@ -1,6 +1,6 @@
 -- How the block of a late flight is judged, from what was found out about its form and its entries.
-use Rattle.std.proofs.Common.{◌≡◌, ◌∙◌, ℕ, List, [], ◌∷◌, All, Some, None, refl, sym, ap, subst}
-use Rattle.std.specs.Prelude.{flat_map, option_and_then, Ok, Err}
+use Rattle.std.proofs.Common.{◌≡◌, ◌∙◌, ℕ, true, false, List, [], ◌∷◌, All, Some, None, refl, sym, ap, subst}
+use Rattle.std.specs.Prelude.{flat_map, option_and_then, Result, Ok, Err, OnOk, is_err}
 use Rattle.taxi_base.specs.Airport.{Airport}
 use Rattle.taxi_base.specs.State.{State}
 use Rattle.taxi_base.specs.Late.{Delay, base_state}
@@ -20,7 +20,7 @@ use Rattle.transcripts.specs.declared.refused.CheckRefused.{CheckRefused}
 use Rattle.transcripts.specs.declared.refused.CheckRefused.TheVariants.{Wrong, Memory}
 use Rattle.certificate_check.specs.Judged.{IsDueForm, KeepsFor, BreaksFor, IsJudged}
 use Rattle.certificate_check.specs.Entries.{tellings_by, AreChecked}
-use Rattle.certificate_check.specs.Late.{TellInTurn, turns_late}
+use Rattle.certificate_check.specs.Late.{TellInTurn, turns_late, IsRepairJudged}
 use Rattle.certificate_check.proofs.EntryTurns.{form-unbroken}
 
 module _ (airport : Airport) (state : State) (name : List ℕ) (time until : ℕ) (none : first_refusal airport state (command.Late name time until) ≡ None) where
@@ -90,12 +90,28 @@ module _ (airport : Airport) (state : State) (name : List ℕ) (time until : ℕ
         go rule.Step breaks first = (due, first)
         go rule.Target breaks first = (due, first)
 
-      pub passed-judged : (after : State) → AreChecked turns (Ok tt) → after ≡ after_turns base turns → IsJudged airport late told state (Ok tt) after
+      passed-judged : (after : State) → AreChecked turns (Ok tt) → after ≡ after_turns base turns → IsJudged airport late told state (Ok tt) after
       passed-judged after checked left = (
         keeps checked,
         left ∙ (λ i. after_turns (sym begins-same i) (sym turns-same i)),
       )
 
-      pub broken-judged : (why : CheckRefused) → AreChecked turns (Err why) → IsJudged airport late told state (Err why) state
-      broken-judged (Wrong r) checked = (broken r checked, refl)
-      broken-judged Memory checked = refl
+      pub turns-judged : (after : State) (result : Result Unit CheckRefused) → AreChecked turns result → OnOk result (after ≡ after_turns base turns) → IsRepairJudged airport state late told result after
+      turns-judged after (Ok done) checked left = passed-judged after checked left
+      turns-judged after (Err (Wrong r)) checked left = (broken r checked, refl)
+      turns-judged after (Err Memory) checked left = refl
+
+-- where a repair is not passed the state before it is put back, and else it is the state that it leaves
+module _ (airport : Airport) (before : State) (asked : Command) (block : Block) (after : State) where
+  pub put-back : (result : Result Unit CheckRefused) → is_err result ≡ true → IsRepairJudged airport before asked block result after → IsJudged airport asked block before result before
+  put-back (Ok done) err judged = absurd (cc err)
+  put-back (Err why) err judged = judged
+
+  pub gone-through : (result : Result Unit CheckRefused) → is_err result ≡ false → IsRepairJudged airport before asked block result after → IsJudged airport asked block before result after
+  gone-through (Ok done) none judged = judged
+  gone-through (Err why) none judged = absurd (cc none)
+
+-- what a call did that is done
+pub still-done : {A E : Type 0} (r : Result A E) (P : Type 0) → is_err r ≡ false → OnOk r P → P
+still-done (Ok x) P none did = did
+still-done (Err e) P none did = absurd (cc none)

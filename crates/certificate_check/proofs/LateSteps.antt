@@ -1,14 +1,14 @@
 -- The steps that a flight keeps, and what holds of them.
-use Rattle.std.proofs.Common.{◌≡◌, ◌∙◌, ℕ, ◌≤◌, ◌<◌, cond, List, [], ◌∷◌, ◌++◌, length, Option, Some, None, IsTrue, IsFalse, inl, inr, refl, sym, ap, subst, arith}
-use Rattle.std.specs.Prelude.{All, Contains, Result, Ok, Err, IfOk}
-use Rattle.std.proofs.lemmas.Bool.{cases_Bool, or_left, or_right, or_from}
+use Rattle.std.proofs.Common.{◌≡◌, ℕ, ◌≤◌, List, [], ◌∷◌, ◌++◌, Option, Some, None, IsTrue, inl, inr, refl, sym, subst}
+use Rattle.std.specs.Prelude.{All, Contains}
+use Rattle.std.proofs.lemmas.Bool.{cases_Bool}
 use Rattle.std.proofs.lemmas.List.Elements.{All-nil, All-push, All-contains, All-weaker, All-contains_itself, Contains-append_left, Contains-append_right}
 use Rattle.taxi_base.specs.declared.rows.Step.{Step}
 use Rattle.taxi_base.specs.declared.answers.Flight.{Flight}
 use Rattle.taxi_base.specs.Airport.{Airport, layout_of, arc_exists}
 use Rattle.taxi_base.specs.Walks.{Conditions}
 use Rattle.taxi_base.specs.State.{State, flight_named, step_begun, steps_done, conditions_of, IsSound}
-use Rattle.taxi_base.specs.Late.{Delay, is_late, flight_meets, steps_kept, on_steps, flight_at_once}
+use Rattle.taxi_base.specs.Late.{Delay, is_late, steps_kept}
 use Rattle.taxi_base.proofs.AgainLaws.{begun-parts}
 use Rattle.taxi_base.proofs.ListLaws.{Contains-first}
 use Rattle.taxi_base.proofs.WalkLaws.{IsFeasibleWalk-steps}
@@ -85,25 +85,3 @@ delay-arc airport state sound name time until delay is = go (flight_named name s
         let same : begun ≡ delay.begun = cc (rw (found, there) at is) in
         subst (λ (s : Step). IsTrue (arc_exists (layout_of airport) s.arc)) same
         (All-contains (λ (s : Step). IsTrue (arc_exists (layout_of airport) s.arc)) f.steps begun (flight-arcs airport state sound name f found) (begun-there time f.steps begun there))
-
--- ---- what a flight is on at once
-
-module _ (airport : Airport) (delay : Delay) (x : Flight) (steps : List Step) where
-  pub at_once-late : IsTrue (is_late delay x) → steps ≡ steps_kept airport delay x → on_steps x steps ≡ flight_at_once airport delay x
-  at_once-late late is = ap (on_steps x) is ∙ sym (ap (λ b. cond b (on_steps x (steps_kept airport delay x)) (x ∷ [])) (or_left (is_late delay x) (flight_meets airport delay x) late))
-
-  pub at_once-met : IsFalse (is_late delay x) → IsTrue (flight_meets airport delay x) → steps ≡ steps_kept airport delay x → on_steps x steps ≡ flight_at_once airport delay x
-  at_once-met other meets is = ap (on_steps x) is ∙ sym (ap (λ b. cond b (on_steps x (steps_kept airport delay x)) (x ∷ [])) (or_right (is_late delay x) (flight_meets airport delay x) meets))
-
-  pub at_once-away : IsFalse (is_late delay x) → IsFalse (flight_meets airport delay x) → 0 < length x.steps → steps ≡ x.steps → on_steps x steps ≡ flight_at_once airport delay x
-  at_once-away other away some is =
-      ap (on_steps x) is ∙ own x.steps some ∙ sym (ap (λ b. cond b (on_steps x (steps_kept airport delay x)) (x ∷ [])) (or_from (is_late delay x) (flight_meets airport delay x) other away))
-    where
-      own : (ss : List Step) → 0 < length ss → on_steps x ss ≡ record x { steps = ss } ∷ []
-      own [] some = absurd (omega (arith, some))
-      own (s ∷ ss) some = refl
-
--- what follows of a value that is there
-pub if-ok : {A E : Type 0} (r : Result A E) (P Q : A → Type 0) → IfOk r P → ((x : A) → P x → Q x) → IfOk r Q
-if-ok (Ok x) P Q is follows = follows x is
-if-ok (Err e) P Q is follows = tt

@@ -21,9 +21,7 @@ use Rattle.transcripts.specs.declared.refused.CheckRefused.TheVariants.{Wrong, M
 use Rattle.certificate_check.specs.declared.late_form.LateFlight.{LateFlight}
 use Rattle.certificate_check.specs.declared.late_order.Met.{Met}
 use Rattle.certificate_check.specs.declared.late_turn.AtTurn.{AtTurn}
-use Rattle.certificate_check.specs.declared.late.Repaired.{Repaired}
 use Rattle.taxi_text.specs.declared.command.Command.{Command}
-use Rattle.checked_state.specs.Flights.{state_of}
 use Rattle.certificate_check.specs.Judged.{IsJudged}
 use Rattle.certificate_check.specs.Entries.{turns_by}
 
@@ -146,7 +144,7 @@ turns_late airport before delay state entries = turns_by (sought_at_turn airport
 abbrev pub AreAlone : State → List Party → Type 0
 AreAlone before parties = All (λ f. party_named f.name parties ≡ None) before.flights
 
--- a block is judged on a state of its own, and that is the state where it passes
-abbrev pub IsRepairJudged : Airport → State → Command → Block → Result Repaired CheckRefused → Type 0
-IsRepairJudged airport before command block (Ok repaired) = IsJudged airport command block before (Ok tt) (state_of repaired.held)
-IsRepairJudged airport before command block (Err why) = IsJudged airport command block before (Err why) before
+-- a block is judged by the state before the line, and this is the state afterwards where it passes; else that before is to be put back
+abbrev pub IsRepairJudged : Airport → State → Command → Block → Result Unit CheckRefused → State → Type 0
+IsRepairJudged airport before command block (Ok done) after = IsJudged airport command block before (Ok tt) after
+IsRepairJudged airport before command block (Err why) after = IsJudged airport command block before (Err why) before

@@ -1,5 +1,5 @@
 //! Lines that tell that a flight is late.
-ghost use Rattle.std.specs.Prelude.{◌≡◌, None, All, IfOk};
+ghost use Rattle.std.specs.Prelude.{◌≡◌, None, All, OnOk};
 ghost use Rattle.taxi_base.specs.State.{IsSound};
 ghost use Rattle.taxi_text.specs.declared.command.Command.TheVariants as command;
 ghost use Rattle.certificate.specs.Refusals.{first_refusal};
@@ -9,7 +9,7 @@ ghost use Rattle.certificate_check.specs.Judged.{IsJudged};
 ghost use Rattle.certificate_check.specs.Late.{IsRepairJudged};
 
 use crate::CheckRefused;
-use crate::late_base::base_of;
+use crate::late_base::give_way;
 use crate::late_form::told_in_turn;
 use crate::late_turns::check_turns;
 use crate::reply::{is_refusal, pass_if};
@@ -21,14 +21,8 @@ use due_refusals::late_refused;
 use std::alloc::Global;
 use taxi_base::{Name, Time};
 
-/// The holders in force after a late repair, and the windows that are known among them.
-#[derive(Drop)]
-pub struct Repaired {
-    held: HeldFlights,
-    known: KnownWindows,
-}
-
-/// Checks the block of a late flight. Where it passes, what is told of each flight is in force afterwards.
+/// Checks the block of a late flight. Where it passes, what is told of each flight is in force afterwards. Else a copy that was made
+/// before takes the place of the holders: to put back those that gave way could want memory.
 pub fn check_late(
     alloc: Global,
     airport: &Airport,
@@ -46,37 +40,43 @@ pub fn check_late(
     if let Some(why) = late_refused(airport, held, name, time, until) {
         return pass_if(is_refusal(&block, &why));
     }
-    let repaired = check_repair(alloc, airport, held, name, time, until, block)?;
-    *held = repaired.held;
-    *known = repaired.known;
-    Ok(())
+    let before = held.copy()?;
+    let unknown = KnownWindows::new(alloc, airport)?;
+    let checked = check_repair(
+        alloc, airport, &before, held, known, name, time, until, block,
+    );
+    if checked.is_err() {
+        *held = before;
+        *known = unknown;
+        return checked;
+    }
+    checked
 }
 
-// Checks what is told of a late flight and of those in its way, on a state of its own, which is handed out where it passes. The
-// holders before the line stay as they are: to put them back could want memory.
+// Checks what is told of a late flight and of those in its way, as it was before the line. Where it passes it is in force afterwards.
 fn check_repair(
     alloc: Global,
     airport: &Airport,
     before: &HeldFlights,
+    held: &mut HeldFlights,
+    known: &mut KnownWindows,
     name: &Name,
     time: Time,
     until: Time,
     block: Block,
-) -> Result<Repaired, CheckRefused>
+) -> Result<(), CheckRefused>
     requires sound { IsSound airport.now (state_of before.now) }
     requires can_go_on { All (λ f. CanGoOn airport.now f.request) (state_of before.now).flights }
     requires unrefused { first_refusal airport.now (state_of before.now) (command.Late name.now time until) ≡ None }
-    ensures judged { IsRepairJudged airport.now (state_of before.now) (command.Late name.now time until) block result }
-    ensures tidy { IfOk result (λ repaired. IsTidy airport.now repaired.held repaired.known) }
+    requires same { state_of held.old ≡ state_of before.now }
+    requires tidy { IsTidy airport.now held.old known.old }
+    ensures judged { IsRepairJudged airport.now (state_of before.now) (command.Late name.now time until) block result (state_of held.new) }
+    ensures tidy { OnOk result (IsTidy airport.now held.new known.new) }
 {
     let Some(told) = told_in_turn(airport, before, name, time, until, block) else {
         return Err(CheckRefused::Wrong { rule: Rule::Reply });
     };
-    let mut held = base_of(alloc, airport, before, &told.late)?;
-    let mut known = KnownWindows::new(alloc, airport)?;
+    give_way(alloc, airport, before, &told.late, held, known)?;
     let entries = told.entries.into_vec();
-    check_turns(
-        alloc, airport, before, &told.late, &mut held, &mut known, entries,
-    )?;
-    Ok(Repaired { held, known })
+    check_turns(alloc, airport, before, &told.late, held, known, entries)
 }

@@ -1,112 +1,156 @@
 //! What is in force at once where a flight is late: those in its way give way, as far as they have begun or at all.
-ghost use Rattle.std.specs.Prelude.{◌≡◌, ◌+◌, ◌<◌, ◌≤◌, [], if◌then◌else◌, not, filter, flat_map, All, AllPairs, IfOk, OnOk, IsTrue, IsSomeAnd, None, length};
+ghost use Rattle.std.specs.Prelude.{◌≡◌, ◌+◌, ◌<◌, ◌≤◌, ◌||◌, if◌then◌else◌, not, filter, flat_map, All, IfOk, OnOk, IsTrue, IsSomeAnd, Some, None, length};
 ghost use Rattle.taxi_base.specs.Airport.{layout_of, arc_exists, segment_of, seconds};
-ghost use Rattle.taxi_base.specs.State.{no_holder, name_precedes, flight_named, party_named, with_party, IsSound};
-ghost use Rattle.taxi_base.specs.Late.{soonest_leave, steps_kept, party_meets, on_steps, flight_at_once, base_state};
-ghost use Rattle.checked_state.specs.Flights.{flights_of, state_of, HasSpansOf};
+ghost use Rattle.taxi_base.specs.State.{party_named, parties_without, without, IsSound};
+ghost use Rattle.taxi_base.specs.Late.{soonest_leave, steps_kept, is_late, flight_meets, party_meets, on_steps, flight_at_once, base_state};
+ghost use Rattle.checked_state.specs.Flights.{flights_of, state_of};
+ghost use Rattle.certificate_check.specs.Desk.{CanGoOn, IsTidy};
 ghost use Rattle.certificate_check.specs.Late.{delay_in, IsOnSteps, leave_kept, with_flights};
 
 use crate::late_form::LateFlight;
+use crate::late_moves::{put_in, take_out};
 use crate::late_way::{flight_meets, is_late, party_meets};
 use airport_file::Airport;
-use checked_state::{FlightList, HeldFlights};
+use check_rows::KnownWindows;
+use checked_state::{FlightList, HeldFlights, copy_steps};
 use std::alloc::Global;
 use taxi_base::{Class, Flight, List, Memory, Party, Step, Time, under_way};
 
-/// The state that the turns begin in.
-pub fn base_of(
+/// Lets those in the way of a late flight give way. Work parties are out, and flights keep the steps that they have entered, as the
+/// late flight does. It is the state that the turns begin in.
+pub fn give_way(
     alloc: Global,
     airport: &Airport,
     before: &HeldFlights,
     late: &LateFlight<'_>,
-) -> Result<HeldFlights, Memory>
+    held: &mut HeldFlights,
+    known: &mut KnownWindows,
+) -> Result<(), Memory>
     requires sound { IsSound airport.now (state_of before.now) }
+    requires can_go_on { All (λ f. CanGoOn airport.now f.request) (state_of before.now).flights }
     requires arc { IsTrue (arc_exists (layout_of airport.now) late.now.begun.arc) }
-    ensures state { IfOk result (λ held. state_of held ≡ base_state airport.now (state_of before.now) (delay_in late.now)) }
-    ensures spans { IfOk result (λ held. HasSpansOf airport.now (state_of held) held) }
+    requires same { state_of held.old ≡ state_of before.now }
+    requires tidy { IsTidy airport.now held.old known.old }
+    ensures state { OnOk result (state_of held.new ≡ base_state airport.now (state_of before.now) (delay_in late.now)) }
+    ensures tidy { OnOk result (IsTidy airport.now held.new known.new) }
 {
-    let mut held = HeldFlights::new(alloc, airport)?;
-    shut_for_others(airport, before.parties(), late, &mut held)?;
-    put_at_once(alloc, airport, before.flights(), late, &mut held)?;
-    Ok(held)
+    open_those_met(airport, before.parties(), late, held, known);
+    cut_those_met(alloc, airport, before.flights(), late, held, known)
 }
 
-// Puts the parties in force that are not in the way.
-fn shut_for_others(
+// Takes out the parties that are in the way.
+fn open_those_met(
     airport: &Airport,
     parties: &[Party],
     late: &LateFlight<'_>,
     held: &mut HeldFlights,
-) -> Result<(), Memory>
-    requires ordered { AllPairs (λ p q. IsTrue (name_precedes p.name q.name)) parties.now }
+    known: &mut KnownWindows,
+)
     requires on { All (λ p. p.segment.0 < length airport.now.segments) parties.now }
     requires arc { IsTrue (arc_exists (layout_of airport.now) late.now.begun.arc) }
-    requires none { state_of held.old ≡ no_holder }
-    requires spans { HasSpansOf airport.now (state_of held.old) held.old }
-    ensures state { OnOk result (state_of held.new ≡ record { flights = []; parties = filter (λ p. not (party_meets airport.now (delay_in late.now) p)) parties.now }) }
-    ensures spans { HasSpansOf airport.now (state_of held.new) held.new }
+    requires same { (state_of held.old).parties ≡ parties.now }
+    requires tidy { IsTidy airport.now held.old known.old }
+    ensures state { state_of held.new ≡ record { flights = (state_of held.old).flights; parties = filter (λ p. not (party_meets airport.now (delay_in late.now) p)) parties.now } }
+    ensures tidy { IsTidy airport.now held.new known.new }
 {
     for party in parties {
-        shut_unless_met(airport, late, party, held)?;
+        open_if_met(airport, late, party, held, known);
     }
-    Ok(())
 }
 
-fn shut_unless_met(
+fn open_if_met(
     airport: &Airport,
     late: &LateFlight<'_>,
     party: &Party,
     held: &mut HeldFlights,
-) -> Result<(), Memory>
-    requires arc { IsTrue (arc_exists (layout_of airport.now) late.now.begun.arc) }
-    requires absent { party_named party.now.name (state_of held.old).parties ≡ None }
+    known: &mut KnownWindows,
+)
     requires on { party.now.segment.0 < length airport.now.segments }
-    requires spans { HasSpansOf airport.now (state_of held.old) held.old }
-    ensures state { OnOk result (state_of held.new ≡ (if party_meets airport.now (delay_in late.now) party.now then state_of held.old else with_party party.now (state_of held.old))) }
-    ensures spans { HasSpansOf airport.now (state_of held.new) held.new }
+    requires arc { IsTrue (arc_exists (layout_of airport.now) late.now.begun.arc) }
+    requires at_work { party_named party.now.name (state_of held.old).parties ≡ Some party.now }
+    requires tidy { IsTidy airport.now held.old known.old }
+    ensures state { state_of held.new ≡ (if party_meets airport.now (delay_in late.now) party.now then record (state_of held.old) { parties = parties_without party.now.name (state_of held.old).parties } else state_of held.old) }
+    ensures tidy { IsTidy airport.now held.new known.new }
 {
-    if party_meets(airport, late, party) {
-        return Ok(());
+    if !party_meets(airport, late, party) {
+        return;
     }
-    held.shut(*party)
+    known.forget_segment(airport, party.segment);
+    held.open(&party.name);
 }
 
-// Puts the flights in force, each on the steps that it is on at once.
-fn put_at_once(
+// Leaves the late flight, and those that are in its way, the steps that they keep.
+fn cut_those_met(
     alloc: Global,
     airport: &Airport,
     flights: &FlightList,
     late: &LateFlight<'_>,
     held: &mut HeldFlights,
+    known: &mut KnownWindows,
 ) -> Result<(), Memory>
     requires steps { All (IsOnSteps airport.now) (flights_of flights.now) }
+    requires can_go_on { All (λ f. CanGoOn airport.now f.request) (flights_of flights.now) }
+    requires alone { All (λ f. party_named f.name (state_of held.old).parties ≡ None) (flights_of flights.now) }
     requires arc { IsTrue (arc_exists (layout_of airport.now) late.now.begun.arc) }
-    requires none { (state_of held.old).flights ≡ [] }
-    requires spans { HasSpansOf airport.now (state_of held.old) held.old }
+    requires same { (state_of held.old).flights ≡ flights_of flights.now }
+    requires tidy { IsTidy airport.now held.old known.old }
     ensures state { OnOk result (state_of held.new ≡ record { flights = flat_map (flight_at_once airport.now (delay_in late.now)) (flights_of flights.now); parties = (state_of held.old).parties }) }
-    ensures spans { HasSpansOf airport.now (state_of held.new) held.new }
+    ensures tidy { OnOk result (IsTidy airport.now held.new known.new) }
 {
     for at in 0..flights.len() {
-        put_one(alloc, airport, late, flights.at(at), held)?;
+        cut_if_met(alloc, airport, late, flights.at(at), held, known)?;
     }
     Ok(())
 }
 
-fn put_one(
+fn cut_if_met(
     alloc: Global,
     airport: &Airport,
     late: &LateFlight<'_>,
     flight: &Flight,
     held: &mut HeldFlights,
+    known: &mut KnownWindows,
 ) -> Result<(), Memory>
-    requires arc { IsTrue (arc_exists (layout_of airport.now) late.now.begun.arc) }
     requires steps { IsOnSteps airport.now flight.now }
-    requires absent { flight_named flight.now.name (state_of held.old).flights ≡ None }
-    requires spans { HasSpansOf airport.now (state_of held.old) held.old }
-    ensures state { OnOk result (state_of held.new ≡ with_flights (flight_at_once airport.now (delay_in late.now) flight.now) (state_of held.old)) }
-    ensures spans { HasSpansOf airport.now (state_of held.new) held.new }
+    requires goes_on { CanGoOn airport.now flight.now.request }
+    requires alone { party_named flight.now.name (state_of held.old).parties ≡ None }
+    requires arc { IsTrue (arc_exists (layout_of airport.now) late.now.begun.arc) }
+    requires tidy { IsTidy airport.now held.old known.old }
+    ensures state { OnOk result (state_of held.new ≡ (if is_late (delay_in late.now) flight.now || flight_meets airport.now (delay_in late.now) flight.now then with_flights (on_steps flight.now (steps_kept airport.now (delay_in late.now) flight.now)) (without flight.now.name (state_of held.old)) else state_of held.old)) }
+    ensures tidy { OnOk result (IsTidy airport.now held.new known.new) }
 {
-    let steps = steps_at_once(alloc, airport, late, flight)?;
+    if is_moved(airport, late, flight) {
+        return cut(alloc, airport, late, flight, held, known);
+    }
+    Ok(())
+}
+
+// Whether a flight is late or in the way.
+fn is_moved(airport: &Airport, late: &LateFlight<'_>, flight: &Flight) -> bool
+    requires { IsTrue (arc_exists (layout_of airport.now) late.now.begun.arc) }
+    ensures { result ≡ (is_late (delay_in late.now) flight.now || flight_meets airport.now (delay_in late.now) flight.now) }
+{
+    is_late(late, flight) || flight_meets(airport, late, flight)
+}
+
+// Puts a flight on the steps that it keeps. Where it keeps none it is out.
+fn cut(
+    alloc: Global,
+    airport: &Airport,
+    late: &LateFlight<'_>,
+    flight: &Flight,
+    held: &mut HeldFlights,
+    known: &mut KnownWindows,
+) -> Result<(), Memory>
+    requires steps { IsOnSteps airport.now flight.now }
+    requires goes_on { CanGoOn airport.now flight.now.request }
+    requires alone { party_named flight.now.name (state_of held.old).parties ≡ None }
+    requires tidy { IsTidy airport.now held.old known.old }
+    ensures state { OnOk result (state_of held.new ≡ with_flights (on_steps flight.now (steps_kept airport.now (delay_in late.now) flight.now)) (without flight.now.name (state_of held.old))) }
+    ensures tidy { OnOk result (IsTidy airport.now held.new known.new) }
+{
+    let steps = steps_kept(alloc, airport, late, flight)?;
+    take_out(airport, held, known, &flight.name);
     if steps.as_slice().is_empty() {
         return Ok(());
     }
@@ -116,28 +160,7 @@ fn put_one(
         request: flight.request,
         steps,
     };
-    held.put_in(airport, at_once)
-}
-
-// The steps that a flight is on at once; none where it is out.
-fn steps_at_once(
-    alloc: Global,
-    airport: &Airport,
-    late: &LateFlight<'_>,
-    flight: &Flight,
-) -> Result<List<Step>, Memory>
-    requires arc { IsTrue (arc_exists (layout_of airport.now) late.now.begun.arc) }
-    requires steps { IsOnSteps airport.now flight.now }
-    ensures steps { IfOk result (λ steps. on_steps flight.now steps ≡ flight_at_once airport.now (delay_in late.now) flight.now) }
-    ensures arcs { IfOk result (All (λ step. IsTrue (arc_exists (layout_of airport.now) step.arc))) }
-{
-    if is_late(late, flight) {
-        return steps_kept(alloc, airport, late, flight);
-    }
-    if flight_meets(airport, late, flight) {
-        return steps_kept(alloc, airport, late, flight);
-    }
-    copied(alloc, flight.steps.as_slice())
+    put_in(airport, held, known, at_once)
 }
 
 /// The steps that a flight has entered by the time, with another leave of the last. The late flight stays on its last, and
@@ -159,7 +182,7 @@ pub fn steps_kept(
         enter: begun.enter,
         leave: leave_kept(airport, late, flight, *begun),
     };
-    let mut kept = copied(alloc, done)?;
+    let mut kept = copy_steps(alloc, done)?;
     kept.push(last)?;
     Ok(kept)
 }
@@ -186,14 +209,4 @@ fn soonest_leave(airport: &Airport, class: Class, time: Time, begun: Step) -> Ti
         .seconds(class, begun.arc.segment())
         .unwrap_or(0);
     time.max(begun.enter + least)
-}
-
-fn copied(alloc: Global, steps: &[Step]) -> Result<List<Step>, Memory>
-    ensures { IfOk result (λ copied. copied ≡ steps.now) }
-{
-    let mut copied = List::with_capacity(alloc, steps.len())?;
-    for step in steps {
-        copied.push(*step)?;
-    }
-    Ok(copied)
 }

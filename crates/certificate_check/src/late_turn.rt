@@ -2,7 +2,7 @@
 ghost use Rattle.std.specs.Prelude.{◌≡◌, ◌≤◌, [], All, IfOk, OnOk, IsSome, IsTrue, Some, None, length};
 ghost use Rattle.taxi_base.specs.declared.answers.Flight.{Flight as AnyFlight};
 ghost use Rattle.taxi_base.specs.Airport.{layout_of, arc_exists};
-ghost use Rattle.taxi_base.specs.State.{State, flight_named, party_named, with_flight, without, IsSound};
+ghost use Rattle.taxi_base.specs.State.{State, flight_named, party_named, without, IsSound};
 ghost use Rattle.taxi_base.specs.Late.{request_sought, time_sought, request_routed, after_turn};
 ghost use Rattle.taxi_base.specs.declared.answers.Found.TheVariants as found;
 ghost use Rattle.certificate.specs.declared.block.Block.TheVariants.{Route, NoRoute};
@@ -16,6 +16,7 @@ ghost use Rattle.certificate_check.specs.Late.{delay_in, turn_in, flight_in, sou
 use crate::CheckRefused;
 use crate::late_base::steps_kept;
 use crate::late_form::LateFlight;
+use crate::late_moves::{put_in, take_out};
 use crate::late_way::is_late;
 use crate::reply::pass_unless;
 use airport_file::Airport;
@@ -210,38 +211,4 @@ fn request_routed(request: Request, kept: &[Step]) -> Request
         Request::Departure { .. } if !kept.is_empty() => Request::Filed,
         _ => request,
     }
-}
-
-// Takes the flight of a name out of force, if there is one, and forgets the windows beside it.
-fn take_out(airport: &Airport, held: &mut HeldFlights, known: &mut KnownWindows, name: &Name)
-    requires alone { party_named name.now (state_of held.old).parties ≡ None }
-    requires tidy { IsTidy airport.now held.old known.old }
-    ensures state { state_of held.new ≡ without name.now (state_of held.old) }
-    ensures parties { (state_of held.new).parties ≡ (state_of held.old).parties }
-    ensures tidy { IsTidy airport.now held.new known.new }
-{
-    if held.flight(name).is_none() {
-        return;
-    }
-    let gone = held.take_out(airport, name);
-    known.forget(airport, gone.steps.as_slice());
-}
-
-// Puts a flight in force, and cuts what it holds out of the windows that are known.
-fn put_in(
-    airport: &Airport,
-    held: &mut HeldFlights,
-    known: &mut KnownWindows,
-    flight: Flight,
-) -> Result<(), Memory>
-    requires arcs { All (λ step. IsTrue (arc_exists (layout_of airport.now) step.arc)) flight.steps }
-    requires goes_on { CanGoOn airport.now flight.request }
-    requires absent { flight_named flight.name (state_of held.old).flights ≡ None }
-    requires tidy { IsTidy airport.now held.old known.old }
-    ensures state { OnOk result (state_of held.new ≡ with_flight flight (state_of held.old)) }
-    ensures tidy { OnOk result (IsTidy airport.now held.new known.new) }
-{
-    let clearance = airport.clearance(flight.class);
-    known.cut(airport, clearance, flight.steps.as_slice());
-    held.put_in(airport, flight)
 }

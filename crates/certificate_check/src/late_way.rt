@@ -101,10 +101,14 @@ fn common_second(
 {
     let from = span.from.max(held.from);
     let until = span.until.min(held.until);
-    if !airport.conflicts().conflict(segment, other) {
+    if until <= from {
         return None;
     }
-    if from < until { Some(from) } else { None }
+    if airport.conflicts().conflict(segment, other) {
+        Some(from)
+    } else {
+        None
+    }
 }
 
 // Of two seconds the sooner one.

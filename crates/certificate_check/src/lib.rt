@@ -12,6 +12,7 @@ mod filing;
 mod late;
 mod late_base;
 mod late_form;
+mod late_moves;
 mod late_order;
 mod late_turn;
 mod late_turns;

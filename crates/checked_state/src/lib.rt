@@ -2,10 +2,12 @@
 //! segments are held.
 #![tactic(auto)]
 
+mod copies;
 mod flights;
 mod list;
 mod parties;
 mod party_list;
 
+pub use copies::copy_steps;
 pub use flights::HeldFlights;
 pub use list::FlightList;

@@ -2,6 +2,7 @@
 ghost use Rattle.std.specs.Prelude.{map};
 ghost use Rattle.checked_state.specs.Order.{AreInOrder};
 
+use crate::copies::copy_boxes;
 use std::alloc::Global;
 use taxi_base::{Flight, List, Memory, Name, Request, Step};
 
@@ -13,7 +14,7 @@ pub struct FlightList {
 }
 
 impl FlightList {
-    ghost use Rattle.std.specs.Prelude.{◌≡◌, ◌<◌, ◌^◌, [], Err, OnOk, OnErr, length, slice_index_or, slice_set};
+    ghost use Rattle.std.specs.Prelude.{◌≡◌, ◌<◌, ◌^◌, [], Err, IfOk, OnOk, OnErr, length, slice_index_or, slice_set};
     ghost use Rattle.std.specs.List.{insert, remove};
     ghost use Rattle.taxi_base.specs.declared.answers.Flight.{Flight};
     ghost use Rattle.checked_state.specs.Order.{IsPlace};
@@ -26,6 +27,15 @@ impl FlightList {
         FlightList {
             boxes: Vec::new(alloc),
         }
+    }
+
+    /// The same flights once more.
+    pub(crate) fn copy(&self) -> Result<FlightList, Memory>
+        ensures { IfOk result (λ copy. flights_of copy ≡ flights_of self.now) }
+    {
+        let alloc = *self.boxes.allocator();
+        let boxes = copy_boxes(alloc, &self.boxes)?;
+        Ok(FlightList { boxes })
     }
 
     /// How many flights there are.

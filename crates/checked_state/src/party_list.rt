@@ -12,7 +12,7 @@ pub(crate) struct PartyList {
 }
 
 impl PartyList {
-    ghost use Rattle.std.specs.Prelude.{◌≡◌, ◌<◌, [], Err, OnOk, length, slice_index_or, vec_len, vec_capacity};
+    ghost use Rattle.std.specs.Prelude.{◌≡◌, ◌<◌, [], Err, IfOk, OnOk, length, slice_index_or, vec_len, vec_capacity};
     ghost use Rattle.std.specs.List.{insert, remove};
     ghost use Rattle.checked_state.specs.Order.{IsPlace};
     ghost use Rattle.checked_state.specs.Flights.{parties_of};
@@ -24,6 +24,15 @@ impl PartyList {
         PartyList {
             parties: Vec::new(alloc),
         }
+    }
+
+    /// The same parties once more.
+    pub(crate) fn copy(&self) -> Result<PartyList, Memory>
+        ensures { IfOk result (λ copy. parties_of copy ≡ parties_of self.now) }
+    {
+        let alloc = *self.parties.allocator();
+        let parties = Vec::from_slice(alloc, &self.parties)?;
+        Ok(PartyList { parties })
     }
 
     /// The parties, by rising names.

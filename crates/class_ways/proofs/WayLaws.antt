@@ -42,7 +42,7 @@ start-parts course kind airport class arc h =
     let parts = and_parts (is_open airport class arc) (option_map_or (is_of kind airport) (near course (layout_of airport) arc) false) h in
     let at = some_of (is_of kind airport) (near course (layout_of airport) arc) parts.1 in (parts.0, at.0, at.1, at.2)
 
-start-from : (course : Course) (kind : Kind) (airport : Airport) (class : Class) (arc : Arc) (node : Node) → IsTrue (is_open airport class arc)
+pub start-from : (course : Course) (kind : Kind) (airport : Airport) (class : Class) (arc : Arc) (node : Node) → IsTrue (is_open airport class arc)
     → near course (layout_of airport) arc ≡ Some node → IsTrue (is_of kind airport node) → IsTrue (is_start course kind airport class arc)
 start-from course kind airport class arc node goes at is = rw (goes, at) is
 

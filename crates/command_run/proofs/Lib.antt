@@ -1,3 +1,4 @@
+pub mod BegunFiles
 pub mod Reading
 pub mod SoFar
 pub mod Stops

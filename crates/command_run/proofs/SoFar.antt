@@ -46,13 +46,7 @@ among-skipped line skipped = rw skipped refl
 pub among-holds : (line : List ℕ) → is_skipped line ≡ false → commands_among (line ∷ []) ≡ line ∷ []
 among-holds line holds = rw holds refl
 
--- a line that holds no command
-pub skipped-answered : (airport : Airport) (before after : State) (line : List ℕ) (now : Output) → is_skipped line ≡ true → after ≡ before
-    → AreAnswered airport before (commands_among (line ∷ [])) (now, now) 0 after
-skipped-answered airport before after line now skipped same =
-    subst (λ (c : List (List ℕ)). AreAnswered airport before c (now, now) 0 after) (sym (among-skipped line skipped)) (none-answered airport before after now same)
-
--- a line that holds one
+-- a line that holds a command
 pub line-answered : (airport : Airport) (before after : State) (line : List ℕ) (block : Block) (now then : Output) → is_skipped line ≡ false
     → IsAnswered airport before line block after → Grew now then (block_text airport block) → Handed now then (block_text airport block) → AreAnswered airport before (commands_among (line ∷ [])) (now, then) 1 after
 line-answered airport before after line block now then holds answered grew handed =

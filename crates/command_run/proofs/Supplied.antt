@@ -1,5 +1,5 @@
 -- A run over lines up to some line, in which memory ran out for none.
-use Rattle.std.proofs.Common.{◌≡◌, ◌++◌, ◌∷◌, ◌∙◌, [], ℕ, List, true, false, refl, sym, ap, append-nil, codes}
+use Rattle.std.proofs.Common.{◌≡◌, ◌<◌, ◌+◌, ◌≤◌, ◌++◌, ◌∷◌, ◌∙◌, [], ℕ, List, true, false, refl, sym, ap, append-nil, length, arith, codes}
 use Rattle.std.specs.Prelude.{bytes_eq}
 use Rattle.std.specs.Cmp.Lexicographic.{bytes_decides}
 use Rattle.std.proofs.lemmas.Bool.{both_ways}
@@ -7,51 +7,68 @@ use Rattle.std.proofs.lemmas.List.Elements.{All-append, All-nil, All-cons}
 use Rattle.taxi_base.specs.declared.answers.Refusal.TheVariants as refusal
 use Rattle.taxi_base.specs.Airport.{Airport}
 use Rattle.taxi_base.specs.State.{State, no_holder}
-use Rattle.taxi_text.specs.Lines.{is_skipped}
+use Rattle.taxi_text.specs.Lines.{lines_of, is_skipped}
 use Rattle.certificate.specs.declared.block.Block.{Block}
 use Rattle.certificate.specs.declared.block.Block.TheVariants.{Refused}
 use Rattle.certificate.specs.Texts.{block_text}
 use Rattle.certificate.specs.Replies.{IsAnswered}
-use Rattle.transcripts.proofs.RunLaws.{in_turn-append}
-use Rattle.transcripts.proofs.CommandsIn.{commands_in, split-more, commands_in-skipped, commands_in-kept}
-use Rattle.command_run.specs.Supplied.{FoundMemory, IsSuppliedRun}
+use Rattle.transcripts.proofs.RunLaws.{in_turn-append, in_turn-length}
+use Rattle.transcripts.proofs.CommandsIn.{commands_in, split-more, commands_in-skipped, commands_in-kept, commands_in-count}
+use Rattle.command_run.specs.Supplied.{FoundMemory, IsSuppliedRun, IsKeptRun, IsKept}
 
--- Of all lines some are still left. The commands before those are answered.
-pub record IsSuppliedSoFar (airport : Airport) (all left : List (List ℕ)) (state : State) : Type 0 where
+-- Of all lines some are still left. The commands before those are answered, and something is kept of their blocks.
+pub record IsKeptSoFar (airport : Airport) (all left : List (List ℕ)) (state : State) (Kept : List Block → Type 0) : Type 0 where
   pub read : List (List ℕ)
   pub split : read ++ left ≡ all
-  pub so_far : IsSuppliedRun airport (commands_in read) state
+  pub so_far : IsKeptRun airport (commands_in read) state Kept
 
-pub supplied-first : (airport : Airport) (all : List (List ℕ)) (state : State) → state ≡ no_holder → IsSuppliedSoFar airport all all state
-supplied-first airport all state none = record { read = []; split = refl; so_far = record { blocks = []; run = none; found_memory = All-nil FoundMemory } }
+pub kept-first : (airport : Airport) (all : List (List ℕ)) (state : State) (Kept : List Block → Type 0) → state ≡ no_holder → Kept [] → IsKeptSoFar airport all all state Kept
+kept-first airport all state Kept none kept = record {
+  read = [];
+  split = refl;
+  so_far = record { run = record { blocks = []; run = none; found_memory = All-nil FoundMemory }; kept = kept };
+}
 
-pub supplied-skipped : (airport : Airport) (all left rest : List (List ℕ)) (state : State) (line : List ℕ)
-    → IsSuppliedSoFar airport all left state → left ≡ line ∷ rest → is_skipped line ≡ true → IsSuppliedSoFar airport all rest state
-supplied-skipped airport all left rest state line before next skipped = record {
+pub kept-skipped : (airport : Airport) (all left rest : List (List ℕ)) (state : State) (Kept : List Block → Type 0) (line : List ℕ)
+    → IsKeptSoFar airport all left state Kept → left ≡ line ∷ rest → is_skipped line ≡ true → IsKeptSoFar airport all rest state Kept
+kept-skipped airport all left rest state Kept line before next skipped = record {
   read = before.read ++ line ∷ [];
   split = split-more before.read left rest all line before.split next;
   so_far = rw (commands_in-skipped before.read line skipped) before.so_far;
 }
 
-pub supplied-answered : (airport : Airport) (all left rest : List (List ℕ)) (state after : State) (line : List ℕ) (block : Block)
-    → IsSuppliedSoFar airport all left state → left ≡ line ∷ rest → is_skipped line ≡ false → IsAnswered airport state line block after → FoundMemory block
-    → IsSuppliedSoFar airport all rest after
-supplied-answered airport all left rest state after line block before next kept answered found = record {
-  read = before.read ++ line ∷ [];
-  split = split-more before.read left rest all line before.split next;
-  so_far = record {
-    blocks = before.so_far.blocks ++ block ∷ [];
-    run = rw (commands_in-kept before.read line kept)
-        (in_turn-append IsAnswered airport no_holder state after (commands_in before.read) (line ∷ []) before.so_far.blocks (block ∷ []) before.so_far.run (after, answered, refl));
-    found_memory = All-append FoundMemory before.so_far.blocks (block ∷ []) before.so_far.found_memory (All-cons FoundMemory block [] found (All-nil FoundMemory));
-  };
-}
+pub kept-answered : (airport : Airport) (all left rest : List (List ℕ)) (state after : State) (Kept Keeps : List Block → Type 0) (line : List ℕ)
+    → IsKeptSoFar airport all left state Kept → left ≡ line ∷ rest → is_skipped line ≡ false → IsKept airport state line after Kept Keeps
+    → IsKeptSoFar airport all rest after Keeps
+kept-answered airport all left rest state after Kept Keeps line before next kept got =
+    let old = before.so_far.run in
+    record {
+      read = before.read ++ line ∷ [];
+      split = split-more before.read left rest all line before.split next;
+      so_far = rw (commands_in-kept before.read line kept) (record {
+        run = record {
+          blocks = old.blocks ++ got.block ∷ [];
+          run = in_turn-append IsAnswered airport no_holder state after (commands_in before.read) (line ∷ []) old.blocks (got.block ∷ []) old.run (after, got.answered, refl);
+          found_memory = All-append FoundMemory old.blocks (got.block ∷ []) old.found_memory (All-cons FoundMemory got.block [] got.found_memory (All-nil FoundMemory));
+        };
+        kept = got.kept old.blocks before.so_far.kept;
+      });
+    }
 
-pub supplied-whole : (airport : Airport) (all left : List (List ℕ)) (state : State) → IsSuppliedSoFar airport all left state → left ≡ []
-    → IsSuppliedRun airport (commands_in all) state
-supplied-whole airport all left state before none =
+pub kept-whole : (airport : Airport) (all left : List (List ℕ)) (state : State) (Kept : List Block → Type 0) → IsKeptSoFar airport all left state Kept → left ≡ []
+    → IsKeptRun airport (commands_in all) state Kept
+kept-whole airport all left state Kept before none =
     let whole : before.read ≡ all = sym (append-nil before.read) ∙ ap (λ l. before.read ++ l) (sym none) ∙ before.split in
     rw (← whole) before.so_far
+
+-- so many blocks were kept, of the lines of so many bytes
+pub kept-few : (airport : Airport) (bytes : List ℕ) (left : List (List ℕ)) (state : State) (Kept : List Block → Type 0) → IsKeptSoFar airport (lines_of bytes) left state Kept
+    → length bytes < 536870912 → (blocks : List Block) × Kept blocks × (length blocks < 1073741824)
+kept-few airport bytes left state Kept before few =
+    let run = before.so_far.run in
+    let all = in_turn-length IsAnswered airport no_holder state (commands_in before.read) run.blocks run.run in
+    let commands = commands_in-count bytes before.read left before.split in
+    (run.blocks, before.so_far.kept, omega (arith, all, commands, few))
 
 -- ---- one answer
 

@@ -3,3 +3,4 @@ pub mod Ended
 pub mod Answered
 pub mod Told
 pub mod Supplied
+pub mod Halts

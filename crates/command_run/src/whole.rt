@@ -2,8 +2,7 @@
 ghost use Rattle.std.specs.Prelude.{◌≡◌, OnOk};
 ghost use Rattle.taxi_base.specs.State.{no_holder};
 ghost use Rattle.taxi_text.specs.Lines.{commands_of};
-ghost use Rattle.certificate.specs.declared.block.Block.{Block};
-ghost use Rattle.certificate.specs.Replies.{IsAnswered};
+ghost use Rattle.transcripts.specs.Turns.{IsReplyText};
 ghost use Rattle.command_run.specs.Supplied.{FoundMemory, IsSuppliedRun};
 
 use taxi_base::Memory;
@@ -25,9 +24,9 @@ pub fn run_all<R: Router>(router: &mut R, commands: &[u8]) -> Result<(), Memory>
     Ok(())
 }
 
-// Has a line answered. Where memory ran out for it, that is the error.
-fn answer_with_memory<R: Router>(router: &mut R, line: &[u8]) -> Result<(), Memory>
-    ensures answered { OnOk result ((block : Block) × IsAnswered (R.airport router.old) (R.state router.old) line.now block (R.state router.new) × FoundMemory block) }
+/// Has a line answered. Where memory ran out for it, that is the error.
+pub fn answer_with_memory<R: Router>(router: &mut R, line: &[u8]) -> Result<(), Memory>
+    ensures answered { OnOk result ((reply : IsReplyText (R.airport router.old) (R.state router.old) line.now (R.replied router.new) (R.state router.new)) × FoundMemory reply.block) }
     ensures airport { R.airport router.new ≡ R.airport router.old }
 {
     router.answer(line);

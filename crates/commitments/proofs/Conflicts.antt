@@ -18,7 +18,7 @@ use Rattle.commitments.specs.declared.segment_holds.HeldStep.{HeldStep}
 use Rattle.commitments.specs.Held.{StepList, no_step, list_of, all_steps, hold_by, spans_by, AreBySegment}
 use Rattle.commitments.specs.Taken.{is_taken}
 
-both_same : (a b : Bool) → (IsTrue a → IsTrue b) → (IsTrue b → IsTrue a) → a ≡ b
+pub both_same : (a b : Bool) → (IsTrue a → IsTrue b) → (IsTrue b → IsTrue a) → a ≡ b
 both_same true b to from = sym (to refl)
 both_same false true to from = from refl
 both_same false false to from = refl

@@ -10,4 +10,6 @@ pub mod Conflicts
 pub mod HoldRoom
 pub mod StepsIn
 pub mod LedgerSteps
+pub mod RoomLaws
 mod Returned
+mod OtherHolders

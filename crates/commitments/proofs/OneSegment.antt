@@ -87,7 +87,7 @@ module _ (airport : Airport) (rules : IsWellFormed airport) where
       absurd (omega (arith, inside.1, short k d low, clearance-short airport held.holder.class rules))))
 
 -- what begins later has no second before
-later-none : (airport : Airport) (rest : List HeldStep) (i t : ℕ) (e : HeldStep) → IsNonDecreasingBy begins rest → i < length rest → t < (get_or rest i e).step.enter
+pub later-none : (airport : Airport) (rest : List HeldStep) (i t : ℕ) (e : HeldStep) → IsNonDecreasingBy begins rest → i < length rest → t < (get_or rest i e).step.enter
     → IsFalse (covers (spans_by airport (drop i rest)) t)
 later-none airport rest i t e rising low early =
     none-cover airport (drop i rest) t (λ k d on.
@@ -102,7 +102,7 @@ later-none airport rest i t e rising low early =
 -- ---- the first second that one of the steps has
 
 -- some more spans that have no second before it change nothing
-first-beside : (xs ys : List Span) (from until first : ℕ) → IsFirstHeld xs from until first → ((t : ℕ) → from ≤ t → t < first → IsFalse (covers ys t)) → IsFirstHeld (xs ++ ys) from until first
+pub first-beside : (xs ys : List Span) (from until first : ℕ) → IsFirstHeld xs from until first → ((t : ℕ) → from ≤ t → t < first → IsFalse (covers ys t)) → IsFirstHeld (xs ++ ys) from until first
 first-beside xs ys from until first held none = record {
   not_before = held.not_before;
   not_after = held.not_after;
@@ -118,7 +118,7 @@ first-behind xs ys from until first held none = record {
   held = λ h. covers-append xs ys first ∙ or_right (covers xs first) (covers ys first) (held.held h);
 }
 
-spans-append : (airport : Airport) (xs ys : List HeldStep) → spans_by airport (xs ++ ys) ≡ spans_by airport xs ++ spans_by airport ys
+pub spans-append : (airport : Airport) (xs ys : List HeldStep) → spans_by airport (xs ++ ys) ≡ spans_by airport xs ++ spans_by airport ys
 spans-append airport xs ys = map-append (λ held. (hold_by airport held).span) xs ys
 
 module _ (airport : Airport) (rules : IsWellFormed airport) (steps rest : List HeldStep) (from until : ℕ) (since : AreSince steps from rest) where

@@ -20,7 +20,7 @@ use window_store::{OtherHolds, WindowStore};
 #[derive(Drop)]
 pub(crate) struct HeldSegments {
     store: WindowStore,
-    index: HoldIndex,
+    pub(crate) index: HoldIndex,
 }
 
 impl Model for HeldSegments {

@@ -19,7 +19,7 @@ use window_store::{OtherHolds, WindowStore};
 /// The steps that hold segments, by segment.
 #[derive(Drop)]
 pub(crate) struct HoldIndex {
-    lists: Vec<SegmentHolds>,
+    pub(crate) lists: Vec<SegmentHolds>,
 }
 
 impl Model for HoldIndex {

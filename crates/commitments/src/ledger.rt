@@ -161,7 +161,7 @@ impl Ledger {
         ensures unlifted { self.new.lifted ≡ None }
         ensures unchanged { IfNone result (self.new ≡ self.old) }
         ensures prepared { IfSome result (λ flight. IsPrepared airport.now flight.steps self.new) }
-        ensures room { self.old.room ≤ self.new.room }
+        ensures room { IfSome result (λ _. self.new.room ≡ self.old.room + 1) }
         ensures party_room { self.new.party_room ≡ self.old.party_room }
         ensures kept { IfSome result (λ flight. KeepsWindows IsClearOf airport.now.conflicts (flight_holds airport.now flight) self.old.store self.new.store) }
         ensures nodes { KeepsNodes self.old.store self.new.store }

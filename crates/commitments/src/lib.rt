@@ -8,10 +8,11 @@ mod holders;
 mod holds;
 mod laws;
 mod ledger;
+mod others;
 mod route;
 mod segment_holds;
 mod shutting;
 
-pub use laws::windows_follow_from_holders;
+pub use laws::{holders_go_in_again, windows_follow_from_holders};
 pub use ledger::Ledger;
 pub use taxi_base::{Flight, Party};

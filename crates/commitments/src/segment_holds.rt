@@ -52,7 +52,7 @@ impl Holder {
 
 impl HeldStep {
     // For which seconds it holds its segment.
-    fn span(&self, airport: &Airport) -> Span
+    pub(crate) fn span(&self, airport: &Airport) -> Span
         ensures { result ≡ (hold_by airport.now self.now).span }
     {
         self.step.held(
@@ -212,7 +212,7 @@ impl SegmentHolds {
     }
 
     // The steps from the first on that may reach beyond a second.
-    fn since(&self, second: Time) -> &[HeldStep]
+    pub(crate) fn since(&self, second: Time) -> &[HeldStep]
         ensures { AreSince self.now.steps second result.now }
     {
         let past = (u64::from(second) + 1).saturating_sub(self.longest);

@@ -125,7 +125,7 @@ impl Ledger {
         ensures unlifted { self.new.lifted ≡ None }
         ensures unchanged { IfNone result (self.new ≡ self.old) }
         ensures prepared { IfSome result (λ party. IsPreparedForParty airport.now party.segment self.new) }
-        ensures party_room { self.old.party_room ≤ self.new.party_room }
+        ensures party_room { IfSome result (λ _. self.new.party_room ≡ self.old.party_room + 1) }
         ensures flight_room { self.new.room ≡ self.old.room }
         ensures kept { IfSome result (λ party. KeepsWindows IsClearOf airport.now.conflicts (party_hold party ∷ []) self.old.store self.new.store) }
         ensures nodes { KeepsNodes self.old.store self.new.store }

@@ -1,7 +1,7 @@
 -- What steps hold, put in and taken out one step after the other.
-use Rattle.std.proofs.Common.{◌≡◌, ◌∙◌, ℕ, ◌+◌, ◌<◌, ◌≤◌, ◌==◌, cond, List, [], ◌∷◌, ◌++◌, length, get_or, take, drop, append_assoc, append-nil, refl, sym, ap, subst, arith}
+use Rattle.std.proofs.Common.{◌≡◌, ◌∙◌, ℕ, ◌+◌, ◌<◌, ◌≤◌, ◌==◌, cond, List, [], ◌∷◌, ◌++◌, length, map, get_or, take, drop, append_assoc, append-nil, refl, sym, ap, subst, arith}
 use Rattle.std.specs.Prelude.{Result, Ok, Err, OnOk, OnErr}
-use Rattle.std.proofs.lemmas.List.{at_drop_more, drop_all, take_all, take_more}
+use Rattle.std.proofs.lemmas.List.{at_drop_more, drop_all, map-append, take_all, take_more}
 use Rattle.std.proofs.lemmas.List.Sums.{sum_by_more, sum_by_more_le}
 use Rattle.taxi_base.specs.declared.numbers.Segment.{Segment}
 use Rattle.taxi_base.specs.declared.rows.Span.{Span}
@@ -29,6 +29,13 @@ then-ok (Err x) P Q follows h = tt
 pub then-err : {A E : Type 0} (r : Result A E) (P Q : Type 0) → (P → Q) → OnErr r P → OnErr r Q
 then-err (Ok x) P Q follows h = tt
 then-err (Err x) P Q follows h = follows h
+
+-- one item more is read as the next of a list
+pub read-more : {X Y : Type 0} (f : X → Y) (xs ys : List X) (i : ℕ) (x y : X) → i < length xs → x ≡ get_or xs i x → f y ≡ f x → map f ys ≡ map f (take i xs)
+    → map f (ys ++ y ∷ []) ≡ map f (take (i + 1) xs)
+read-more {X} {Y} f xs ys i x y low is same so_far =
+    map-append f ys (y ∷ []) ∙ ap (λ (all : List Y). all ++ f y ∷ []) so_far ∙ ap (λ (z : Y). map f (take i xs) ++ z ∷ []) (same ∙ ap f is)
+    ∙ sym (map-append f (take i xs) (get_or xs i x ∷ [])) ∙ ap (map f) (sym (take_more xs i x low))
 
 -- a hold among others, put first
 front : (held : HeldSpans) (holds : List NamedHold) (h : NamedHold) (rest : List NamedHold) → AreHeldBy (holds ++ h ∷ rest) held → AreHeldBy (h ∷ (holds ++ rest)) held

@@ -295,6 +295,13 @@ AreHeldBy-own held = record {
       ∙ sym (own-at weight s 0 (map (λ (list : SpanRows). list.rows) held.lists.items) s.0 (omega arith));
 }
 
+-- lists with the same rows have the spans of the same holds
+pub copied-held : (held copy : HeldSpans) → map (λ (list : SpanRows). list.rows) copy.lists.items ≡ map (λ (list : SpanRows). list.rows) held.lists.items → (holds : List NamedHold) → AreHeldBy holds held → AreHeldBy holds copy
+copied-held held copy same holds are = record { each = λ s weight. ap (λ (rows : List (Span × List ℕ)). sum_by weight rows) (rows-same s) ∙ are.each s weight } where
+  rows-same : (s : Segment) → rows_at copy s ≡ rows_at held s
+  rows-same s =
+      rows-by_place copy.lists.items s.0 ∙ ap (λ (lists : List (List (Span × List ℕ))). get_or lists s.0 []) same ∙ sym (rows-by_place held.lists.items s.0)
+
 pub AreSpansOf-own : (held : HeldSpans) → AreSpansOf (holds_in_lists held) held
 AreSpansOf-own held = AreSpansOf-held held (named_in_lists held) (AreHeldBy-own held)
 

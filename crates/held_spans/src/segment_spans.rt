@@ -1,5 +1,5 @@
 //! The spans for which one segment is held, and by whom.
-ghost use Rattle.std.specs.Prelude.{◌≡◌, ◌+◌, ◌<◌, ◌≤◌, ◌↔◌, ◌∷◌, [], if◌then◌else◌, ℕ, List, map, length, vec_len, vec_capacity, Some, None, slice_get, Contains, IsTrue, IsSome, IfSome, OnOk, OnErr};
+ghost use Rattle.std.specs.Prelude.{◌≡◌, ◌+◌, ◌<◌, ◌≤◌, ◌↔◌, ◌∷◌, [], if◌then◌else◌, ℕ, List, map, length, vec_len, vec_capacity, Some, None, slice_get, Contains, IsTrue, IsSome, IfOk, IfSome, OnOk, OnErr};
 ghost use Rattle.std.specs.List.{insert, AllWithin};
 ghost use Rattle.std.specs.List.Sorted.{IsPermutation, IsNonDecreasingBy};
 ghost use Rattle.taxi_base.specs.declared.rows.Span.{Span};
@@ -44,6 +44,20 @@ impl SegmentSpans {
             holders: Vec::new(alloc),
             longest: 0,
         }
+    }
+
+    /// The same spans once more, of the same holders.
+    pub(crate) fn copy(&self) -> Result<SegmentSpans, Memory>
+        ensures { IfOk result (λ copy. copy.rows ≡ self.now.rows) }
+    {
+        let alloc = *self.spans.allocator();
+        let spans = Vec::from_slice(alloc, &self.spans)?;
+        let holders = Vec::from_slice(alloc, &self.holders)?;
+        Ok(SegmentSpans {
+            spans,
+            holders,
+            longest: self.longest,
+        })
     }
 
     /// The spans alone.

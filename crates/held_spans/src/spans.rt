@@ -1,5 +1,5 @@
 //! The spans for which segments are held, by their segment, and by whom.
-ghost use Rattle.std.specs.Prelude.{◌≡◌, ◌+◌, ◌≤◌, ◌<◌, ◌∷◌, ◌++◌, [], ◌==◌, if◌then◌else◌, List, All, Contains, IsOk, IfOk, OnOk, OnErr, length};
+ghost use Rattle.std.specs.Prelude.{◌≡◌, ◌+◌, ◌≤◌, ◌<◌, ◌∷◌, ◌++◌, [], ◌==◌, if◌then◌else◌, List, map, All, Contains, IsOk, IfOk, OnOk, OnErr, length};
 ghost use Rattle.taxi_base.specs.declared.numbers.Segment.{Segment};
 ghost use Rattle.taxi_base.specs.Airport.{segment_of};
 ghost use Rattle.taxi_base.specs.Windows.{Hold, holds_of};
@@ -48,6 +48,15 @@ impl HeldSpans {
         for _ in 0..segments {
             lists.push(SegmentSpans::new(alloc))?;
         }
+        Ok(HeldSpans { lists })
+    }
+
+    /// The same spans once more, by the same holders.
+    pub fn copy(&self) -> Result<HeldSpans, Memory>
+        ensures held { IfOk result (λ copy. (holds : List NamedHold) → AreHeldBy holds self.now → AreHeldBy holds copy) }
+        ensures count { IfOk result (λ copy. length copy.lists.items ≡ length self.now.lists.items) }
+    {
+        let lists = copied(*self.lists.allocator(), &self.lists)?;
         Ok(HeldSpans { lists })
     }
 
@@ -128,4 +137,16 @@ impl HeldSpans {
             None => None,
         }
     }
+}
+
+// The same lists once more.
+fn copied(alloc: Global, lists: &[SegmentSpans]) -> Result<Vec<SegmentSpans>, Memory>
+    ensures { IfOk result (λ copies. map (λ list. list.rows) copies.items ≡ map (λ list. list.rows) lists.now) }
+{
+    let mut copies = Vec::with_capacity(alloc, lists.len())?;
+    for list in lists {
+        let copy = list.copy()?;
+        copies.push(copy)?;
+    }
+    Ok(copies)
 }

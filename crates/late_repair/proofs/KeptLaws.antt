@@ -1,20 +1,16 @@
--- The steps that a flight keeps, and those on which it is in force at once.
-use Rattle.std.proofs.Common.{◌≡◌, ◌∙◌, ℕ, ◌||◌, ◌<◌, ◌≤◌, List, [], ◌∷◌, ◌++◌, length, IsTrue, IsFalse, Option, Some, None, refl, sym, ap, subst, arith, inl, inr}
-use Rattle.std.specs.Option.{is_some}
-use Rattle.std.specs.List.{list_any}
+-- The steps that a flight keeps.
+use Rattle.std.proofs.Common.{◌≡◌, ◌∙◌, ℕ, ◌≤◌, List, [], ◌∷◌, ◌++◌, Some, None, refl, sym, subst, inl, inr}
 use Rattle.std.proofs.lemmas.Bool.{cases_Bool}
 use Rattle.taxi_base.specs.declared.rows.Step.{Step}
 use Rattle.taxi_base.specs.declared.answers.Flight.{Flight}
 use Rattle.taxi_base.specs.Airport.{Airport}
-use Rattle.taxi_base.specs.Windows.{Hold, clash}
 use Rattle.taxi_base.specs.Walks.{Conditions, IsFeasibleWalk, IsFeasibleStep}
 use Rattle.taxi_base.specs.State.{step_begun, steps_done}
-use Rattle.taxi_base.specs.Late.{Delay, is_late, kept_steps, steps_kept, flight_meets, on_steps, flight_at_once}
+use Rattle.taxi_base.specs.Late.{Delay, is_late, kept_steps, steps_kept}
 use Rattle.taxi_base.proofs.AgainLaws.{begun-parts}
 use Rattle.taxi_base.proofs.KeptSteps.{seam}
-use Rattle.certificate.proofs.FoundLaws.{step-enter, walk-some}
-use Rattle.late_repair.specs.Repairing.{leave_kept, IsFirstCommonOf}
-use Rattle.late_repair.proofs.MeetingLaws.{some-meets}
+use Rattle.certificate.proofs.FoundLaws.{step-enter}
+use Rattle.late_repair.specs.Repairing.{leave_kept}
 
 -- the step that was begun was entered by the horizon
 pub begun-in_time : (c : Conditions) (time : ℕ) (steps : List Step) (begun : Step) → IsFeasibleWalk c steps → step_begun time steps ≡ Some begun → begun.enter ≤ c.airport.horizon
@@ -42,21 +38,3 @@ module _ (airport : Airport) (delay : Delay) (flight : Flight) where
       let same : kept_steps delay.time (leave_kept airport delay flight) flight.steps ≡ done ++ record { arc = begun.arc; enter = begun.enter; leave = leave_kept airport delay flight begun } ∷ [] =
       rw (some, e) refl in
       sym (kept-is ∙ same)
-
-  -- ---- at once
-
-  -- whether there is a first common second
-  pub meets-is : (hold : Hold) (holds : List Hold) (first : Option ℕ) → IsFirstCommonOf airport hold holds first → is_some first ≡ list_any (clash airport.conflicts hold) holds
-  meets-is hold holds None none = sym none
-  meets-is hold holds (Some second) common = sym (some-meets airport hold holds second common)
-
-  pub at_once-kept : IsTrue (is_late delay flight || flight_meets airport delay flight) → (steps : List Step) → steps ≡ steps_kept airport delay flight
-      → on_steps flight steps ≡ flight_at_once airport delay flight
-  at_once-kept moves steps e = rw moves (ap (on_steps flight) e)
-
-  pub at_once-own : (c : Conditions) → IsFeasibleWalk c flight.steps → IsFalse (is_late delay flight || flight_meets airport delay flight) → (steps : List Step) → steps ≡ flight.steps
-      → on_steps flight steps ≡ flight_at_once airport delay flight
-  at_once-own c walk stays steps e = rw stays (ap (on_steps flight) e ∙ own flight.steps (walk-some c flight.steps walk)) where
-    own : (steps : List Step) → 0 < length steps → on_steps flight steps ≡ record flight { steps = steps } ∷ []
-    own [] some = absurd (omega (arith, some))
-    own (s ∷ steps) some = refl

@@ -2,10 +2,16 @@ pub mod DelayLaws
 pub mod MeetingLaws
 pub mod InOrderLaws
 pub mod WayLaws
+pub mod NamedLaws
+pub mod HolderLaws
 pub mod OthersLaws
+pub mod RoomSteps
+pub mod ChangeLaws
+pub mod BackLaws
 pub mod WalkSteps
-pub mod BaseSteps
 pub mod KeptLaws
+pub mod PlacingLaws
 pub mod SeekingLaws
 pub mod TurnSteps
 pub mod TurnsLaws
+pub mod RepairSteps

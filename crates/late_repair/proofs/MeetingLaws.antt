@@ -131,20 +131,3 @@ module _ (airport : Airport) (hold : Hold) where
 
   pub some-meets : (holds : List Hold) (second : ℕ) → IsFirstCommon airport hold holds second → IsTrue (list_any (clash airport.conflicts hold) holds)
   some-meets holds second common = common-meets airport hold holds second common
-
-  pub one-meets : (h : Hold) (second : ℕ) → IsFirstCommon airport hold (h ∷ []) second → IsTrue (clash airport.conflicts hold h)
-  one-meets h second common =
-      let found = list_any-true (clash airport.conflicts hold) (h ∷ []) (some-meets (h ∷ []) second common) in
-      subst (λ o. IsTrue (clash airport.conflicts hold o)) (sym (only-one h found.0 found.1)) found.2
-
-  pub one-apart : (h : Hold) → IsFalse (list_any (clash airport.conflicts hold) (h ∷ [])) → IsFalse (clash airport.conflicts hold h)
-  one-apart h none = list_any-false_member (clash airport.conflicts hold) (h ∷ []) h (Contains-first h []) none
-
-  -- by the test of what was found
-  pub tested-meets : (h : Hold) (first : Option ℕ) → is_some first ≡ true → IsFirstCommonOf airport hold (h ∷ []) first → IsTrue (clash airport.conflicts hold h)
-  tested-meets h None some common = absurd (cc some)
-  tested-meets h (Some second) some common = one-meets h second common
-
-  pub tested-apart : (h : Hold) (first : Option ℕ) → is_some first ≡ false → IsFirstCommonOf airport hold (h ∷ []) first → IsFalse (clash airport.conflicts hold h)
-  tested-apart h None none common = one-apart h common
-  tested-apart h (Some second) none common = absurd (cc none)

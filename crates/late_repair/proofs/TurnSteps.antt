@@ -1,52 +1,35 @@
 -- One turn: what a flight seeks once it is out, what is found, and what is in force then.
 use Rattle.std.proofs.Common.{◌≡◌, ◌≢◌, ◌∙◌, ℕ, ◌-◌, ◌<◌, ◌≤◌, List, [], ◌∷◌, length, IsFalse, Option, Some, None, refl, sym, ap, subst, arith, inl, inr}
-use Rattle.std.specs.Prelude.{IfSome, IfNone, IfOk, OnOk, Result, Ok, Err, bytes_eq}
-use Rattle.std.proofs.lemmas.Bool.{cases_Bool, or_from}
+use Rattle.std.specs.Prelude.{IfSome, IfNone, IfOk, OnOk, Result, Ok, Err, is_some}
+use Rattle.std.proofs.lemmas.Bool.{or_from}
 use Rattle.taxi_base.specs.declared.rows.Step.{Step}
 use Rattle.taxi_base.specs.declared.answers.Request.{Request}
 use Rattle.taxi_base.specs.declared.answers.Request.TheVariants.{Filed, Arrival, Departure}
 use Rattle.taxi_base.specs.declared.answers.Flight.{Flight}
-use Rattle.taxi_base.specs.declared.answers.Party.{Party}
 use Rattle.taxi_base.specs.declared.collections.Memory.{Memory}
 use Rattle.taxi_base.specs.declared.answers.Found.{Found}
 use Rattle.taxi_base.specs.declared.answers.Found.TheVariants.{Route, NoRoute}
 use Rattle.taxi_base.specs.Airport.{Airport, layout_of}
 use Rattle.taxi_base.specs.Walks.{Conditions, IsFeasibleStep, IsFeasibleWalk, ReachesNodeWithin, Meets, end_of}
-use Rattle.taxi_base.specs.State.{State, named, left_out, has_holder, flight_named, party_named, without, conditions_of}
+use Rattle.taxi_base.specs.State.{State, has_holder, flight_named, party_named, without, conditions_of}
 use Rattle.taxi_base.specs.Faults.{conditions_in}
 use Rattle.taxi_base.specs.Late.{Delay, steps_kept, request_sought, time_sought, IsWalkSought, AnswersTurn, after_turn, IsTurnOfFlight}
-use Rattle.taxi_base.proofs.NameLaws.{none_left}
 use Rattle.taxi_base.proofs.WalkLaws.{AtLast-both, IsFeasibleWalk-last}
 use Rattle.taxi_base.proofs.TurnLaws.{turn-best, best-one, sought-walk}
 use Rattle.certificate.specs.declared.entries.Entry.{Entry}
+use Rattle.certificate.proofs.FlightLaws.{without-none}
 use Rattle.certificate.specs.Repairs.{entry_told}
 use Rattle.commitments.specs.Book.{Book}
 use Rattle.late_repair.specs.Repairing.{IsTimely, HasWalk}
 
 -- ---- a flight that is out
 
-module _ {X : Type 0} (name_of : X → List ℕ) where
-  -- what is not there is not left out
-  none-left_out : (name : List ℕ) (xs : List X) → named name_of name xs ≡ None → left_out name_of name xs ≡ xs
-  none-left_out name [] none = refl
-  none-left_out name (x ∷ xs) none = elim (cases_Bool (bytes_eq (name_of x) name)) [
-    | inl here ↦ absurd (cc (rw here at none))
-    | inr other ↦ rw other (ap (λ ys. x ∷ ys) (none-left_out name xs (rw other at none)))
-  ]
-
 -- a flight that is taken out, or was out already, is out
 pub out-state : (name : List ℕ) (old new : Book) (taken : Option Flight) → taken ≡ flight_named name old.state.flights → party_named name old.state.parties ≡ None
     → IfSome taken (λ _. new.state ≡ without name old.state) → IfNone taken (new ≡ old) → new.state ≡ without name old.state
 out-state name old new (Some x) e no_party some none = some
 out-state name old new None e no_party some none =
-    let same : without name old.state ≡ old.state = (λ i. record {
-      flights = none-left_out (λ (f : Flight). f.name) name old.state.flights (sym e) i;
-      parties = none-left_out (λ (p : Party). p.name) name old.state.parties no_party i;
-    }) in
-    ap (λ (b : Book). b.state) none ∙ sym same
-
-pub out-absent : (name : List ℕ) (state : State) → IsFalse (has_holder name (without name state))
-out-absent name state = or_from _ _ (none_left (λ (p : Party). p.name) name state.parties) (none_left (λ (f : Flight). f.name) name state.flights)
+    ap (λ (b : Book). b.state) none ∙ sym (without-none name old.state (or_from _ _ (ap is_some no_party) (ap is_some (sym e))))
 
 -- ---- what is sought and found
 

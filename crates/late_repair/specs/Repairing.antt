@@ -1,6 +1,6 @@
 -- What holds while those in the way of a late flight take their turns, and what comes of it. No public clause but those of `repair`
 -- cites these.
-use Rattle.std.specs.Prelude.{ℕ, ◌≡◌, ◌⊎◌, ◌-◌, ◌<◌, ◌≤◌, min, if◌then◌else◌, IsTrue, IsFalse, List, [], length, Option, Some, None, ⊤}
+use Rattle.std.specs.Prelude.{ℕ, ◌≡◌, ◌⊎◌, ◌-◌, ◌<◌, ◌≤◌, min, if◌then◌else◌, IsTrue, IsFalse, List, [], ◌∷◌, length, Option, Some, None, ⊤}
 use Rattle.std.specs.List.{list_any}
 use Rattle.taxi_base.specs.declared.rows.Step.{Step}
 use Rattle.taxi_base.specs.declared.answers.Request.{Request}
@@ -11,11 +11,14 @@ use Rattle.taxi_base.specs.declared.answers.Found.TheVariants as found
 use Rattle.taxi_base.specs.Airport.{Airport, segment_of}
 use Rattle.taxi_base.specs.Windows.{Hold, clash}
 use Rattle.taxi_base.specs.Walks.{Conditions, IsFeasibleWalk}
-use Rattle.taxi_base.specs.State.{State, party_named, holder_count, without, flight_holds, conditions_of}
-use Rattle.taxi_base.specs.Late.{Delay, Meeting, IsFirstCommon, prolonged_hold, is_late, flight_meets, soonest_leave, steps_kept, base_state, IsRepaired}
+use Rattle.taxi_base.specs.State.{State, party_named, holder_count, without, with_flight, flight_holds, conditions_of}
+use Rattle.taxi_base.specs.Faults.{conditions_in}
+use Rattle.taxi_base.specs.Late.{Delay, Meeting, IsFirstCommon, prolonged_hold, is_late, flight_meets, soonest_leave, steps_kept, IsRepaired}
 use Rattle.certificate.specs.declared.entries.Entry.{Entry}
 use Rattle.certificate.specs.Repairs.{names_in_turn, entries_told}
 use Rattle.late_repair.specs.declared.delay.Hold as held
+use Rattle.late_repair.specs.declared.holder.Holder.{Holder}
+use Rattle.late_repair.specs.declared.holder.Holder.TheVariants as one
 
 -- ---- what comes of a late flight
 
@@ -52,10 +55,6 @@ abbrev pub IsOtherMeeting : Airport → Delay → Flight → Option ℕ → Type
 IsOtherMeeting airport delay flight None = IsTrue (is_late delay flight) ⊎ IsFalse (flight_meets airport delay flight)
 IsOtherMeeting airport delay flight (Some second) = IsFalse (is_late delay flight) × IsFirstCommon airport (prolonged_hold airport delay) (flight_holds airport flight) second
 
--- the work parties of the base state alone
-abbrev pub base_parties : Airport → State → Delay → State
-base_parties airport state delay = record { flights = []; parties = (base_state airport state delay).parties }
-
 -- when a flight leaves the last of the steps that it keeps
 abbrev pub leave_kept : Airport → Delay → Flight → Step → ℕ
 leave_kept airport delay flight begun = if is_late delay flight then delay.until else soonest_leave airport flight.class delay.time begun
@@ -82,3 +81,26 @@ HasSteps (found.NoRoute labels) = ⊤
 abbrev pub HasWalk : Conditions → Found → Type 0
 HasWalk c (found.Route steps labels) = IsFeasibleWalk c steps
 HasWalk c (found.NoRoute labels) = ⊤
+
+-- a state with a flight on the steps that it keeps, if there are any
+abbrev pub with_kept : Flight → List Step → State → State
+with_kept flight [] state = state
+with_kept flight (s ∷ steps) state = with_flight (record flight { steps = s ∷ steps }) state
+
+-- the same of a holder that was taken out; a work party stays out
+abbrev pub placed_at_once : Airport → Delay → Holder → State → State
+placed_at_once airport delay (one.Flight flight) state = with_kept flight (steps_kept airport delay flight) state
+placed_at_once airport delay (one.Party party) state = state
+
+-- the flight was on a walk, and what it keeps of that is a walk among all holders
+abbrev pub CanBePlaced : Airport → Delay → State → Holder → Type 0
+CanBePlaced airport delay state (one.Flight flight) =
+    ((before : State) × IsFeasibleWalk (conditions_of airport before flight) flight.steps)
+    × (0 < length (steps_kept airport delay flight) → IsFeasibleWalk (conditions_in airport flight.class state) (steps_kept airport delay flight))
+CanBePlaced airport delay state (one.Party party) = ⊤
+
+-- the flight was on a walk, what it asked for can be had, and it may take its turn
+abbrev pub WaitsForTurn : Airport → Delay → State → Holder → Type 0
+WaitsForTurn airport delay state (one.Flight flight) =
+    ((before : State) × IsFeasibleWalk (conditions_of airport before flight) flight.steps) × IsTimely airport flight.request × MayTakeTurn airport delay state flight
+WaitsForTurn airport delay state (one.Party party) = ⊤

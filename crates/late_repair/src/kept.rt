@@ -1,46 +1,15 @@
-//! The steps on which a flight is in force at once.
-ghost use Rattle.std.specs.Prelude.{◌≡◌, ◌≤◌, ◌||◌, IfOk};
+//! The steps that a flight keeps.
+ghost use Rattle.std.specs.Prelude.{◌≡◌, ◌≤◌, IfOk};
 ghost use Rattle.taxi_base.specs.State.{State, conditions_of};
 ghost use Rattle.taxi_base.specs.Walks.{IsFeasibleWalk};
-ghost use Rattle.taxi_base.specs.Late.{is_late, flight_meets, soonest_leave, steps_kept, on_steps, flight_at_once};
-ghost use Rattle.late_repair.specs.Repairing.{IsOnSegment, leave_kept};
+ghost use Rattle.taxi_base.specs.Late.{soonest_leave, steps_kept};
+ghost use Rattle.late_repair.specs.Repairing.{leave_kept};
 
 use crate::delay::Delay;
-use crate::meeting::flight_meeting;
 use airport_file::Airport;
 use forward_search::push_steps;
 use std::alloc::Global;
 use taxi_base::{Class, Flight, List, Memory, Step, Time, under_way};
-
-/// The steps on which a flight is in force at once: those that it keeps where it is late or meets the prolonged hold, and else its
-/// own.
-pub(crate) fn steps_at_once(
-    alloc: Global,
-    airport: &Airport,
-    delay: &Delay<'_>,
-    flight: &Flight,
-) -> Result<List<Step>, Memory>
-    requires walk { (state : State) × IsFeasibleWalk (conditions_of airport.now state flight.now) flight.now.steps }
-    requires segment { IsOnSegment airport.now delay.now }
-    ensures { IfOk result (λ steps. on_steps flight.now steps ≡ flight_at_once airport.now delay.now flight.now) }
-{
-    if is_moved(airport, delay, flight) {
-        steps_kept(alloc, airport, delay, flight)
-    } else {
-        copy_of(alloc, flight.steps.as_slice())
-    }
-}
-
-// Whether a flight is late or meets the prolonged hold.
-fn is_moved(airport: &Airport, delay: &Delay<'_>, flight: &Flight) -> bool
-    requires { IsOnSegment airport.now delay.now }
-    ensures { result ≡ (is_late delay.now flight.now || flight_meets airport.now delay.now flight.now) }
-{
-    if delay.is_late(flight) {
-        return true;
-    }
-    flight_meeting(airport, delay, flight).is_some()
-}
 
 /// The steps that a flight has entered. The one that is late stays on the last of them, and another leaves it as soon as it can.
 pub(crate) fn steps_kept(

@@ -1,15 +1,18 @@
 //! The repair after which a flight is late.
-ghost use Rattle.std.specs.Prelude.{◌≡◌, List, Option, Some, None, AllPairs, IfOk, OnOk, IsFalse, bytes_eq};
+ghost use Rattle.std.specs.Prelude.{◌≡◌, List, Option, Some, None, map, IfOk, OnErr};
 ghost use Rattle.taxi_base.specs.declared.answers.Found.{Found};
-ghost use Rattle.taxi_base.specs.State.{State, flight_named, IsSound};
-ghost use Rattle.std.specs.Option.{ForSome};
+ghost use Rattle.taxi_base.specs.State.{State, IsFeasibleState, IsSound};
 ghost use Rattle.taxi_base.specs.Late.{Delay as Late, Meeting, IsDelay, AreInTheWay, base_state, IsTurnOf, AreTurns};
 ghost use Rattle.certificate.specs.Repairs.{delay_of, names_in_turn, request_at_turn, entry_told, entries_told};
 ghost use Rattle.commitments.specs.Book.{Fits};
-ghost use Rattle.late_repair.specs.Repairing.{IsRepairedAs, MayTakeTurn};
+ghost use Rattle.commitments.specs.Room.{HasRoomForAll};
+ghost use Rattle.late_repair.specs.Repairing.{IsRepairedAs, WaitsForTurn};
+ghost use Rattle.late_repair.specs.TakenOut.{name_of, taken_back, AreOut, IsFound, ChangesOnly, ChangesTheirs};
 
-use crate::base::base_ledger;
 use crate::delay::Delay;
+use crate::holder::Holder;
+use crate::placing::place_at_once;
+use crate::taken_out::{TakenOut, take_back, take_out};
 use crate::turn::take_turn;
 use crate::who::names_in_turn;
 use airport_file::Airport;
@@ -17,7 +20,7 @@ use certificate::{Entries, Entry};
 use commitments::Ledger;
 use place_cells::SearchRoom;
 use std::alloc::Global;
-use taxi_base::{Memory, Name, Time, under_way};
+use taxi_base::{Memory, Name, Step, Time, under_way};
 
 /// A flight that at a time is on a step, and stays there until a second.
 #[derive(Clone, Copy, Debug, PartialEq, Eq)]
@@ -27,98 +30,134 @@ pub struct Lateness {
     pub until: Time,
 }
 
-/// What comes of it: who is in force then, and what the flight and those in its way are told in turn.
+/// What comes of it: what the flight and those in its way are told in turn, and how all of them were in force before.
 #[derive(Drop)]
 pub struct Repaired {
-    pub ledger: Ledger,
     pub entries: Entries,
+    pub before: TakenOut,
 }
 
-/// A ledger of its own in which a flight that is late stays on its step, and those in its way have taken their turns. What an earlier
-/// search left in the room does not matter.
+/// A flight that is late stays on its step, and those in its way take their turns. After an error all are in force as before. What an
+/// earlier search left in the room does not matter.
 pub fn repair(
     alloc: Global,
     room: &mut SearchRoom,
     airport: &Airport,
-    ledger: &Ledger,
+    ledger: &mut Ledger,
     late: &Lateness,
 ) -> Result<Repaired, Memory>
-    requires fits { Fits airport.now ledger.now }
-    requires unlifted { ledger.now.lifted ≡ None }
-    requires sound { IsSound airport.now ledger.now.state }
+    requires fits { Fits airport.now ledger.old }
+    requires unlifted { ledger.old.lifted ≡ None }
+    requires sound { IsSound airport.now ledger.old.state }
+    requires delay { (delay : Late) × (delay_of ledger.old.state late.now.flight late.now.time late.now.until ≡ Some delay) × IsDelay airport.now ledger.old.state delay }
+    ensures repaired { IfOk result (λ done. (delay : Late) × (delay_of ledger.old.state late.now.flight late.now.time late.now.until ≡ Some delay) × IsRepairedAs airport.now ledger.old.state delay done.entries ledger.new.state) }
+    ensures back { IfOk result (λ done. taken_back done.before ledger.new.state ≡ ledger.old.state) }
+    ensures room { IfOk result (λ _. HasRoomForAll airport.now ledger.old.state ledger.new) }
+    ensures err { OnErr result (ledger.new.state ≡ ledger.old.state) }
+    ensures unlifted { ledger.new.lifted ≡ None }
+    ensures fits { Fits airport.now ledger.new }
+{
+    let (begun, names) = plan_turns(alloc, airport, ledger, late)?;
+    let before = take_out(alloc, airport, ledger, names.as_slice())?;
+    let delay = Delay::of(before.first_flight(), begun, late.time, late.until);
+    match let_through(alloc, room, airport, &delay, &before, ledger) {
+        Ok(entries) => Ok(Repaired { entries, before }),
+        Err(memory) => {
+            take_back(airport, ledger, before);
+            Err(memory)
+        }
+    }
+}
+
+// The step on which the flight stays, and whose turn it is, one after the other.
+fn plan_turns(
+    alloc: Global,
+    airport: &Airport,
+    ledger: &Ledger,
+    late: &Lateness,
+) -> Result<(Step, Vec<Name>), Memory>
+    requires feasible { IsFeasibleState airport.now ledger.now.state }
     requires delay { (delay : Late) × (delay_of ledger.now.state late.now.flight late.now.time late.now.until ≡ Some delay) × IsDelay airport.now ledger.now.state delay }
-    ensures repaired { IfOk result (λ done. (delay : Late) × (delay_of ledger.now.state late.now.flight late.now.time late.now.until ≡ Some delay) × IsRepairedAs airport.now ledger.now.state delay done.entries done.ledger.state) }
-    ensures unlifted { IfOk result (λ done. done.ledger.lifted ≡ None) }
-    ensures fits { IfOk result (λ done. Fits airport.now done.ledger) }
+    ensures { IfOk result (λ plan. (delay : Late) × (delay_of ledger.now.state late.now.flight late.now.time late.now.until ≡ Some delay) × (plan.0 ≡ delay.begun) × ((meetings : List Meeting) × AreInTheWay airport.now ledger.now.state delay meetings × (plan.1.items ≡ names_in_turn delay meetings))) }
 {
     let flight = ledger.flight(&late.flight).unwrap();
     let (begun, _) = under_way(flight.steps.as_slice(), late.time).unwrap();
     let delay = Delay::of(flight, *begun, late.time, late.until);
     let names = names_in_turn(alloc, airport, ledger, &delay)?;
-    let mut after = base_ledger(alloc, airport, ledger, &delay)?;
-    let entries = take_turns(
-        alloc,
-        room,
-        airport,
-        ledger,
-        &delay,
-        names.as_slice(),
-        &mut after,
-    )?;
-    Ok(Repaired {
-        ledger: after,
-        entries,
-    })
+    Ok((*begun, names))
 }
 
-// The turns of the holders of some names, one after the other, in a ledger of its own.
+// Those that were taken out are put in force on the steps that they keep, and take their turns.
+fn let_through(
+    alloc: Global,
+    room: &mut SearchRoom,
+    airport: &Airport,
+    delay: &Delay<'_>,
+    before: &TakenOut,
+    ledger: &mut Ledger,
+) -> Result<Entries, Memory>
+    requires fits { Fits airport.now ledger.old }
+    requires unlifted { ledger.old.lifted ≡ None }
+    requires sound { IsSound airport.now (taken_back before.now ledger.old.state) }
+    requires delay { IsDelay airport.now (taken_back before.now ledger.old.state) delay.now }
+    requires in_turn { (meetings : List Meeting) × AreInTheWay airport.now (taken_back before.now ledger.old.state) delay.now meetings × (map name_of before.now ≡ names_in_turn delay.now meetings) }
+    requires out { AreOut ledger.old.state before.now }
+    ensures repaired { IfOk result (λ entries. IsRepairedAs airport.now (taken_back before.now ledger.old.state) delay.now entries ledger.new.state) }
+    ensures theirs { ChangesTheirs before.now ledger.old ledger.new }
+    ensures unlifted { ledger.new.lifted ≡ None }
+    ensures fits { Fits airport.now ledger.new }
+{
+    place_at_once(alloc, airport, delay, before, ledger)?;
+    take_turns(alloc, room, airport, delay, before, ledger)
+}
+
+// The turns of those that were taken out, one after the other.
 fn take_turns(
     alloc: Global,
     room: &mut SearchRoom,
     airport: &Airport,
-    ledger: &Ledger,
     delay: &Delay<'_>,
-    names: &[Name],
-    after: &mut Ledger,
+    before: &TakenOut,
+    ledger: &mut Ledger,
 ) -> Result<Entries, Memory>
-    requires sound { IsSound airport.now ledger.now.state }
-    requires delay { IsDelay airport.now ledger.now.state delay.now }
-    requires in_turn { (meetings : List Meeting) × AreInTheWay airport.now ledger.now.state delay.now meetings × (names.now ≡ names_in_turn delay.now meetings) }
-    requires base { after.old.state ≡ base_state airport.now ledger.now.state delay.now }
-    requires fits { Fits airport.now after.old }
-    requires unlifted { after.old.lifted ≡ None }
-    ensures turns { IfOk result (λ entries. (tells : List (Option Found)) × AreTurns airport.now delay.now ledger.now.state names.now after.old.state tells after.new.state × (entries ≡ entries_told airport.now delay.now ledger.now.state names.now tells)) }
-    ensures unlifted { OnOk result (after.new.lifted ≡ None) }
-    ensures fits { OnOk result (Fits airport.now after.new) }
+    requires fits { Fits airport.now ledger.old }
+    requires unlifted { ledger.old.lifted ≡ None }
+    requires sound { IsSound airport.now (taken_back before.now ledger.old.state) }
+    requires delay { IsDelay airport.now (taken_back before.now ledger.old.state) delay.now }
+    requires in_turn { (meetings : List Meeting) × AreInTheWay airport.now (taken_back before.now ledger.old.state) delay.now meetings × (map name_of before.now ≡ names_in_turn delay.now meetings) }
+    requires base { ledger.old.state ≡ base_state airport.now (taken_back before.now ledger.old.state) delay.now }
+    ensures turns { IfOk result (λ entries. (tells : List (Option Found)) × AreTurns airport.now delay.now (taken_back before.now ledger.old.state) (map name_of before.now) ledger.old.state tells ledger.new.state × (entries ≡ entries_told airport.now delay.now (taken_back before.now ledger.old.state) (map name_of before.now) tells)) }
+    ensures theirs { ChangesTheirs before.now ledger.old ledger.new }
+    ensures unlifted { ledger.new.lifted ≡ None }
+    ensures fits { Fits airport.now ledger.new }
 {
     let mut entries = Entries::new(alloc);
-    for name in names {
-        let entry = take_turn_of(alloc, room, airport, ledger, delay, name, after)?;
-        entries.push(*name, entry)?;
+    for holder in before.holders() {
+        let entry = take_turn_of(alloc, room, airport, delay, holder, ledger)?;
+        entries.push(*holder.name(), entry)?;
     }
     Ok(entries)
 }
 
-// The turn of the holder that had a name at first. A work party is dropped.
+// The turn of one that was taken out. A work party is dropped.
 fn take_turn_of(
     alloc: Global,
     room: &mut SearchRoom,
     airport: &Airport,
-    ledger: &Ledger,
     delay: &Delay<'_>,
-    name: &Name,
-    after: &mut Ledger,
+    holder: &Holder,
+    ledger: &mut Ledger,
 ) -> Result<Entry, Memory>
-    requires sound { IsSound airport.now ledger.now.state }
-    requires may { ForSome (flight_named name.now ledger.now.state.flights) (MayTakeTurn airport.now delay.now after.old.state) }
-    requires fits { Fits airport.now after.old }
-    requires unlifted { after.old.lifted ≡ None }
-    ensures turn { IfOk result (λ entry. (told : Option Found) × IsTurnOf airport.now delay.now ledger.now.state name.now after.old.state told after.new.state × (entry ≡ entry_told (request_at_turn airport.now delay.now ledger.now.state name.now) told)) }
-    ensures unlifted { OnOk result (after.new.lifted ≡ None) }
-    ensures fits { OnOk result (Fits airport.now after.new) }
+    requires fits { Fits airport.now ledger.old }
+    requires unlifted { ledger.old.lifted ≡ None }
+    requires waits { WaitsForTurn airport.now delay.now ledger.old.state holder.now }
+    ensures turn { (at_first : State) → IsFound at_first holder.now → IfOk result (λ entry. (told : Option Found) × IsTurnOf airport.now delay.now at_first (name_of holder.now) ledger.old.state told ledger.new.state × (entry ≡ entry_told (request_at_turn airport.now delay.now at_first (name_of holder.now)) told)) }
+    ensures only { ChangesOnly (name_of holder.now) ledger.old ledger.new }
+    ensures unlifted { ledger.new.lifted ≡ None }
+    ensures fits { Fits airport.now ledger.new }
 {
-    match ledger.flight(name) {
-        Some(flight) => take_turn(alloc, room, airport, delay, flight, after),
-        None => Ok(Entry::Dropped),
+    match holder {
+        Holder::Flight(flight) => take_turn(alloc, room, airport, delay, flight, ledger),
+        Holder::Party(_) => Ok(Entry::Dropped),
     }
 }

@@ -1,20 +1,18 @@
 //! The turn of one flight.
-ghost use Rattle.std.specs.Prelude.{◌≡◌, ◌<◌, List as Items, Option, Some, None, [], length, IfOk, OnOk, IsFalse};
-ghost use Rattle.std.specs.Option.{ForSome};
+ghost use Rattle.std.specs.Prelude.{◌≡◌, ◌<◌, Option, Some, None, length, IfOk, OnOk, IsFalse};
 ghost use Rattle.taxi_base.specs.declared.answers.Found.{Found as FoundSeen};
-ghost use Rattle.taxi_base.specs.declared.answers.Found.TheVariants.{NoRoute};
-ghost use Rattle.taxi_base.specs.declared.rows.LabelRow.{LabelRow as Label};
 ghost use Rattle.taxi_base.specs.Walks.{IsFeasibleWalk};
-ghost use Rattle.taxi_base.specs.State.{State, flight_named, has_holder, holder_count, without, conditions_of};
+ghost use Rattle.taxi_base.specs.State.{State, has_holder, holder_count, without, conditions_of};
 ghost use Rattle.taxi_base.specs.Faults.{conditions_in};
 ghost use Rattle.taxi_base.specs.Late.{steps_kept, request_sought, request_routed, after_turn, IsTurnOfFlight};
 ghost use Rattle.certificate.specs.Routed.{second_of};
 ghost use Rattle.certificate.specs.Repairs.{entry_told};
 ghost use Rattle.commitments.specs.Book.{Fits};
 ghost use Rattle.late_repair.specs.Repairing.{MayTakeTurn, IsTimely, HasWalk};
+ghost use Rattle.late_repair.specs.TakenOut.{ChangesOnly};
 
 use crate::delay::Delay;
-use crate::force::put_in_force;
+use crate::force::{keep_in_force, put_in_force};
 use crate::kept::{copy_of, steps_kept};
 use crate::seeking::find_way;
 use airport_file::Airport;
@@ -40,8 +38,9 @@ pub(crate) fn take_turn(
     requires timely { IsTimely airport.now flight.now.request }
     requires may { MayTakeTurn airport.now delay.now ledger.old.state flight.now }
     ensures turn { IfOk result (λ entry. (told : Option FoundSeen) × IsTurnOfFlight airport.now delay.now flight.now ledger.old.state told ledger.new.state × (entry ≡ entry_told (request_sought flight.now.request (steps_kept airport.now delay.now flight.now)) told)) }
-    ensures unlifted { OnOk result (ledger.new.lifted ≡ None) }
-    ensures fits { OnOk result (Fits airport.now ledger.new) }
+    ensures only { ChangesOnly flight.now.name ledger.old ledger.new }
+    ensures unlifted { ledger.new.lifted ≡ None }
+    ensures fits { Fits airport.now ledger.new }
 {
     if matches!(flight.request, Request::Filed) {
         return Ok(Entry::Dropped);
@@ -81,8 +80,9 @@ fn settle(
     requires found { HasWalk (conditions_in airport.now flight.now.class ledger.old.state) found }
     ensures state { OnOk result ((now : State) → ledger.old.state ≡ without flight.now.name now → ledger.new.state ≡ after_turn now flight.now kept found) }
     ensures told { IfOk result (λ entry. entry ≡ entry_told (request_sought flight.now.request kept) (Some found)) }
-    ensures unlifted { OnOk result (ledger.new.lifted ≡ None) }
-    ensures fits { OnOk result (Fits airport.now ledger.new) }
+    ensures only { ChangesOnly flight.now.name ledger.old ledger.new }
+    ensures unlifted { ledger.new.lifted ≡ None }
+    ensures fits { Fits airport.now ledger.new }
 {
     match found {
         Found::Route { steps, labels } => {
@@ -98,32 +98,10 @@ fn settle(
             })
         }
         Found::NoRoute { labels } => {
-            keep_in_force(airport, flight, ledger, kept)?;
+            keep_in_force(airport, ledger, flight, Request::Filed, kept)?;
             Ok(Entry::NoRoute { labels })
         }
     }
-}
-
-// Puts a flight that is out in force on the steps that it keeps, if there are any.
-fn keep_in_force(
-    airport: &Airport,
-    flight: &Flight,
-    ledger: &mut Ledger,
-    kept: List<Step>,
-) -> Result<(), Memory>
-    requires fits { Fits airport.now ledger.old }
-    requires unlifted { ledger.old.lifted ≡ None }
-    requires absent { IsFalse (has_holder flight.now.name ledger.old.state) }
-    requires few { holder_count ledger.old.state < 4096 }
-    requires kept { 0 < length kept → IsFeasibleWalk (conditions_in airport.now flight.now.class ledger.old.state) kept }
-    ensures state { OnOk result ((now : State) (labels : Items Label) → ledger.old.state ≡ without flight.now.name now → ledger.new.state ≡ after_turn now flight.now kept (NoRoute labels)) }
-    ensures unlifted { OnOk result (ledger.new.lifted ≡ None) }
-    ensures fits { OnOk result (Fits airport.now ledger.new) }
-{
-    if kept.as_slice().is_empty() {
-        return Ok(());
-    }
-    put_in_force(airport, ledger, flight, Request::Filed, kept)
 }
 
 // What a flight with kept steps seeks: a departure that has begun goes on as an arrival does.

@@ -1,4 +1,3 @@
 pub mod SlackLaws
-pub mod PartyLaws
 pub mod RowLaws
 pub mod TableLaws

@@ -1,7 +1,6 @@
 -- One more row of the table.
-use Rattle.std.proofs.Common.{◌≡◌, inl, inr, ℕ, zero, suc, ◌+◌, ◌-◌, ◌<◌, ◌≤◌, List, [], ◌∷◌, ◌++◌, map, length, take, get_or, Some, refl, sym, ap, subst, ◌∙◌, arith, append_assoc, append-nil}
-use Rattle.std.specs.Prelude.{All, Contains, IsTrue, IsSome, slice_get, bytes_eq}
-use Rattle.std.proofs.lemmas.Bool.{cases_Bool}
+use Rattle.std.proofs.Common.{◌≡◌, ℕ, ◌+◌, ◌-◌, ◌<◌, ◌≤◌, List, [], ◌∷◌, ◌++◌, map, length, take, get_or, Some, refl, sym, ap, subst, ◌∙◌, arith, append_assoc, append-nil}
+use Rattle.std.specs.Prelude.{All, Contains, IsTrue, slice_get}
 use Rattle.std.proofs.lemmas.List.{map-append, length-take}
 use Rattle.std.proofs.lemmas.List.Elements.{All-contains, All-weaker}
 use Rattle.std.proofs.lemmas.Option.{get_or_from_slice_get, slice_get_within}
@@ -10,8 +9,7 @@ use Rattle.taxi_base.specs.declared.rows.Step.{Step}
 use Rattle.taxi_base.specs.declared.answers.Flight.{Flight}
 use Rattle.taxi_base.specs.declared.answers.Party.{Party}
 use Rattle.taxi_base.specs.Airport.{Airport, IsWellFormed, arc_exists, layout_of}
-use Rattle.taxi_base.specs.State.{State, flight_named, without, party_hold, conditions_of, IsFeasibleHold, IsFeasibleState}
-use Rattle.taxi_base.proofs.FlightNames.{same}
+use Rattle.taxi_base.specs.State.{State, without, party_hold, conditions_of, IsFeasibleHold, IsFeasibleState}
 use Rattle.taxi_base.proofs.AirportLaws.{seconds-range}
 use Rattle.taxi_base.proofs.WalkLaws.{IsFeasibleWalk-steps, IsFeasibleStep-takes}
 use Rattle.taxi_base.specs.Walks.{Conditions, IsFeasibleStep, IsFeasibleWalk}
@@ -70,20 +68,9 @@ pub party-more-at : (airport : Airport) (state : State) (i : ℕ) (party : Party
     → ArePartyRows airport state (take i state.parties) rows → IsPartyRow airport state party row → ArePartyRows airport state (take (i + 1) state.parties) (rows ++ row ∷ [])
 party-more-at airport state i party rows row found are is = rw (taken state.parties i party found) (parties-more airport state (take i state.parties) rows party row are is)
 
--- what is at a place is among all, and a flight is found by its name
+-- what is at a place is among all
 pub at-place : {A : Type 0} (xs : List A) (i : ℕ) (x : A) → slice_get xs i ≡ Some x → Contains xs x
 at-place xs i x found = (i, slice_get_within xs i x found, get_or_from_slice_get xs i x x found)
-
-pub named-there : (flights : List Flight) (i : ℕ) (x : Flight) → slice_get flights i ≡ Some x → IsSome (flight_named x.name flights)
-named-there [] i x found = absurd (cc found)
-named-there (f ∷ flights) zero x found =
-    let is : f ≡ x = cc found in
-    let name : IsTrue (bytes_eq f.name x.name) = same f.name x.name (ap (λ (g : Flight). g.name) is) in
-    rw name refl
-named-there (f ∷ flights) (suc i) x found = elim (cases_Bool (bytes_eq f.name x.name)) [
-  | inl name ↦ rw name refl
-  | inr other ↦ rw other (named-there flights i x found)
-]
 
 -- ---- the records of rows
 

@@ -26,6 +26,6 @@ IsStepSlack airport state flight step = IsSlack (λ d. IsFeasibleStep (condition
 abbrev pub IsPartySlack : Airport → State → Party → ℕ → Type 0
 IsPartySlack airport state party = IsSlack (λ d. IsFeasibleHold airport (without party.name state) (party_hold (ended_later d party)))
 
--- the last second at which a step may be left in a window that ends then
+-- the last second at which a step may be left whose segment is free up to then
 abbrev pub latest_leave : ℕ → ℕ → ℕ → ℕ
 latest_leave horizon clearance end = if end == horizon then horizon else end - clearance

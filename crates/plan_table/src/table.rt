@@ -1,5 +1,5 @@
 //! The table, row by row.
-ghost use Rattle.std.specs.Prelude.{◌≡◌, ◌<◌, ◌++◌, ◌∷◌, [], List, Some, None, IfOk, IfSome, OnOk, Contains, map, length, slice_get};
+ghost use Rattle.std.specs.Prelude.{◌≡◌, ◌∷◌, [], List, None, IfOk, OnOk, Contains, map};
 ghost use Rattle.taxi_base.specs.declared.answers.Flight.{Flight as FlightOf};
 ghost use Rattle.taxi_base.specs.Walks.{IsFeasibleStep};
 ghost use Rattle.taxi_base.specs.State.{conditions_of};
@@ -19,19 +19,17 @@ use commitments::Ledger;
 use std::alloc::Global;
 use taxi_base::{Flight, Memory, Party, Step};
 
-/// The plan of the flights and work parties of a ledger, with its times as seconds or, where a start is given, as civil times. The
-/// ledger is as before, but for a flight that stays lifted where memory runs out.
+/// The plan of the flights and work parties of a ledger, with its times as seconds or, where a start is given, as civil times. The only
+/// error is that memory ran out.
 pub fn write_plan(
     alloc: Global,
     airport: &Airport,
-    ledger: &mut Ledger,
+    ledger: &Ledger,
     start: &Option<Start>,
 ) -> Result<Vec<u8>, Memory>
-    requires fits { Fits airport.now ledger.old }
-    requires unlifted { ledger.old.lifted ≡ None }
-    ensures plan { IfOk result (λ text. IsPlan airport.now ledger.old.state start.now text.items) }
-    ensures state { ledger.new.state ≡ ledger.old.state }
-    ensures fits { Fits airport.now ledger.new }
+    requires fits { Fits airport.now ledger.now }
+    requires unlifted { ledger.now.lifted ≡ None }
+    ensures { IfOk result (λ text. IsPlan airport.now ledger.now.state start.now text.items) }
 {
     let mut records = RecordWriter::new(alloc);
     write_header(&mut records)?;
@@ -44,26 +42,20 @@ pub fn write_plan(
 fn write_flights(
     records: &mut RecordWriter,
     airport: &Airport,
-    ledger: &mut Ledger,
+    ledger: &Ledger,
     start: &Option<Start>,
 ) -> Result<(), Memory>
-    requires fits { Fits airport.now ledger.old }
-    requires unlifted { ledger.old.lifted ≡ None }
-    ensures rows { OnOk result ((rows : List RowOf) × AreFlightRows airport.now ledger.old.state ledger.old.state.flights rows × (records.new ≡ and_records records.old (map (row_fields start.now) rows))) }
-    ensures state { ledger.new.state ≡ ledger.old.state }
-    ensures fits { Fits airport.now ledger.new }
-    ensures unlifted { OnOk result (ledger.new.lifted ≡ None) }
+    requires fits { Fits airport.now ledger.now }
+    requires unlifted { ledger.now.lifted ≡ None }
+    ensures { OnOk result ((rows : List RowOf) × AreFlightRows airport.now ledger.now.state ledger.now.state.flights rows × (records.new ≡ and_records records.old (map (row_fields start.now) rows))) }
 {
     for place in 0..ledger.count() {
-        let name = ledger.at(place).name;
-        ledger.lift(airport, &name);
         write_flight(records, airport, ledger, ledger.at(place), start)?;
-        ledger.lower(airport);
     }
     Ok(())
 }
 
-// The rows of the lifted flight.
+// The rows of a flight in force.
 fn write_flight(
     records: &mut RecordWriter,
     airport: &Airport,
@@ -72,7 +64,7 @@ fn write_flight(
     start: &Option<Start>,
 ) -> Result<(), Memory>
     requires fits { Fits airport.now ledger.now }
-    requires lifted { ledger.now.lifted ≡ Some flight.now.name }
+    requires unlifted { ledger.now.lifted ≡ None }
     requires in_force { Contains ledger.now.state.flights flight.now }
     ensures { OnOk result ((rows : List RowOf) × AreStepRows airport.now ledger.now.state flight.now 1 flight.now.steps rows × (records.new ≡ and_records records.old (map (row_fields start.now) rows))) }
 {
@@ -86,7 +78,7 @@ fn write_flight(
     Ok(())
 }
 
-// The row of a step of the lifted flight.
+// The row of a step of a flight in force.
 fn write_step(
     records: &mut RecordWriter,
     airport: &Airport,
@@ -97,7 +89,7 @@ fn write_step(
     start: &Option<Start>,
 ) -> Result<(), Memory>
     requires fits { Fits airport.now ledger.now }
-    requires lifted { ledger.now.lifted ≡ Some flight.now.name }
+    requires unlifted { ledger.now.lifted ≡ None }
     requires in_force { Contains ledger.now.state.flights flight.now }
     requires feasible { IsFeasibleStep (conditions_of airport.now ledger.now.state flight.now) step.now }
     ensures { OnOk result ((row : RowOf) × IsStepRow airport.now ledger.now.state flight.now number step.now row × (records.new ≡ and_records records.old (row_fields start.now row ∷ []))) }

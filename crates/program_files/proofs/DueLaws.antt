@@ -3,8 +3,8 @@ use Rattle.std.proofs.Common.{◌≡◌, ◌≤◌, inl, inr, ℕ, List, length,
 use Rattle.taxi_base.specs.Airport.{Airport}
 use Rattle.taxi_io.specs.Files.{Files, IsFile, IsLonger, file_of}
 use Rattle.airport_file.specs.Reading.{RecordFault}
-use Rattle.program_endings.specs.declared.status.Status.{Status}
-use Rattle.program_endings.specs.declared.status.Status.TheVariants as status
+use Rattle.program_files.specs.declared.status.Status.{Status}
+use Rattle.program_files.specs.declared.status.Status.TheVariants as status
 use Rattle.program_words.specs.Verb.{FileNames}
 use Rattle.program_files.specs.Inputs.{airport_limit, commands_limit, IsJudged, AreAccepted, IsRunTooLarge}
 use Rattle.program_files.specs.Due.{IsDueOfFile, IsDueOfJudgement, IsDueOfAirport, IsDueOfRun}

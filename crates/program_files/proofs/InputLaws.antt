@@ -1,5 +1,5 @@
 -- Why a file that is not read whole ends the call.
-use Rattle.std.proofs.Common.{◌≡◌, ◌≤◌, ◌++◌, ◌∙◌, ℕ, List, Option, Ok, inl, inr, refl, append_assoc, arith}
+use Rattle.std.proofs.Common.{◌≡◌, ◌≤◌, ◌++◌, ◌∙◌, ℕ, List, Option, Ok, inr, refl, append_assoc, arith}
 use Rattle.taxi_base.specs.Airport.{Airport}
 use Rattle.taxi_io.specs.Counts.{Rose}
 use Rattle.taxi_io.specs.Files.{Files, IsLonger, BeganMore}
@@ -25,14 +25,7 @@ airport_cause told name faults stop.ReadFault cause = cause
 airport_cause told name faults stop.TooLarge cause = cause
 airport_cause told name faults stop.Memory cause = cause
 
--- what stops the reading of a run's files stops that of a check
-pub run_cause : (told : Option Files) (names : FileNames) (transcript : List ℕ) (faults : ℕ × ℕ) (why : Stop) → IsCause told (Route names) faults why → IsCause told (Check names transcript) faults why
-run_cause told names transcript faults (stop.Refused at why) cause = cause
-run_cause told names transcript faults stop.ReadFault cause = cause
-run_cause told names transcript faults stop.TooLarge cause = inl cause
-run_cause told names transcript faults stop.Memory cause = cause
-
--- and that of an import
+-- what stops the reading of a run's files stops that of an import
 pub import_cause : (told : Option Files) (names : FileNames) (faults : ℕ × ℕ) (why : Stop) → IsCause told (Route names) faults why → IsCause told (Import names) faults why
 import_cause told names faults (stop.Refused at why) cause = cause
 import_cause told names faults stop.ReadFault cause = cause

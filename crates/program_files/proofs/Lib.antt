@@ -1,2 +1,3 @@
+pub mod EndingLaws
 pub mod InputLaws
 pub mod DueLaws

@@ -3,8 +3,8 @@ use Rattle.std.specs.Prelude.{◌≡◌, ◌<◌, ◌≤◌, ◌⊎◌, ℕ, Lis
 use Rattle.taxi_base.specs.Airport.{Airport}
 use Rattle.taxi_io.specs.Files.{Files, file_of}
 use Rattle.airport_file.specs.Reading.{RecordFault, airport_of}
-use Rattle.program_endings.specs.declared.status.Status.{Status}
-use Rattle.program_endings.specs.declared.status.Status.TheVariants.{AirportRefused, TooLarge}
+use Rattle.program_files.specs.declared.status.Status.{Status}
+use Rattle.program_files.specs.declared.status.Status.TheVariants.{AirportRefused, TooLarge}
 use Rattle.program_words.specs.Verb.{FileNames}
 use Rattle.program_files.specs.Inputs.{airport_limit, commands_limit}
 

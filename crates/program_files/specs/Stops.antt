@@ -10,13 +10,12 @@ use Rattle.taxi_io.specs.declared.trouble.Trouble.TheVariants as trouble
 use Rattle.airport_file.specs.declared.read.AirportRefused.{AirportRefused}
 use Rattle.airport_file.specs.declared.read.AirportRefused.TheVariants as airport
 use Rattle.program_words.specs.Verb.{Verb}
-use Rattle.program_endings.specs.declared.status.Status.{Status}
-use Rattle.program_endings.specs.declared.status.Status.TheVariants as status
-use Rattle.program_endings.specs.LastLine.{EndsWith}
-use Rattle.program_endings.specs.Lines.{read_fault_line, too_large_line}
+use Rattle.program_files.specs.declared.status.Status.{Status}
+use Rattle.program_files.specs.declared.status.Status.TheVariants as status
+use Rattle.program_files.specs.LastLine.{EndsWith}
+use Rattle.program_files.specs.Lines.{read_fault_line, too_large_line, refusal_line}
 use Rattle.program_files.specs.declared.stop.Stop.{Stop}
 use Rattle.program_files.specs.declared.stop.Stop.TheVariants.{Refused, ReadFault, TooLarge, Memory}
-use Rattle.program_files.specs.Lines.{refusal_line}
 use Rattle.program_files.specs.Inputs.{airport_limit, IsJudged, IsRefused, IsReadFault, IsTooLarge}
 
 -- how a file that isn't read whole ends the call

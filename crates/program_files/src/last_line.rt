@@ -1,11 +1,25 @@
-//! The line that ends a call whose airport file is refused.
+//! The lines that end a call whose files can't be read, or whose airport file is refused.
 ghost use Rattle.std.specs.Prelude.{◌≡◌, ◌≤◌, length};
 ghost use Rattle.airport_rules.specs.Faults.{fault_word};
-ghost use Rattle.program_files.specs.Lines.{refusal_line};
+ghost use Rattle.program_files.specs.Lines.{read_fault_line, too_large_line, refusal_line};
 
 use airport_file::AirportFault;
 use itoa::Buffer;
 use taxi_text::ShortText;
+
+/// A read failed, or a file isn't there.
+pub fn read_fault_line() -> &'static [u8]
+    ensures { result.now ≡ read_fault_line }
+{
+    b"read fault\n"
+}
+
+/// A file is longer than its limit.
+pub fn too_large_line() -> &'static [u8]
+    ensures { result.now ≡ too_large_line }
+{
+    b"too large\n"
+}
 
 /// The record that breaks a rule, counted from 1, and the rule.
 #[tactic(auto, unfolding(crate::specs::Lines::refusal_line))]

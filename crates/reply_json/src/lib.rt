@@ -2,6 +2,7 @@
 #![tactic(auto)]
 
 mod entries;
+mod laws;
 mod line;
 mod lists;
 mod members;
@@ -14,4 +15,5 @@ mod rows;
 mod short_replies;
 mod words;
 
-pub use line::{done_line, object_line};
+pub use laws::words_give_the_line;
+pub use line::{done_line, write_object_line};

@@ -1,5 +1,5 @@
 //! The line of a command and its reply, and the last line.
-ghost use Rattle.std.specs.Prelude.{◌≡◌, string_bytes, IfOk, OnOk};
+ghost use Rattle.std.specs.Prelude.{◌≡◌, ◌++◌, string_bytes, IfOk, OnOk};
 ghost use Rattle.certificate.specs.declared.block.Block.{Block as Plain};
 ghost use Rattle.certificate.specs.Printable.{IsPrintable};
 ghost use Rattle.certificate.specs.Texts.{block_text};
@@ -20,22 +20,23 @@ use std::alloc::Global;
 use taxi_base::Memory;
 use taxi_text::{ShortText, push_bytes};
 
-/// The line of a command, which stands in a line of its file, and of the reply to it. The only error is that memory ran out.
-pub fn object_line(
+/// Writes the line of a command, which stands in a line of its file, and of the reply to it at the end. The only error is that memory ran
+/// out.
+pub fn write_object_line(
     alloc: Global,
     airport: &Airport,
     command: u64,
     number: u64,
     line: &[u8],
     reply: &[u8],
-) -> Result<Vec<u8>, Memory>
+    out: &mut Vec<u8>,
+) -> Result<(), Memory>
     requires reply { (block : Plain) × IsPrintable airport.now block × (reply.now ≡ block_text airport.now block) }
-    ensures { (block : Plain) → IsPrintable airport.now block → reply.now ≡ block_text airport.now block → IfOk result (λ text. text.items ≡ object_line airport.now command number line.now block) }
+    ensures { (block : Plain) → IsPrintable airport.now block → reply.now ≡ block_text airport.now block → OnOk result (out.new.items ≡ out.old.items ++ object_line airport.now command number line.now block) }
 {
     let block = read_back(alloc, airport, reply)?;
-    let mut out = object_text(alloc, airport, command, number, line, &block)?;
-    push_bytes(&mut out, b"\n")?;
-    Ok(out)
+    write_whole_object(alloc, airport, command, number, line, &block, out)?;
+    push_bytes(out, b"\n")
 }
 
 // The block whose text a reply is.
@@ -51,20 +52,22 @@ fn read_back(alloc: Global, airport: &Airport, reply: &[u8]) -> Result<Block, Me
     }
 }
 
-// The object of a command and its reply.
-fn object_text(
+// Writes the object of a command and its reply at the end.
+fn write_whole_object(
     alloc: Global,
     airport: &Airport,
     command: u64,
     number: u64,
     line: &[u8],
     block: &Block,
-) -> Result<Vec<u8>, Memory>
+    out: &mut Vec<u8>,
+) -> Result<(), Memory>
     requires { IsPrintable airport.now block.now }
-    ensures { IfOk result (λ text. text.items ≡ compact_text (command_object airport.now command number line.now block.now)) }
+    ensures { OnOk result (out.new.items ≡ out.old.items ++ compact_text (command_object airport.now command number line.now block.now)) }
 {
     if let Block::Refused(why) = block {
-        return Ok(refused_text(alloc, command, number, line, why)?.into_bytes());
+        let text = refused_text(alloc, command, number, line, why)?;
+        return push_bytes(out, text.as_bytes());
     }
     let words = words_text(alloc, line)?;
     let place = Place {
@@ -72,9 +75,7 @@ fn object_text(
         line: number,
         words,
     };
-    let mut out = Vec::new(alloc);
-    write_object(airport, &place, block, &mut out)?;
-    Ok(out)
+    write_object(airport, &place, block, out)
 }
 
 // Writes the object of a reply that is no refusal at the end.

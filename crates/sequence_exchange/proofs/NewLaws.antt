@@ -23,7 +23,7 @@ use Rattle.sequence_exchange.proofs.OrderLaws.{exchanged-All}
 
 -- ---- by names
 
-differ-not_same : (a b : List ℕ) → IsFalse (bytes_eq a b) → a ≢ b
+pub differ-not_same : (a b : List ℕ) → IsFalse (bytes_eq a b) → a ≢ b
 differ-not_same a b other = λ e. both_ways _ other ((bytes_decides a b).1 e)
 
 module _ {X : Type 0} (name_of : X → List ℕ) where
@@ -48,7 +48,7 @@ module _ {X : Type 0} (name_of : X → List ℕ) where
           ]
         ]
 
-    put_in-left_out : (xs : List X) → All (λ y. name_of y ≢ name_of x) xs → left_out name_of (name_of x) (put_in name_of x xs) ≡ xs
+    pub put_in-left_out : (xs : List X) → All (λ y. name_of y ≢ name_of x) xs → left_out name_of (name_of x) (put_in name_of x xs) ≡ xs
     put_in-left_out [] others = rw itself refl
     put_in-left_out (y ∷ ys) others =
         let other : IsFalse (bytes_eq (name_of y) (name_of x)) = differ (name_of y) (name_of x) (All-head (λ z. name_of z ≢ name_of x) y ys others) in

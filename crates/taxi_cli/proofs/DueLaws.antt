@@ -8,8 +8,8 @@ use Rattle.airport_file.specs.Reading.{RecordFault}
 use Rattle.schedule_import.specs.declared.import.ScheduleRefused.{ScheduleRefused as WhyRefused}
 use Rattle.schedule_import.specs.declared.import.ScheduleRefused.TheVariants as why
 use Rattle.schedule_import.specs.Schedule.{import_of}
-use Rattle.program_endings.specs.declared.status.Status.{Status}
-use Rattle.program_endings.specs.declared.status.Status.TheVariants as status
+use Rattle.program_files.specs.declared.status.Status.{Status}
+use Rattle.program_files.specs.declared.status.Status.TheVariants as status
 use Rattle.program_words.specs.Verb.{FileNames, Traffic, Verb, Route, Check, Generate, Migrate, Import}
 use Rattle.program_files.specs.Inputs.{airport_limit, commands_limit, transcript_limit, IsJudged, AreAccepted, IsRefused, IsReadFault, IsRunTooLarge, IsTooLarge}
 use Rattle.text_verbs.specs.Texts.{IsImported}

@@ -1,17 +1,11 @@
 -- How a call ends whose text was to be written.
-use Rattle.std.proofs.Common.{◌≡◌, inl, inr, ℕ, List, Option, Some, Result, Ok, Err, OnOk, OnErr, IsErrOf, refl, sym, ◌∙◌, ap, subst}
+use Rattle.std.proofs.Common.{◌≡◌, inl, inr, ℕ, List, Option, Some, refl, sym, ◌∙◌, ap, subst}
 use Rattle.taxi_base.specs.Airport.{Airport}
 use Rattle.taxi_text.specs.Lines.{commands_of}
-use Rattle.taxi_io.specs.Counts.{Rose}
-use Rattle.taxi_io.specs.Written.{Grew, GrewInPart}
-use Rattle.taxi_io.specs.declared.trouble.Trouble.{Trouble}
-use Rattle.taxi_io.specs.declared.trouble.Trouble.TheVariants as trouble
-use Rattle.program_endings.specs.declared.status.Status.{Status}
-use Rattle.program_endings.specs.declared.status.Status.TheVariants.{Done, Usage, AirportRefused, ReadFault, WriteFault, Memory, TooLarge, Wrong, ScheduleRefused}
+use Rattle.program_files.specs.declared.status.Status.{Status}
+use Rattle.program_files.specs.declared.status.Status.TheVariants.{Done, Usage, AirportRefused, ReadFault, WriteFault, Memory, TooLarge, Wrong, ScheduleRefused}
 use Rattle.taxi_io.proofs.Pieces.{grew-nothing}
-use Rattle.command_run.specs.Answered.{Outputs}
-use Rattle.program_files.specs.Lines.{refusal_line}
-use Rattle.program_endings.specs.Lines.{read_fault_line, too_large_line}
+use Rattle.program_files.specs.Lines.{refusal_line, read_fault_line, too_large_line}
 use Rattle.taxi_cli.specs.Lines.{ok_line, wrong_line}
 use Rattle.transcripts.specs.Runs.{transcript}
 use Rattle.taxi_io.specs.Files.{Files}
@@ -29,18 +23,11 @@ use Rattle.transcript_check.specs.declared.checking.Verdict.TheVariants as verdi
 use Rattle.transcript_check.specs.Verdicts.{IsVerdict}
 use Rattle.program_files.specs.Inputs.{AreToCheck, IsTooLarge}
 use Rattle.taxi_cli.specs.Halts.{IsFaultText, IsLargeText}
-pub use Rattle.program_endings.proofs.EndingLaws.{IsTaken, writing-taken}
-use Rattle.program_endings.proofs.EndingLaws.{writing-ends_as, last-ends_as}
+use Rattle.program_files.proofs.EndingLaws.{last-ends_as}
 use Rattle.taxi_cli.specs.Endings.{Call, IsDueText, IsWhole, Ends}
-use Rattle.program_endings.specs.LastLine.{status_after, IsWriting, EndsWith}
+use Rattle.program_files.specs.LastLine.{EndsWith}
 
--- the writing of the text that is due ends the call
-pub writing-ends : (call : Call) (asked : Option Verb) (whole : Status) (text : List ℕ) (written : Result (Unit {0}) Trouble)
-    → IsDueText call asked whole text → IsTaken text call.writes call.taken written → (IsWhole call asked whole → Ends call asked whole)
-    → Ends call asked (status_after written whole)
-writing-ends call asked whole text written due writing ends = writing-ends_as (IsDueText call asked) call.writes call.taken whole text written due writing ends
-
--- the same, where the writing of a line decided the status, and the line is the text that is due
+-- the writing of a line decided the status, and the line is the text that is due
 pub last-ends : (call : Call) (asked : Option Verb) (whole : Status) (text line : List ℕ) (status : Status)
     → IsDueText call asked whole text → line ≡ text → EndsWith line whole call.writes call.taken status → (IsWhole call asked whole → Ends call asked whole)
     → Ends call asked status

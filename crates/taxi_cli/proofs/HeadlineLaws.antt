@@ -49,8 +49,8 @@ use Rattle.certificate.proofs.BatchNames.{wishes-names}
 use Rattle.certificate.proofs.EntryTurns.{block_of, turns_from, turns-cons}
 use Rattle.certificate.proofs.BatchTurns.{wish-sought, batch-turns}
 use Rattle.certificate.proofs.TurnLaws.{all-one, one_turn}
-use Rattle.program_endings.specs.declared.status.Status.{Status}
-use Rattle.program_endings.specs.declared.status.Status.TheVariants as status
+use Rattle.program_files.specs.declared.status.Status.{Status}
+use Rattle.program_files.specs.declared.status.Status.TheVariants as status
 use Rattle.program_words.specs.Verb.{FileNames, Verb, Route}
 use Rattle.transcripts.specs.Runs.{InTurn, IsRun, blocks_text, done_line, transcript}
 use Rattle.transcript_check.specs.Checks.{IsPassedRun}

@@ -3,7 +3,7 @@ use Rattle.std.proofs.Common.{◌≡◌, ◌≤◌, ◌∷◌, [], inl, inr, ℕ
 use Rattle.taxi_io.specs.Written.{Output}
 use Rattle.taxi_io.proofs.Pieces.{grew-nothing, handed-nothing}
 use Rattle.command_run.specs.Answered.{Told}
-use Rattle.program_endings.specs.declared.status.Status.TheVariants.{Memory}
+use Rattle.program_files.specs.declared.status.Status.TheVariants.{Memory}
 use Rattle.program_words.specs.Verb.{FileNames, Verb}
 use Rattle.taxi_cli.specs.Endings.{Call, Ends}
 use Rattle.taxi_cli.specs.Exit.{KeepsPromises}

@@ -1,5 +1,5 @@
 -- How a run ends: what was due of it where it came to the end of its command file, where it was halted, and where it was cut short.
-use Rattle.std.proofs.Common.{◌≡◌, ◌==◌, ◌<◌, ◌≤◌, ◌++◌, ◌∷◌, ◌∙◌, [], inl, inr, ℕ, List, Bool, true, false, cond, Option, Some, None, Result, Ok, Err, OnOk, OnErr, length, take, option_map, unwrap_or, nat_lt, refl, sym, ap, subst, append_assoc, append-nil, arith}
+use Rattle.std.proofs.Common.{◌≡◌, ◌==◌, ◌<◌, ◌≤◌, ◌++◌, ◌∷◌, ◌∙◌, [], inl, inr, ℕ, List, Bool, true, false, cond, Option, Some, None, Result, Ok, Err, length, take, unwrap_or, nat_lt, refl, sym, ap, subst, append-nil, arith}
 use Rattle.std.proofs.lemmas.Bool.{ltb-true, ltb-false}
 use Rattle.std.specs.List.{count_by}
 use Rattle.std.proofs.lemmas.List.{length-append, take_all, take-append-le, take-append-drop}
@@ -8,114 +8,41 @@ use Rattle.taxi_base.specs.Airport.{Airport}
 use Rattle.taxi_base.specs.State.{State, no_holder}
 use Rattle.taxi_text.specs.Lines.{commands_of, lines_of}
 use Rattle.taxi_io.specs.Counts.{Rose}
-use Rattle.taxi_io.specs.Files.{Files, IsFile, IsLonger, Begins, BeganMore, Gave}
-use Rattle.taxi_io.specs.Written.{Output, Grew, GrewInPart, AreHanded, AreHandedInPart}
-use Rattle.taxi_io.specs.declared.trouble.Trouble.{Trouble}
-use Rattle.taxi_io.specs.declared.trouble.Trouble.TheVariants as trouble
-use Rattle.taxi_io.proofs.Pieces.{grew-nothing, grew-more, handed-nothing, handed-on, handed-all, handed-longer}
+use Rattle.taxi_io.specs.Files.{Files, IsFile, IsLonger, Begins, BeganMore}
+use Rattle.taxi_io.specs.Written.{Output, Grew, GrewInPart, AreHanded}
+use Rattle.taxi_io.proofs.Pieces.{grew-nothing, handed-nothing, handed-on, handed-all, handed-longer}
 use Rattle.certificate.specs.declared.block.Block.{Block}
 use Rattle.transcripts.specs.Runs.{IsRun, blocks_text, done_line, transcript}
 use Rattle.command_run.specs.declared.refused.RunRefused.{RunRefused}
 use Rattle.command_run.specs.declared.refused.RunRefused.TheVariants as refused
 use Rattle.command_run.specs.Ended.{ended_lines_of, unended_lines_of, ended_commands_of, commands_among, commands_within}
-use Rattle.command_run.specs.Answered.{Told, Outputs, AreLeft, texts_of, AreAnswered, IsWholeRun, IsHaltedRun, IsCutRun, IsPrompt, IsStopped}
+use Rattle.command_run.specs.Answered.{Told, texts_of, AreAnswered, IsWholeRun, IsHaltedRun, IsCutRun, IsPrompt, IsStopped}
+use Rattle.command_run.specs.Halts.{HaltsWith}
+use Rattle.command_run.proofs.BegunFiles.{begun-file, taken-file}
 use Rattle.command_run.proofs.Reading.{among-append}
 use Rattle.command_run.proofs.SoFar.{none-answered}
 use Rattle.program_files.specs.declared.stop.Stop.{Stop}
 use Rattle.program_files.specs.declared.stop.Stop.TheVariants as stop
-use Rattle.program_endings.specs.declared.status.Status.{Status}
-use Rattle.program_endings.specs.declared.status.Status.TheVariants as status
+use Rattle.program_files.specs.declared.status.Status.{Status}
+use Rattle.program_files.specs.declared.status.Status.TheVariants as status
 use Rattle.program_words.specs.Verb.{FileNames, Route}
 use Rattle.program_files.specs.Inputs.{airport_limit, commands_limit, IsJudged}
-use Rattle.program_files.specs.Lines.{refusal_line}
-use Rattle.program_endings.specs.Lines.{read_fault_line, too_large_line}
+use Rattle.program_files.specs.Lines.{refusal_line, read_fault_line, too_large_line}
 use Rattle.taxi_cli.specs.Endings.{Call, IsDueText, IsWhole, IsCutShort, Ends}
-use Rattle.program_endings.specs.LastLine.{status_after, IsWriting, EndsWith}
+use Rattle.program_files.specs.LastLine.{EndsWith}
 use Rattle.program_files.specs.Stops.{IsCauseOfAirport, StopsWith, IsCauseOfBegin}
-use Rattle.taxi_cli.specs.RunEnds.{HaltsWith, HasOutcome, IsRunEnd}
+use Rattle.program_files.proofs.EndingLaws.{behind-ends_as, front-of, other-status, line-told, front-told, line-handed, line-handed-whole}
+use Rattle.taxi_cli.specs.RunEnds.{HasOutcome, IsRunEnd}
 use Rattle.taxi_cli.specs.Handed.{AreRunTexts, IsInPieces}
 use Rattle.taxi_cli.specs.Pace.{HaveBegun, HaveBegunFirst, bytes_told, left_of, commands_left, IsHalted, IsCaughtUp, KeepsPace, EndsBeforeCommands}
-use Rattle.taxi_cli.proofs.EndingLaws.{IsTaken, writing-ends, last-ends}
+use Rattle.taxi_cli.proofs.EndingLaws.{last-ends}
 use Rattle.taxi_cli.proofs.HeadlineLaws.{one-judgement, not-longer}
 
--- ---- what is written behind blocks
-
-front-behind : (before now then : Output) (done line : List ℕ) → Grew before now done → GrewInPart now then line → GrewInPart before then (done ++ line)
-front-behind before now then done line grew front =
-    (done ++ front.0, front.1, append_assoc done front.0 front.1 ∙ ap (λ (l : List ℕ). done ++ l) front.2, front.3, grew-more before now then done front.0 grew front.4)
-
--- a line is written behind a text that was written whole
-writing-behind : (done line : List ℕ) (before between after : ℕ) (old now then : Output) (written : Result (Unit {0}) Trouble) → before ≤ between
-    → Grew old now done → IsWriting line (between, after) (now, then) written → IsTaken (done ++ line) (before, after) (old, then) written
-writing-behind done line before between after old now then written later grew writing = record {
-  whole = on_ok written writing.whole;
-  front = on_err written writing.front;
-  failed = λ failed. let rose = writing.failed failed in omega arith;
-}
-  where
-    on_ok : (written : Result (Unit {0}) Trouble) → OnOk written (Grew now then line) → OnOk written (Grew old then (done ++ line))
-    on_ok (Ok _) whole = grew-more old now then done line grew whole
-    on_ok (Err _) whole = tt
-
-    on_err : (written : Result (Unit {0}) Trouble) → OnErr written (GrewInPart now then line) → OnErr written (GrewInPart old then (done ++ line))
-    on_err (Ok _) front = tt
-    on_err (Err _) front = front-behind old now then done line grew front
-
 -- ---- the file that is begun
-
-begun-file : (told : Option Files) (name : List ℕ) (rest : Option (List ℕ)) (bytes : List ℕ) → Begins told name rest → AreLeft rest bytes → IsFile told name bytes
-begun-file None name rest bytes begins left = tt
-begun-file (Some files) name rest bytes begins left = begins.1 ∙ ap (λ (b : List ℕ). Some b) (subst (λ (r : Option (List ℕ)). AreLeft r bytes) begins.2 left)
 
 pub begun-told : (told : Option Files) (name : List ℕ) (rest : Option (List ℕ)) → Begins told name rest → rest ≡ bytes_told told name
 begun-told None name rest begins = begins
 begun-told (Some files) name rest begins = begins.2 ∙ ap (λ (b : Option (List ℕ)). Some (unwrap_or b [])) (sym begins.1)
-
--- what was taken of it is its front
-taken-file : (told : Option Files) (name : List ℕ) (rest left : Option (List ℕ)) (taken : List ℕ) → Begins told name rest → Gave rest left taken
-    → (more : List ℕ) × IsFile told name (taken ++ more)
-taken-file None name rest left taken begins gave = ([], tt)
-taken-file (Some files) name rest None taken begins gave = absurd (cc (begins.2, gave))
-taken-file (Some files) name rest (Some more) taken begins gave =
-    let same : begins.0 ≡ taken ++ more = cc (begins.2, gave) in (more, begins.1 ∙ ap (λ (b : List ℕ). Some b) same)
-
--- a front of a text, and what is behind it, is a front of the text with a line
-front-of : (old now : Output) (front behind text line : List ℕ) → front ++ behind ≡ text → 0 < length line → Grew old now front → GrewInPart old now (text ++ line)
-front-of old now front behind text line split some grew = (
-  front,
-  behind ++ line,
-  sym (append_assoc front behind line) ∙ ap (λ (t : List ℕ). t ++ line) split,
-  (let l = length-append behind line in omega (arith, l, some)),
-  grew,
-)
-
--- ---- what the last line says of the status
-
-other-status : (line : List ℕ) (whole ended other : Status) (faults : ℕ × ℕ) (taken : Outputs) → EndsWith line whole faults taken ended → ended ≡ other
-    → (whole ≡ other → ⊥) → (status.WriteFault ≡ other → ⊥) → (status.Memory ≡ other → ⊥) → ⊥
-other-status line whole ended other faults taken ends is no_whole no_fault no_memory = go ends.0 (sym ends.2 ∙ is) where
-  go : (written : Result (Unit {0}) Trouble) → status_after written whole ≡ other → ⊥
-  go (Ok done) same = no_whole same
-  go (Err trouble.Failed) same = no_fault same
-  go (Err trouble.Memory) same = no_memory same
-
--- the line is written whole
-line-told : (line : List ℕ) (whole ended : Status) (faults : ℕ × ℕ) (taken : Outputs) → EndsWith line whole faults taken ended → ended ≡ whole
-    → (status.WriteFault ≡ whole → ⊥) → (status.Memory ≡ whole → ⊥) → Grew taken.0 taken.1 line
-line-told line whole ended faults taken ends is no_fault no_memory = go ends.0 (sym ends.2 ∙ is) ends.1 where
-  go : (written : Result (Unit {0}) Trouble) → status_after written whole ≡ whole → IsWriting line faults taken written → Grew taken.0 taken.1 line
-  go (Ok done) same writing = writing.whole
-  go (Err trouble.Failed) same writing = absurd (no_fault same)
-  go (Err trouble.Memory) same writing = absurd (no_memory same)
-
--- a front of it is written, and not the whole
-front-told : (line : List ℕ) (whole ended : Status) (faults : ℕ × ℕ) (taken : Outputs) → EndsWith line whole faults taken ended → ended ≡ status.WriteFault
-    → (whole ≡ status.WriteFault → ⊥) → GrewInPart taken.0 taken.1 line
-front-told line whole ended faults taken ends is no_whole = go ends.0 (sym ends.2 ∙ is) ends.1 where
-  go : (written : Result (Unit {0}) Trouble) → status_after written whole ≡ status.WriteFault → IsWriting line faults taken written → GrewInPart taken.0 taken.1 line
-  go (Ok done) same writing = absurd (no_whole same)
-  go (Err trouble.Failed) same writing = writing.front
-  go (Err trouble.Memory) same writing = absurd (cc same)
 
 -- ---- before a command is read
 
@@ -258,8 +185,7 @@ module _ (call : Call) (names : FileNames) (airport : Airport) (accepted : IsJud
         → IsDueText call (Some (Route names)) due (blocks_text airport blocks ++ last) → (IsWhole call (Some (Route names)) due → Ends call (Some (Route names)) due)
         → EndsWith line due (mid, call.writes.1) (between, call.taken.1) ended → Ends call (Some (Route names)) ended
     ended-by blocks line last due ended grew same text as_whole ends =
-        rw ends.2 (writing-ends call (Some (Route names)) due (blocks_text airport blocks ++ line) ends.0 (rw same text)
-        (writing-behind (blocks_text airport blocks) line call.writes.0 mid call.writes.1 call.taken.0 between call.taken.1 ends.0 later grew ends.1) as_whole)
+        behind-ends_as (IsDueText call (Some (Route names))) call.writes mid call.taken between due (blocks_text airport blocks) line last ended later grew same text as_whole ends
 
     -- the whole file is read
     pub whole-ends : (count : ℕ) (line : List ℕ) (ended : Status) → IsWholeRun airport commands_limit (rest, left) (call.taken.0, between) count → line ≡ done_line count
@@ -354,21 +280,6 @@ module _ (call : Call) (names : FileNames) (airport : Airport) (accepted : IsJud
         rw halts.0 (inr (cut-ends (subst (λ (t : Output). IsCutRun airport commands_limit (rest, left) (call.taken.0, t)) (sym halts.1) stopped)))
 
 -- ---- the pieces that are handed over
-
--- a line is handed over, whole or in part
-line-handed : (line : List ℕ) (whole ended : Status) (faults : ℕ × ℕ) (taken : Outputs) → EndsWith line whole faults taken ended → AreHandedInPart taken.0 taken.1 (line ∷ [])
-line-handed line whole ended faults taken ends = go ends.0 ends.1 where
-  go : (written : Result (Unit {0}) Trouble) → IsWriting line faults taken written → AreHandedInPart taken.0 taken.1 (line ∷ [])
-  go (Ok done) writing = inr (taken.1, writing.handed, refl)
-  go (Err why) writing = inl (inr writing.in_part)
-
--- and whole with `Done`
-line-handed-whole : (line : List ℕ) (ended : Status) (faults : ℕ × ℕ) (taken : Outputs) → EndsWith line status.Done faults taken ended → ended ≡ status.Done → AreHanded taken.0 taken.1 (line ∷ [])
-line-handed-whole line ended faults taken ends is = go ends.0 (sym ends.2 ∙ is) ends.1 where
-  go : (written : Result (Unit {0}) Trouble) → status_after written status.Done ≡ status.Done → IsWriting line faults taken written → AreHanded taken.0 taken.1 (line ∷ [])
-  go (Ok done) same writing = (taken.1, writing.handed, refl)
-  go (Err trouble.Failed) same writing = absurd (cc same)
-  go (Err trouble.Memory) same writing = absurd (cc same)
 
 -- one line alone is written
 module _ (call : Call) (names : FileNames) where

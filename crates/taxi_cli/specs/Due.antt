@@ -7,8 +7,8 @@ use Rattle.certificate.specs.declared.block.Block.{Block}
 use Rattle.schedule_import.specs.declared.import.ScheduleRefused.{ScheduleRefused as WhyRefused}
 use Rattle.schedule_import.specs.Schedule.{import_of}
 use Rattle.transcript_check.specs.declared.failure.Failure.{Failure}
-use Rattle.program_endings.specs.declared.status.Status.{Status}
-use Rattle.program_endings.specs.declared.status.Status.TheVariants.{Done, Usage, Wrong, ScheduleRefused}
+use Rattle.program_files.specs.declared.status.Status.{Status}
+use Rattle.program_files.specs.declared.status.Status.TheVariants.{Done, Usage, Wrong, ScheduleRefused}
 use Rattle.program_words.specs.Verb.{FileNames, Verb, Route, Check, Generate, Migrate, Import}
 use Rattle.transcript_check.specs.Checks.{IsRight, IsWrongAt}
 use Rattle.program_files.specs.Inputs.{transcript_limit}

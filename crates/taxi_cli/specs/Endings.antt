@@ -1,10 +1,10 @@
 -- How may a call end, and what has it written then?
 use Rattle.std.specs.Prelude.{◌≡◌, ℕ, List, Option, Some, None}
 use Rattle.airport_file.specs.Reading.{RecordFault}
-use Rattle.program_endings.specs.declared.status.Status.{Status}
-use Rattle.program_endings.specs.declared.status.Status.TheVariants.{Done, Usage, AirportRefused, ReadFault, TooLarge, Wrong, ScheduleRefused}
-use Rattle.program_endings.specs.Call.{IsWholeAs, IsCutShortAs, EndsAs}
-pub use Rattle.program_endings.specs.Call.{Call, call_of}
+use Rattle.program_files.specs.declared.status.Status.{Status}
+use Rattle.program_files.specs.declared.status.Status.TheVariants.{Done, Usage, AirportRefused, ReadFault, TooLarge, Wrong, ScheduleRefused}
+use Rattle.program_files.specs.Call.{IsWholeAs, IsCutShortAs, EndsAs}
+pub use Rattle.program_files.specs.Call.{Call, call_of}
 use Rattle.program_words.specs.Usage.{usage_line}
 use Rattle.program_files.specs.Lines.{refusal_line}
 use Rattle.program_words.specs.Verb.{Verb}

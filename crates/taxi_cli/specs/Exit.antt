@@ -3,8 +3,8 @@ use Rattle.std.specs.Prelude.{◌≡◌, ◌≤◌, ◌⊎◌, ℕ, List, Option
 use Rattle.taxi_io.specs.Counts.{Rose}
 use Rattle.taxi_io.specs.Files.{Files}
 use Rattle.command_run.specs.Answered.{Told, Pieces}
-use Rattle.program_endings.specs.declared.status.Status.{Status}
-use Rattle.program_endings.specs.declared.status.Status.TheVariants.{Done, Usage, WriteFault, Memory}
+use Rattle.program_files.specs.declared.status.Status.{Status}
+use Rattle.program_files.specs.declared.status.Status.TheVariants.{Done, Usage, WriteFault, Memory}
 use Rattle.program_words.specs.Verb.{FileNames, Traffic, Verb, Route, Generate}
 use Rattle.program_files.specs.Inputs.{IsInOrder}
 use Rattle.taxi_cli.specs.Due.{IsDueOf}

@@ -7,7 +7,7 @@ use Rattle.certificate.specs.declared.block.Block.{Block}
 use Rattle.transcripts.specs.Runs.{IsRun, blocks_text}
 use Rattle.command_run.specs.Ended.{ended_commands_of}
 use Rattle.program_words.specs.Verb.{FileNames, Verb, Route}
-use Rattle.program_endings.specs.Lines.{read_fault_line, too_large_line}
+use Rattle.program_files.specs.Lines.{read_fault_line, too_large_line}
 use Rattle.program_files.specs.Inputs.{airport_limit, commands_limit, IsJudged, IsTooLarge}
 
 -- The airport is accepted, the commands are answered whose lines have ended in these bytes, of which so many count as a command

@@ -7,8 +7,8 @@ use Rattle.taxi_io.specs.Written.{AreHanded, AreHandedInPart}
 use Rattle.certificate.specs.declared.block.Block.{Block}
 use Rattle.transcripts.specs.Runs.{IsRun, done_line}
 use Rattle.command_run.specs.Answered.{texts_of}
-use Rattle.program_endings.specs.declared.status.Status.{Status}
-use Rattle.program_endings.specs.declared.status.Status.TheVariants.{Done}
+use Rattle.program_files.specs.declared.status.Status.{Status}
+use Rattle.program_files.specs.declared.status.Status.TheVariants.{Done}
 use Rattle.program_words.specs.Verb.{FileNames}
 use Rattle.program_files.specs.Inputs.{IsJudged}
 use Rattle.taxi_cli.specs.Endings.{Call}

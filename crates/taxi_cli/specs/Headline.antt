@@ -28,8 +28,8 @@ use Rattle.certificate.specs.Replies.{IsReply}
 use Rattle.certificate.specs.Passes.{IsPassed}
 use Rattle.certificate.specs.Sought.{Sought, sought_of, IsWalkFor}
 use Rattle.certificate.specs.Turns.{Turn, told_in, turns_of}
-use Rattle.program_endings.specs.declared.status.Status.{Status}
-use Rattle.program_endings.specs.declared.status.Status.TheVariants.{Done, WriteFault, Memory}
+use Rattle.program_files.specs.declared.status.Status.{Status}
+use Rattle.program_files.specs.declared.status.Status.TheVariants.{Done, WriteFault, Memory}
 use Rattle.program_words.specs.Verb.{FileNames}
 use Rattle.transcripts.specs.Runs.{InTurn, transcript}
 use Rattle.transcript_check.specs.Checks.{IsRight}

@@ -7,10 +7,10 @@ use Rattle.taxi_io.specs.Files.{Files, BeganMore, Gave, IsLonger, file_of}
 use Rattle.taxi_io.specs.Written.{Output, Grew, GrewInPart}
 use Rattle.command_run.specs.Ended.{commands_among, ended_commands_of, unended_lines_of}
 use Rattle.command_run.specs.Answered.{Told, Outputs, AreLeft, AreAnswered, IsHaltedRun, IsPrompt}
-use Rattle.program_endings.specs.declared.status.Status.{Status}
-use Rattle.program_endings.specs.declared.status.Status.TheVariants.{ReadFault, WriteFault, TooLarge}
+use Rattle.program_files.specs.declared.status.Status.{Status}
+use Rattle.program_files.specs.declared.status.Status.TheVariants.{ReadFault, WriteFault, TooLarge}
 use Rattle.program_words.specs.Verb.{FileNames}
-use Rattle.program_endings.specs.Lines.{read_fault_line, too_large_line}
+use Rattle.program_files.specs.Lines.{read_fault_line, too_large_line}
 use Rattle.program_files.specs.Inputs.{airport_limit, commands_limit, IsJudged}
 use Rattle.taxi_cli.specs.Endings.{Call}
 

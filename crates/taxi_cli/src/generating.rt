@@ -10,7 +10,7 @@ ghost use Rattle.taxi_cli.specs.Endings.{Ends};
 use airport_file::Airport;
 use certificate_check::Checker;
 use generated_run::{Summary, made_airport, run_generated};
-use program_endings::{Status, write_last};
+use program_files::{Status, write_last};
 use program_words::Traffic;
 use std::alloc::Global;
 use taxi_base::Memory;

@@ -4,7 +4,7 @@
 ghost use Rattle.std.specs.Prelude.{◌≡◌, ℕ, List, IfErr};
 ghost use Rattle.std.specs.IoError.{error_kind};
 ghost use Rattle.std.specs.Process.{exit_status};
-ghost use Rattle.program_endings.specs.Exit.{number_of};
+ghost use Rattle.program_files.specs.Exit.{number_of};
 ghost use Rattle.program_words.specs.Verb.{IsNamed, asked_by};
 ghost use Rattle.program_words.specs.Given.{words_given};
 ghost use Rattle.taxi_cli.specs.Endings.{call_of};
@@ -20,7 +20,7 @@ pub mod steady;
 mod tests;
 pub mod top;
 
-use program_endings::{Status, exit_code};
+use program_files::{Status, exit_code};
 use program_words::words_after_name;
 use std::alloc::Global;
 use std::env::Args;

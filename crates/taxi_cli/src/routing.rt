@@ -8,12 +8,13 @@ ghost use Rattle.program_files.specs.Inputs.{commands_limit, IsInOrder};
 ghost use Rattle.taxi_cli.specs.Endings.{Ends, call_of};
 ghost use Rattle.taxi_cli.specs.Handed.{IsInPieces};
 ghost use Rattle.taxi_cli.specs.Pace.{HaveBegun, HaveBegunFirst, KeepsPace, EndsBeforeCommands, commands_left};
-ghost use Rattle.taxi_cli.specs.RunEnds.{HaltsWith, IsRunEnd};
+ghost use Rattle.taxi_cli.specs.RunEnds.{IsRunEnd};
 
 use airport_file::Airport;
-use command_run::{RunRefused, run_commands};
-use program_endings::{Status, read_fault_line, too_large_line, write_last};
-use program_files::{COMMANDS_LIMIT, begin_commands, read_airport_file, write_stop};
+use command_run::{RunRefused, run_commands, write_halt};
+use program_files::{
+    COMMANDS_LIMIT, Status, begin_commands, read_airport_file, write_last, write_stop,
+};
 use std::alloc::Global;
 use taxi_engine::Engine;
 use taxi_io::{Shelf, Sink};
@@ -95,17 +96,4 @@ fn run_engine<S: Shelf, K: Sink>(
 {
     let mut engine = Engine::new(alloc, airport)?;
     run_commands(alloc, &mut engine, shelf, COMMANDS_LIMIT, out)
-}
-
-// Writes the line that says why a run ends before the end of its file, and gives the status that goes with it.
-fn write_halt<K: Sink>(out: &mut K, why: RunRefused) -> Status
-    ensures ends { HaltsWith why (K.faults out.old, K.faults out.new) (K.written out.old, K.written out.new) result }
-    ensures later { K.faults out.old ≤ K.faults out.new }
-{
-    match why {
-        RunRefused::ReadFault => write_last(out, read_fault_line(), Status::ReadFault),
-        RunRefused::TooLarge => write_last(out, too_large_line(), Status::TooLarge),
-        RunRefused::WriteFault => Status::WriteFault,
-        RunRefused::Memory => Status::Memory,
-    }
 }

@@ -9,7 +9,7 @@ ghost use Rattle.program_files.specs.Inputs.{AreAccepted};
 ghost use Rattle.taxi_cli.specs.Headline.{IsWholeAnswer};
 
 use crate::top::taxi;
-use program_endings::Status;
+use program_files::Status;
 use std::alloc::Global;
 use taxi_io::{SteadyShelf, SteadySink};
 

@@ -9,7 +9,7 @@ mod worked;
 ghost use Rattle.std.specs.Prelude.{◌≤◌};
 
 use crate::top::taxi;
-use program_endings::Status;
+use program_files::Status;
 use std::alloc::{AllocError, Global};
 use std::process::Abort;
 use std::test::Fail;

@@ -13,7 +13,7 @@ ghost use Rattle.taxi_cli.specs.Pace.{HaveBegun, HaveBegunFirst, KeepsPace, Ends
 use crate::checking::check;
 use crate::generating::generate;
 use crate::routing::route;
-use program_endings::{Status, write_last};
+use program_files::{Status, write_last};
 use program_words::{Verb, asked_by, usage_line};
 use std::alloc::Global;
 use taxi_io::{Shelf, Sink};

@@ -1,5 +1,5 @@
 //! A flight that stays on its segment longer than planned, and everyone in its way.
-ghost use Rattle.std.specs.Prelude.{◌≡◌, IfOk, OnErr, None};
+ghost use Rattle.std.specs.Prelude.{◌≡◌, OnOk, OnErr, None};
 ghost use Rattle.taxi_base.specs.State.{IsSound};
 ghost use Rattle.taxi_text.specs.declared.command.Command.TheVariants as command;
 ghost use Rattle.certificate.specs.declared.block.Block.{Block as BlockSeen};
@@ -18,7 +18,7 @@ use airport_file::Airport;
 use certificate::Block;
 use command_refusals::asked_late;
 use commitments::Ledger;
-use late_repair::{Lateness, repair};
+use late_repair::{Lateness, Repaired, repair, take_back};
 use place_cells::SearchRoom;
 use std::alloc::Global;
 use taxi_base::{Memory, Name, Refusal, Time};
@@ -46,41 +46,45 @@ impl Engine {
         ensures { IsRepairedTold late.now.flight late.now.time late.now.until self.old self.new }
     {
         let (room, reply) = (&mut self.room, &mut self.reply);
-        match print_repaired(self.alloc, room, &self.airport, &self.ledger, reply, late) {
-            Ok(after) => self.ledger = after,
-            Err(_) => self.refuse(&Refusal::Memory),
+        let (airport, ledger) = (&self.airport, &mut self.ledger);
+        if print_repaired(self.alloc, room, airport, ledger, reply, late).is_err() {
+            self.refuse(&Refusal::Memory);
         }
     }
 }
 
-// Writes what comes of a flight that is late as the reply, and hands back the ledger that is in force then.
+// Repairs, and writes what comes of it as the reply. After an error all are in force as before.
 fn print_repaired(
     alloc: Global,
     room: &mut SearchRoom,
     airport: &Airport,
-    ledger: &Ledger,
+    ledger: &mut Ledger,
     reply: &mut ReplyText,
     late: &Lateness,
-) -> Result<Ledger, Memory>
-    requires fits { Fits airport.now ledger.now }
-    requires unlifted { ledger.now.lifted ≡ None }
-    requires sound { IsSound airport.now ledger.now.state }
-    requires named { HaveNames ledger.now.state }
+) -> Result<(), Memory>
+    requires fits { Fits airport.now ledger.old }
+    requires unlifted { ledger.old.lifted ≡ None }
+    requires sound { IsSound airport.now ledger.old.state }
+    requires named { HaveNames ledger.old.state }
     requires name { IsName late.now.flight }
-    requires none { first_refusal airport.now ledger.now.state (command.Late late.now.flight late.now.time late.now.until) ≡ None }
-    ensures told { IfOk result (λ after. (block : BlockSeen) × IsRepairTold airport.now ledger.now.state late.now.flight late.now.time late.now.until block after.state × (reply.new ≡ block_text airport.now block)) }
-    ensures sound { IfOk result (λ after. IsSound airport.now after.state) }
-    ensures named { IfOk result (λ after. HaveNames after.state) }
-    ensures unlifted { IfOk result (λ after. after.lifted ≡ None) }
-    ensures fits { IfOk result (Fits airport.now) }
+    requires none { first_refusal airport.now ledger.old.state (command.Late late.now.flight late.now.time late.now.until) ≡ None }
+    ensures told { OnOk result ((block : BlockSeen) × IsRepairTold airport.now ledger.old.state late.now.flight late.now.time late.now.until block ledger.new.state × (reply.new ≡ block_text airport.now block)) }
+    ensures sound { OnOk result (IsSound airport.now ledger.new.state) }
+    ensures named { OnOk result (HaveNames ledger.new.state) }
+    ensures err { OnErr result (ledger.new.state ≡ ledger.old.state) }
+    ensures unlifted { ledger.new.lifted ≡ None }
+    ensures fits { Fits airport.now ledger.new }
 {
     // The airport keeps its rules, so what is due can be written.
     let _horizon = airport.horizon();
-    let done = repair(alloc, room, airport, ledger, late)?;
+    let Repaired { entries, before } = repair(alloc, room, airport, ledger, late)?;
     let block = Block::Late {
         flight: late.flight,
-        entries: done.entries,
+        entries,
     };
-    reply.print(airport, &block)?;
-    Ok(done.ledger)
+    let printed = reply.print(airport, &block);
+    if printed.is_err() {
+        take_back(airport, ledger, before);
+    }
+    printed
 }

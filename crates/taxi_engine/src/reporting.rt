@@ -14,10 +14,9 @@ use crate::reply::ReplyText;
 use airport_file::Airport;
 use certificate::Block;
 use commitments::Ledger;
-use occupancy_report::occupancy;
+use ledger_reports::{occupancy, timetable};
 use std::alloc::Global;
 use taxi_base::{Memory, Name, Refusal, Segment};
-use timetable_report::timetable;
 
 impl Engine {
     /// Tells what holds the segment of a name, or that there is none.

@@ -6,13 +6,13 @@ mod loose;
 #[cfg(test)]
 mod tests;
 
-ghost use Rattle.std.specs.Prelude.{◌≡◌, Option};
+ghost use Rattle.std.specs.Prelude.{◌≡◌, Option, length};
 ghost use types.Logic.{sem};
 ghost use Rattle.taxi_engine.specs.Engine.{EngineState};
-ghost use Rattle.taxi_library.specs.Open.{holds, IsOpen};
+ghost use Rattle.taxi_library.specs.Open.{holds, IsOpen, Lends};
 ghost use Rattle.taxi_library.specs.Calls.{IsMade, IsWhy, IsAnswer, IsCopied};
 
-use calls::{answered, copied, opened, why};
+use calls::{answered, copied, opened, told, why};
 use loose::Loose;
 use std::alloc::Global;
 use taxi_engine::Engine;
@@ -26,9 +26,9 @@ pub struct Rusboqan {
 /// The version of the library: 10,000 for each major one, 100 for each minor one, and the patch.
 #[unsafe(no_mangle)]
 pub extern "C" fn rusboqan_version() -> u32
-    ensures { result ≡ 10000 }
+    ensures { result ≡ 10100 }
 {
-    10000
+    10100
 }
 
 /// Opens an engine over the airport of a file's bytes, and writes its handle. False where the bytes are no airport, or
@@ -70,6 +70,19 @@ pub unsafe extern "C" fn rusboqan_answer(at: *mut Rusboqan, line: &[u8]) -> usiz
     ensures* { ∃ₛ (λ (after : EngineState). sem 𝓛 (holds at after) ∗ ⌜ IsAnswer line.now held after result ⌝) }
 {
     answered(&mut *(at as *mut Engine), line)
+}
+
+/// Lends the text of the last reply: writes where it begins, and gives its length. It can be read until the next call for
+/// this engine.
+#[unsafe(no_mangle)]
+pub unsafe extern "C" fn rusboqan_text(at: *mut Rusboqan, text: &mut *const u8) -> usize
+    ghost held: { EngineState }
+    requires* { sem 𝓛 (holds at held) }
+    ensures* { Lends 𝓛 at held text.new ∗ ⌜ result ≡ length held.reply ⌝ }
+{
+    let reply = told(&*(at as *mut Engine));
+    *text = reply.as_ptr();
+    reply.len()
 }
 
 /// Copies the text of the last reply, where it fits, and gives its length.

@@ -7,19 +7,18 @@ use Rattle.taxi_io.specs.Written.{Output}
 use Rattle.taxi_io.specs.declared.trouble.Trouble.TheVariants as trouble
 use Rattle.taxi_io.proofs.Pieces.{grew-nothing, handed-nothing}
 use Rattle.airport_file.specs.Reading.{RecordFault}
-use Rattle.program_endings.specs.declared.status.Status.{Status}
-use Rattle.program_endings.specs.declared.status.Status.TheVariants.{Done, AirportRefused, ReadFault, Memory, TooLarge}
-use Rattle.program_endings.specs.Call.{Call}
-use Rattle.program_endings.specs.LastLine.{EndsWith}
-use Rattle.program_endings.specs.Lines.{read_fault_line, too_large_line}
-use Rattle.program_endings.proofs.EndingLaws.{last-ends_as}
+use Rattle.program_files.specs.declared.status.Status.{Status}
+use Rattle.program_files.specs.declared.status.Status.TheVariants.{Done, AirportRefused, ReadFault, Memory, TooLarge}
+use Rattle.program_files.specs.Call.{Call}
+use Rattle.program_files.specs.LastLine.{EndsWith}
+use Rattle.program_files.specs.Lines.{read_fault_line, too_large_line, refusal_line}
+use Rattle.program_files.proofs.EndingLaws.{last-ends_as}
 use Rattle.program_files.specs.declared.stop.Stop.{Stop}
 use Rattle.program_files.specs.declared.stop.Stop.TheVariants as stop
-use Rattle.program_files.specs.Lines.{refusal_line}
 use Rattle.program_files.specs.Stops.{StopsWith}
 use Rattle.tool_words.specs.declared.words.Verb.{Verb as LentVerb}
 use Rattle.tool_words.specs.LentWords.{asked_for, asked_as}
-use Rattle.tool_words.specs.Verb.{Verb, Graph, Lint, Plan, Json, asked_by}
+use Rattle.tool_words.specs.Verb.{Verb, Graph, Lint, Plan, Figures, Checkpoint, Json, asked_by}
 use Rattle.taxi_tools.specs.Reads.{IsRefused, IsTooLarge, IsCauseFor, IsReadEnd}
 use Rattle.taxi_tools.specs.Halts.{IsFaultText, IsLargeText}
 use Rattle.taxi_tools.specs.Endings.{IsDueText, Ends, IsInOnePiece}
@@ -37,38 +36,41 @@ refused-is : (told : Option Files) (asked : Verb) (reads : ℕ × ℕ) (fault : 
 refused-is told (Graph airport) reads fault cause = cause
 refused-is told (Lint airport) reads fault cause = cause
 refused-is told (Plan names start) reads fault cause = cause
+refused-is told (Figures names) reads fault cause = cause
+refused-is told (Checkpoint names) reads fault cause = cause
 refused-is told (Json names) reads fault cause = cause
 
 fault-is : (told : Option Files) (asked : Verb) (reads : ℕ × ℕ) → IsCauseFor told asked reads stop.ReadFault → Rose reads.0 reads.1
 fault-is told (Graph airport) reads cause = cause
 fault-is told (Lint airport) reads cause = cause
 fault-is told (Plan names start) reads cause = cause
+fault-is told (Figures names) reads cause = cause
+fault-is told (Checkpoint names) reads cause = cause
 fault-is told (Json names) reads cause = cause
 
 fault-text : (told : Option Files) (asked : Verb) → IsFaultText told asked read_fault_line
 fault-text told (Graph airport) = refl
 fault-text told (Lint airport) = refl
 fault-text told (Plan names start) = refl
+fault-text told (Figures names) = refl
+fault-text told (Checkpoint names) = refl
 fault-text told (Json names) = inl refl
 
 large-is : (told : Option Files) (asked : Verb) (reads : ℕ × ℕ) → IsCauseFor told asked reads stop.TooLarge → IsTooLarge told asked
 large-is told (Graph airport) reads cause = cause
 large-is told (Lint airport) reads cause = cause
 large-is told (Plan names start) reads cause = cause
+large-is told (Figures names) reads cause = cause
+large-is told (Checkpoint names) reads cause = cause
 large-is told (Json names) reads cause = cause
 
 large-text : (told : Option Files) (asked : Verb) → ReadsWhole asked → IsTooLarge told asked → IsLargeText told asked too_large_line
 large-text told (Graph airport) whole large = (large, refl)
 large-text told (Lint airport) whole large = (large, refl)
 large-text told (Plan names start) whole large = (large, refl)
+large-text told (Figures names) whole large = (large, refl)
+large-text told (Checkpoint names) whole large = (large, refl)
 large-text told (Json names) whole large = absurd whole
-
--- want of memory may stop it at any time
-pub memory-is : (told : Option Files) (asked : Verb) (reads : ℕ × ℕ) → IsCauseFor told asked reads stop.Memory
-memory-is told (Graph airport) reads = tt
-memory-is told (Lint airport) reads = tt
-memory-is told (Plan names start) reads = tt
-memory-is told (Json names) reads = tt
 
 stop-ends : (call : Call) (asked : Verb) (why : Stop) (ended : Status) → ReadsWhole asked → IsCauseFor call.files asked call.reads why → StopsWith why call.writes call.taken ended → Ends call (Some asked) ended
 stop-ends call asked (stop.Refused at why) ended reads_whole cause stops =
@@ -109,6 +111,8 @@ nothing-handed call None ended memory nothing = nothing-in_one call None ended m
 nothing-handed call (Some (Graph airport)) ended memory nothing = nothing-in_one call (Some (Graph airport)) ended memory nothing
 nothing-handed call (Some (Lint airport)) ended memory nothing = nothing-in_one call (Some (Lint airport)) ended memory nothing
 nothing-handed call (Some (Plan names start)) ended memory nothing = nothing-in_one call (Some (Plan names start)) ended memory nothing
+nothing-handed call (Some (Figures names)) ended memory nothing = nothing-in_one call (Some (Figures names)) ended memory nothing
+nothing-handed call (Some (Checkpoint names)) ended memory nothing = nothing-in_one call (Some (Checkpoint names)) ended memory nothing
 nothing-handed call (Some (Json names)) ended memory nothing = record {
   texts = [] ∷ [];
   are = inl ([], refl);
@@ -126,6 +130,8 @@ one-handed : (call : Call) (asked : Verb) (ended : Status) → ReadsWhole asked 
 one-handed call (Graph airport) ended reads_whole one = one
 one-handed call (Lint airport) ended reads_whole one = one
 one-handed call (Plan names start) ended reads_whole one = one
+one-handed call (Figures names) ended reads_whole one = one
+one-handed call (Checkpoint names) ended reads_whole one = one
 one-handed call (Json names) ended reads_whole one = absurd reads_whole
 
 pub read-in_one : (call : Call) (asked : Verb) (ended : Status) → IsReadEnd call asked ended → IsInOnePiece call (Some asked) ended

@@ -1,88 +1,39 @@
 -- How `json` ends: what was due where it came to the end of its command file, where it was halted, and where it was cut short.
-use Rattle.std.proofs.Common.{◌≡◌, ◌<◌, ◌≤◌, ◌++◌, ◌∷◌, ◌∙◌, [], inl, inr, ℕ, List, Bool, true, false, cond, Option, Some, None, Result, Ok, Err, OnOk, OnErr, length, take, nat_lt, refl, sym, ap, subst, append_assoc, arith}
+use Rattle.std.proofs.Common.{◌≡◌, ◌<◌, ◌≤◌, ◌++◌, ◌∷◌, [], inl, inr, ℕ, List, Bool, true, false, cond, Option, Some, Result, Ok, Err, length, take, nat_lt, refl, sym, ap, subst, arith}
 use Rattle.std.proofs.lemmas.Bool.{ltb-true, ltb-false}
 use Rattle.std.proofs.lemmas.List.{length-append, take-append-le}
 use Rattle.taxi_base.specs.Airport.{Airport}
 use Rattle.taxi_base.specs.State.{State, no_holder}
 use Rattle.taxi_text.specs.Lines.{lines_of}
 use Rattle.taxi_io.specs.Counts.{Rose}
-use Rattle.taxi_io.specs.Files.{Files, IsFile, Begins, Gave}
-use Rattle.taxi_io.specs.Written.{Output, Grew, GrewInPart, AreHanded, AreHandedInPart}
-use Rattle.taxi_io.specs.declared.trouble.Trouble.{Trouble}
-use Rattle.taxi_io.specs.declared.trouble.Trouble.TheVariants as trouble
-use Rattle.taxi_io.proofs.Pieces.{grew-nothing, grew-more, handed-nothing, handed-on, handed-all, handed-longer}
+use Rattle.taxi_io.specs.Files.{Files, IsFile, Begins}
+use Rattle.taxi_io.specs.Written.{Output, Grew, AreHanded}
+use Rattle.taxi_io.proofs.Pieces.{grew-nothing, handed-nothing, handed-on, handed-all, handed-longer}
 use Rattle.certificate.specs.declared.block.Block.{Block}
 use Rattle.transcripts.specs.Runs.{IsRun}
 use Rattle.command_run.specs.declared.refused.RunRefused.{RunRefused}
 use Rattle.command_run.specs.declared.refused.RunRefused.TheVariants as refused
 use Rattle.command_run.specs.Ended.{ended_lines_of, commands_among}
-use Rattle.command_run.specs.Answered.{Outputs, AreLeft}
+use Rattle.command_run.specs.Halts.{HaltsWith}
 use Rattle.command_run.specs.Told.{numbered_among, lines_within, texts_told, all_told, IsWholeTold, IsHaltedTold, IsCutTold, IsStoppedTold}
+use Rattle.command_run.proofs.BegunFiles.{begun-file, taken-file}
 use Rattle.reply_json.specs.Lines.{done_line}
-use Rattle.program_endings.specs.declared.status.Status.{Status}
-use Rattle.program_endings.specs.declared.status.Status.TheVariants as status
-use Rattle.program_endings.specs.Call.{Call, IsWholeAs, IsCutShortAs, EndsAs}
-use Rattle.program_endings.specs.LastLine.{status_after, IsWriting, EndsWith}
-use Rattle.program_endings.specs.Lines.{read_fault_line, too_large_line}
-use Rattle.program_endings.proofs.EndingLaws.{IsTaken, writing-ends_as, last-ends_as}
+use Rattle.program_files.specs.declared.status.Status.{Status}
+use Rattle.program_files.specs.declared.status.Status.TheVariants as status
+use Rattle.program_files.specs.Call.{Call, IsWholeAs, IsCutShortAs, EndsAs}
+use Rattle.program_files.specs.LastLine.{EndsWith}
+use Rattle.program_files.specs.Lines.{read_fault_line, too_large_line, refusal_line}
+use Rattle.program_files.proofs.EndingLaws.{last-ends_as, behind-ends_as, front-of, other-status, line-handed, line-handed-whole}
 use Rattle.program_files.specs.declared.stop.Stop.{Stop}
 use Rattle.program_files.specs.declared.stop.Stop.TheVariants as stop
 use Rattle.program_files.specs.Inputs.{commands_limit, IsJudged}
-use Rattle.program_files.specs.Lines.{refusal_line}
 use Rattle.program_files.specs.Stops.{IsCauseOfAirport, IsCauseOfBegin, StopsWith}
 use Rattle.program_words.specs.Verb.{FileNames}
 use Rattle.tool_words.specs.Verb.{Json}
 use Rattle.taxi_tools.specs.Endings.{IsDueText, Ends}
 use Rattle.taxi_tools.specs.Handed.{AreJsonTexts, IsInPieces}
 use Rattle.taxi_tools.specs.Objects.{object_of}
-use Rattle.taxi_tools.specs.RunEnds.{HaltsWith, HasOutcome, IsRunEnd}
-
--- ---- what is written behind objects
-
-front-behind : (before now then : Output) (done line : List ℕ) → Grew before now done → GrewInPart now then line → GrewInPart before then (done ++ line)
-front-behind before now then done line grew front =
-    (done ++ front.0, front.1, append_assoc done front.0 front.1 ∙ ap (λ (l : List ℕ). done ++ l) front.2, front.3, grew-more before now then done front.0 grew front.4)
-
--- a line is written behind a text that was written whole
-writing-behind : (done line : List ℕ) (before between after : ℕ) (old now then : Output) (written : Result (Unit {0}) Trouble) → before ≤ between
-    → Grew old now done → IsWriting line (between, after) (now, then) written → IsTaken (done ++ line) (before, after) (old, then) written
-writing-behind done line before between after old now then written later grew writing = record {
-  whole = on_ok written writing.whole;
-  front = on_err written writing.front;
-  failed = λ failed. let rose = writing.failed failed in omega arith;
-}
-  where
-    on_ok : (written : Result (Unit {0}) Trouble) → OnOk written (Grew now then line) → OnOk written (Grew old then (done ++ line))
-    on_ok (Ok _) whole = grew-more old now then done line grew whole
-    on_ok (Err _) whole = tt
-
-    on_err : (written : Result (Unit {0}) Trouble) → OnErr written (GrewInPart now then line) → OnErr written (GrewInPart old then (done ++ line))
-    on_err (Ok _) front = tt
-    on_err (Err _) front = front-behind old now then done line grew front
-
--- a front of a text, and what is behind it, is a front of the text with a line
-front-of : (old now : Output) (front behind text line : List ℕ) → front ++ behind ≡ text → 0 < length line → Grew old now front → GrewInPart old now (text ++ line)
-front-of old now front behind text line split some grew = (
-  front,
-  behind ++ line,
-  sym (append_assoc front behind line) ∙ ap (λ (t : List ℕ). t ++ line) split,
-  (let l = length-append behind line in omega (arith, l, some)),
-  grew,
-)
-
--- ---- the file that is begun
-
-begun-file : (told : Option Files) (name : List ℕ) (rest : Option (List ℕ)) (bytes : List ℕ) → Begins told name rest → AreLeft rest bytes → IsFile told name bytes
-begun-file None name rest bytes begins left = tt
-begun-file (Some files) name rest bytes begins left = begins.1 ∙ ap (λ (b : List ℕ). Some b) (subst (λ (r : Option (List ℕ)). AreLeft r bytes) begins.2 left)
-
--- what was taken of it is its front
-taken-file : (told : Option Files) (name : List ℕ) (rest left : Option (List ℕ)) (taken : List ℕ) → Begins told name rest → Gave rest left taken
-    → (more : List ℕ) × IsFile told name (taken ++ more)
-taken-file None name rest left taken begins gave = ([], tt)
-taken-file (Some files) name rest None taken begins gave = absurd (cc (begins.2, gave))
-taken-file (Some files) name rest (Some more) taken begins gave =
-    let same : begins.0 ≡ taken ++ more = cc (begins.2, gave) in (more, begins.1 ∙ ap (λ (b : List ℕ). Some b) same)
+use Rattle.taxi_tools.specs.RunEnds.{HasOutcome, IsRunEnd}
 
 -- the lines of a file whose commands are answered, by whether it is longer than a command file may be
 abbrev lines_if : List ℕ → Bool → List (List ℕ)
@@ -123,8 +74,7 @@ module _ (call : Call) (names : FileNames) (airport : Airport) (accepted : IsJud
   ended-by : (objects line last : List ℕ) (due ended : Status) → Grew call.taken.0 between objects → line ≡ last → Asked due (objects ++ last)
       → (IsWholeAs Asked call.taken due → EndsAs Asked call.writes call.taken due) → EndsWith line due (mid, call.writes.1) (between, call.taken.1) ended → Ends call (Some (Json names)) ended
   ended-by objects line last due ended grew same text as_whole ends =
-      rw ends.2 (writing-ends_as Asked call.writes call.taken due (objects ++ line) ends.0 (rw same text)
-      (writing-behind objects line call.writes.0 mid call.writes.1 call.taken.0 between call.taken.1 ends.0 later grew ends.1) as_whole)
+      behind-ends_as Asked call.writes mid call.taken between due objects line last ended later grew same text as_whole ends
 
   -- the whole file is read
   whole-ends : (count : ℕ) (ended : Status) → IsWholeTold object_of airport commands_limit (rest, left) (call.taken.0, between) count
@@ -222,29 +172,6 @@ module _ (call : Call) (names : FileNames) (airport : Airport) (accepted : IsJud
       rw halts.0 (inr (cut-ends (subst (λ (t : Output). IsCutTold object_of airport commands_limit (rest, left) (call.taken.0, t)) (sym halts.1) stopped)))
 
 -- ---- the pieces that are handed over
-
-other-status : (line : List ℕ) (whole ended other : Status) (faults : ℕ × ℕ) (taken : Outputs) → EndsWith line whole faults taken ended → ended ≡ other
-    → (whole ≡ other → ⊥) → (status.WriteFault ≡ other → ⊥) → (status.Memory ≡ other → ⊥) → ⊥
-other-status line whole ended other faults taken ends is no_whole no_fault no_memory = go ends.0 (sym ends.2 ∙ is) where
-  go : (written : Result (Unit {0}) Trouble) → status_after written whole ≡ other → ⊥
-  go (Ok done) same = no_whole same
-  go (Err trouble.Failed) same = no_fault same
-  go (Err trouble.Memory) same = no_memory same
-
--- a line is handed over, whole or in part
-line-handed : (line : List ℕ) (whole ended : Status) (faults : ℕ × ℕ) (taken : Outputs) → EndsWith line whole faults taken ended → AreHandedInPart taken.0 taken.1 (line ∷ [])
-line-handed line whole ended faults taken ends = go ends.0 ends.1 where
-  go : (written : Result (Unit {0}) Trouble) → IsWriting line faults taken written → AreHandedInPart taken.0 taken.1 (line ∷ [])
-  go (Ok done) writing = inr (taken.1, writing.handed, refl)
-  go (Err why) writing = inl (inr writing.in_part)
-
--- and whole with `Done`
-line-handed-whole : (line : List ℕ) (ended : Status) (faults : ℕ × ℕ) (taken : Outputs) → EndsWith line status.Done faults taken ended → ended ≡ status.Done → AreHanded taken.0 taken.1 (line ∷ [])
-line-handed-whole line ended faults taken ends is = go ends.0 (sym ends.2 ∙ is) ends.1 where
-  go : (written : Result (Unit {0}) Trouble) → status_after written status.Done ≡ status.Done → IsWriting line faults taken written → AreHanded taken.0 taken.1 (line ∷ [])
-  go (Ok done) same writing = (taken.1, writing.handed, refl)
-  go (Err trouble.Failed) same writing = absurd (cc same)
-  go (Err trouble.Memory) same writing = absurd (cc same)
 
 -- one line alone is written
 module _ (call : Call) (names : FileNames) where

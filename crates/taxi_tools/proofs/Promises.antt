@@ -1,8 +1,8 @@
 -- What a call promises where memory runs out before its words are known.
 use Rattle.std.proofs.Common.{◌≡◌, ◌≤◌, inl, inr, ℕ, List, Option, refl}
 use Rattle.taxi_io.proofs.Pieces.{grew-nothing}
-use Rattle.program_endings.specs.declared.status.Status.TheVariants.{Memory}
-use Rattle.program_endings.specs.Call.{Call}
+use Rattle.program_files.specs.declared.status.Status.TheVariants.{Memory}
+use Rattle.program_files.specs.Call.{Call}
 use Rattle.tool_words.specs.Verb.{Verb}
 use Rattle.taxi_tools.specs.Exit.{KeepsPromises}
 use Rattle.taxi_tools.proofs.EndingLaws.{nothing-handed}

@@ -3,9 +3,9 @@ use Rattle.std.specs.Prelude.{◌≡◌, ℕ, List, [], ◌∷◌, Option, Some,
 use Rattle.taxi_io.specs.Counts.{Rose}
 use Rattle.taxi_io.specs.Written.{AreHandedInPart, Handed}
 use Rattle.airport_file.specs.Reading.{RecordFault}
-use Rattle.program_endings.specs.declared.status.Status.{Status}
-use Rattle.program_endings.specs.declared.status.Status.TheVariants.{Done, Usage, AirportRefused, ReadFault, TooLarge}
-use Rattle.program_endings.specs.Call.{Call, EndsAs}
+use Rattle.program_files.specs.declared.status.Status.{Status}
+use Rattle.program_files.specs.declared.status.Status.TheVariants.{Done, Usage, AirportRefused, ReadFault, TooLarge}
+use Rattle.program_files.specs.Call.{Call, EndsAs}
 use Rattle.program_files.specs.Lines.{refusal_line}
 use Rattle.tool_words.specs.Usage.{usage_line}
 use Rattle.tool_words.specs.Verb.{Verb}

@@ -2,9 +2,9 @@
 use Rattle.std.specs.Prelude.{◌≡◌, ◌≤◌, ◌⊎◌, ℕ, List, Option, Some, None}
 use Rattle.taxi_io.specs.Counts.{Rose}
 use Rattle.taxi_io.specs.Files.{Files}
-use Rattle.program_endings.specs.declared.status.Status.{Status}
-use Rattle.program_endings.specs.declared.status.Status.TheVariants.{Usage, WriteFault, Memory}
-use Rattle.program_endings.specs.Call.{Call}
+use Rattle.program_files.specs.declared.status.Status.{Status}
+use Rattle.program_files.specs.declared.status.Status.TheVariants.{Usage, WriteFault, Memory}
+use Rattle.program_files.specs.Call.{Call}
 use Rattle.tool_words.specs.Verb.{Verb}
 use Rattle.taxi_tools.specs.Due.{IsDueOf}
 use Rattle.taxi_tools.specs.Endings.{Ends}

@@ -1,7 +1,7 @@
 -- What is written where a file isn't read to its end?
 use Rattle.std.specs.Prelude.{◌≡◌, ◌<◌, ◌⊎◌, ℕ, List, ◌++◌, length, Option}
 use Rattle.taxi_io.specs.Files.{Files, IsFile, IsLonger}
-use Rattle.program_endings.specs.Lines.{read_fault_line, too_large_line}
+use Rattle.program_files.specs.Lines.{read_fault_line, too_large_line}
 use Rattle.program_files.specs.Inputs.{airport_limit, commands_limit}
 use Rattle.tool_words.specs.Verb.{Verb, Json}
 use Rattle.taxi_tools.specs.Objects.{AreFirstObjects}

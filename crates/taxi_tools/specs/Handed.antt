@@ -10,9 +10,9 @@ use Rattle.transcripts.specs.Runs.{IsRun}
 use Rattle.command_run.specs.Ended.{commands_among}
 use Rattle.command_run.specs.Told.{numbered_among, texts_told}
 use Rattle.reply_json.specs.Lines.{done_line}
-use Rattle.program_endings.specs.declared.status.Status.{Status}
-use Rattle.program_endings.specs.declared.status.Status.TheVariants.{Done}
-use Rattle.program_endings.specs.Call.{Call}
+use Rattle.program_files.specs.declared.status.Status.{Status}
+use Rattle.program_files.specs.declared.status.Status.TheVariants.{Done}
+use Rattle.program_files.specs.Call.{Call}
 use Rattle.program_words.specs.Verb.{FileNames}
 use Rattle.program_files.specs.Inputs.{IsJudged}
 use Rattle.tool_words.specs.Verb.{Verb, Json}

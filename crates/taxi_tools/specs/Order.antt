@@ -2,7 +2,7 @@
 use Rattle.std.specs.Prelude.{ℕ, List, [], ◌∷◌, Option, Some, None}
 use Rattle.taxi_io.specs.Files.{Files, BeganMore}
 use Rattle.program_files.specs.Inputs.{IsRunInOrder}
-use Rattle.tool_words.specs.Verb.{Verb, Graph, Lint, Plan, Json}
+use Rattle.tool_words.specs.Verb.{Verb, Graph, Lint, Plan, Figures, Checkpoint, Json}
 
 -- None for words of no form, and else those that the words name, in their order. A command file is begun only once the airport is
 -- accepted.
@@ -11,4 +11,6 @@ IsInOrder told None before after = BeganMore before after []
 IsInOrder told (Some (Graph airport)) before after = BeganMore before after (airport ∷ [])
 IsInOrder told (Some (Lint airport)) before after = BeganMore before after (airport ∷ [])
 IsInOrder told (Some (Plan names start)) before after = IsRunInOrder told names before after
+IsInOrder told (Some (Figures names)) before after = IsRunInOrder told names before after
+IsInOrder told (Some (Checkpoint names)) before after = IsRunInOrder told names before after
 IsInOrder told (Some (Json names)) before after = IsRunInOrder told names before after

@@ -7,23 +7,16 @@ use Rattle.taxi_io.specs.Written.{Output}
 use Rattle.command_run.specs.declared.refused.RunRefused.{RunRefused}
 use Rattle.command_run.specs.declared.refused.RunRefused.TheVariants as refused
 use Rattle.command_run.specs.Answered.{Outputs}
+use Rattle.command_run.specs.Halts.{HaltsWith}
 use Rattle.command_run.specs.Told.{IsWholeTold, IsStoppedTold}
 use Rattle.reply_json.specs.Lines.{done_line}
-use Rattle.program_endings.specs.declared.status.Status.{Status}
-use Rattle.program_endings.specs.declared.status.Status.TheVariants as status
-use Rattle.program_endings.specs.LastLine.{EndsWith}
-use Rattle.program_endings.specs.Lines.{read_fault_line, too_large_line}
+use Rattle.program_files.specs.declared.status.Status.{Status}
+use Rattle.program_files.specs.declared.status.Status.TheVariants as status
+use Rattle.program_files.specs.LastLine.{EndsWith}
 use Rattle.program_files.specs.declared.stop.Stop.{Stop}
 use Rattle.program_files.specs.Inputs.{commands_limit}
 use Rattle.program_files.specs.Stops.{IsCauseOfBegin, StopsWith}
 use Rattle.taxi_tools.specs.Objects.{object_of}
-
--- how a run ends that is stopped: by the writing of the line that says why; a failed write and want of memory write none
-abbrev pub HaltsWith : RunRefused → ℕ × ℕ → Outputs → Status → Type 0
-HaltsWith refused.ReadFault faults taken ended = EndsWith read_fault_line status.ReadFault faults taken ended
-HaltsWith refused.TooLarge faults taken ended = EndsWith too_large_line status.TooLarge faults taken ended
-HaltsWith refused.WriteFault faults taken ended = (ended ≡ status.WriteFault) × (taken.1 ≡ taken.0)
-HaltsWith refused.Memory faults taken ended = (ended ≡ status.Memory) × (taken.1 ≡ taken.0)
 
 -- what a run at an airport finds, and what it leaves: the counts of faults of the shelf and of the sink, what is left of the file that is
 -- begun, and what the sink took

@@ -1,13 +1,12 @@
 //! The verb `graph`.
 ghost use Rattle.std.specs.Prelude.{◌≤◌, Some};
-ghost use Rattle.program_endings.specs.Call.{call_of};
+ghost use Rattle.program_files.specs.Call.{call_of};
 ghost use Rattle.tool_words.specs.Verb.{Graph};
 ghost use Rattle.taxi_tools.specs.Order.{IsInOrder};
 ghost use Rattle.taxi_tools.specs.Reads.{IsReadEnd};
 
 use airport_graph::write_graph;
-use program_endings::{Status, write_last};
-use program_files::{read_airport_file, write_stop};
+use program_files::{Status, read_airport_file, write_last, write_stop};
 use std::alloc::Global;
 use taxi_io::{Shelf, Sink};
 

@@ -4,22 +4,25 @@
 ghost use Rattle.std.specs.Prelude.{◌≡◌, ℕ, List, IfErr};
 ghost use Rattle.std.specs.IoError.{error_kind};
 ghost use Rattle.std.specs.Process.{exit_status};
-ghost use Rattle.program_endings.specs.Call.{call_of};
-ghost use Rattle.program_endings.specs.Exit.{number_of};
+ghost use Rattle.program_files.specs.Call.{call_of};
+ghost use Rattle.program_files.specs.Exit.{number_of};
 ghost use Rattle.program_words.specs.Given.{words_given};
 ghost use Rattle.tool_words.specs.Verb.{IsNamed, asked_by};
 ghost use Rattle.taxi_tools.specs.Exit.{KeepsPromises};
 
+mod checkpoints;
 mod graphs;
 mod lints;
 mod object_teller;
 mod objects;
 mod plans;
+mod reply_counter;
+mod sums;
 #[cfg(test)]
 mod tests;
 pub mod top;
 
-use program_endings::{Status, exit_code};
+use program_files::{Status, exit_code};
 use program_words::words_after_name;
 use std::alloc::Global;
 use std::env::Args;

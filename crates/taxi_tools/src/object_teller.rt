@@ -5,7 +5,7 @@ ghost use Rattle.taxi_tools.specs.Objects.{object_of};
 
 use airport_file::Airport;
 use command_run::Teller;
-use reply_json::object_line;
+use reply_json::write_object_line;
 use std::alloc::Global;
 use taxi_base::Memory;
 use taxi_engine::Engine;
@@ -15,7 +15,7 @@ use taxi_engine::Engine;
 pub(crate) struct ObjectTeller {
     alloc: Global,
     engine: Engine,
-    // The line of the last command. That of the one before it is given back once it is made.
+    // The line of the last command. Its memory is kept for the next.
     line: Vec<u8>,
 }
 
@@ -46,15 +46,16 @@ impl Teller for ObjectTeller {
     fn tell(&mut self, command: u64, number: u64, line: &[u8]) -> Result<(), Memory> {
         self.engine.answer(line);
         let reply = self.engine.reply();
-        self.line = object_line(
+        self.line.clear();
+        write_object_line(
             self.alloc,
             self.engine.airport(),
             command,
             number,
             line,
             reply,
-        )?;
-        Ok(())
+            &mut self.line,
+        )
     }
 
     fn told(&self) -> &[u8] {

@@ -3,20 +3,21 @@ ghost use Rattle.std.specs.Prelude.{◌≡◌, ◌≤◌, ◌∷◌, [], Some, I
 ghost use Rattle.taxi_io.specs.Counts.{Rose};
 ghost use Rattle.taxi_io.specs.Files.{BeganMore};
 ghost use Rattle.command_run.specs.Told.{IsWholeTold, IsStoppedTold};
-ghost use Rattle.program_endings.specs.Call.{call_of};
+ghost use Rattle.program_files.specs.Call.{call_of};
 ghost use Rattle.program_files.specs.Inputs.{commands_limit};
 ghost use Rattle.tool_words.specs.Verb.{Json, names_of};
 ghost use Rattle.taxi_tools.specs.Endings.{Ends};
 ghost use Rattle.taxi_tools.specs.Handed.{IsInPieces};
 ghost use Rattle.taxi_tools.specs.Objects.{object_of};
 ghost use Rattle.taxi_tools.specs.Order.{IsInOrder};
-ghost use Rattle.taxi_tools.specs.RunEnds.{HaltsWith, IsRunEnd};
+ghost use Rattle.taxi_tools.specs.RunEnds.{IsRunEnd};
 
 use crate::object_teller::ObjectTeller;
 use airport_file::Airport;
-use command_run::{RunRefused, run_told};
-use program_endings::{Status, read_fault_line, too_large_line, write_last};
-use program_files::{COMMANDS_LIMIT, begin_commands, read_airport_file, write_stop};
+use command_run::{RunRefused, run_told, write_halt};
+use program_files::{
+    COMMANDS_LIMIT, Status, begin_commands, read_airport_file, write_last, write_stop,
+};
 use reply_json::done_line;
 use std::alloc::Global;
 use taxi_io::{Shelf, Sink};
@@ -91,17 +92,4 @@ fn run_teller<S: Shelf, K: Sink>(
 {
     let mut teller = ObjectTeller::new(alloc, airport)?;
     run_told(alloc, &mut teller, shelf, COMMANDS_LIMIT, out)
-}
-
-// Writes the line that says why a run ends before the end of its file, and gives the status that goes with it.
-fn write_halt<K: Sink>(out: &mut K, why: RunRefused) -> Status
-    ensures ends { HaltsWith why (K.faults out.old, K.faults out.new) (K.written out.old, K.written out.new) result }
-    ensures later { K.faults out.old ≤ K.faults out.new }
-{
-    match why {
-        RunRefused::ReadFault => write_last(out, read_fault_line(), Status::ReadFault),
-        RunRefused::TooLarge => write_last(out, too_large_line(), Status::TooLarge),
-        RunRefused::WriteFault => Status::WriteFault,
-        RunRefused::Memory => Status::Memory,
-    }
 }

@@ -4,7 +4,7 @@ ghost use Rattle.taxi_base.specs.State.{State};
 ghost use Rattle.taxi_text.specs.Lines.{commands_of};
 ghost use Rattle.command_run.specs.Supplied.{IsSuppliedRun};
 ghost use Rattle.plan_table.specs.Plan.{IsPlan};
-ghost use Rattle.program_endings.specs.Call.{call_of};
+ghost use Rattle.program_files.specs.Call.{call_of};
 ghost use Rattle.tool_words.specs.Verb.{Plan, names_of};
 ghost use Rattle.taxi_tools.specs.Order.{IsInOrder};
 ghost use Rattle.taxi_tools.specs.Reads.{IsReadEnd};
@@ -13,8 +13,7 @@ use airport_file::Airport;
 use civil_times::Start;
 use command_run::run_all;
 use plan_table::write_plan;
-use program_endings::{Status, write_last};
-use program_files::{read_inputs, write_stop};
+use program_files::{Status, read_inputs, write_last, write_stop};
 use std::alloc::Global;
 use taxi_base::Memory;
 use taxi_engine::Engine;
@@ -58,6 +57,6 @@ fn plan_of(
 {
     let mut engine = Engine::new(alloc, airport)?;
     run_all(&mut engine, commands)?;
-    let (airport, mut ledger) = engine.into_parts();
-    write_plan(alloc, &airport, &mut ledger, start)
+    let (airport, ledger) = engine.into_parts();
+    write_plan(alloc, &airport, &ledger, start)
 }

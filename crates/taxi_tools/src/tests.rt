@@ -1,6 +1,6 @@
 //! Calls over files and output in memory, with what they write found by hand.
 use crate::top::tools;
-use program_endings::Status;
+use program_files::Status;
 use std::alloc::{AllocError, Global};
 use std::process::Abort;
 use std::test::Fail;
@@ -51,6 +51,32 @@ fn their_plan() -> &'static [u8] {
       X1,filed,M,R,J,1,A,forward,R,J,0,30,30,30,0,70\n\
       X2,filed,M,R,J,1,A,forward,R,J,100,160,160,30,30,3440\n\
       W1,work,,J,S1,1,B,,J,S1,0,100,100,100,0,3500\n"
+}
+
+fn their_figures() -> &'static [u8] {
+    b"commands 3\n\
+      reply filed 3\nreply cancelled 0\nreply route 0\nreply no-route 0\nreply windows 0\n\
+      reply occupancy 0\nreply timetable 0\nreply batch 0\nreply late 0\nreply refused 0\n\
+      entry route 0\nentry no-route 0\nentry dropped 0\n\
+      refused bad-line 0\nrefused in-force 0\nrefused unknown-class 0\nrefused unknown-node 0\n\
+      refused wrong-kind 0\nrefused unknown-segment 0\nrefused not-in-force 0\n\
+      refused not-routed 0\nrefused not-arrival 0\nrefused already-done 0\n\
+      refused already-moving 0\nrefused full 0\nrefused step class-barred 0\n\
+      refused step bad-turn 0\nrefused step too-fast 0\nrefused step past-horizon 0\n\
+      refused step taken 0\nrefused not-moving 0\nrefused not-late 0\nrefused past-end 0\n\
+      parties 1\n\
+      flights filed M 2\ntaxied filed M 90\nleast filed M 60\nwaited filed M 30\n\
+      flights arrival M 0\ntaxied arrival M 0\nleast arrival M 0\nwaited arrival M 0\n\
+      held arrival M 0\n\
+      flights departure M 0\ntaxied departure M 0\nleast departure M 0\nwaited departure M 0\n\
+      early departure M 0\n\
+      busy-seconds A 90\nbusy-flights A 2\n"
+}
+
+fn their_checkpoint() -> &'static [u8] {
+    b"file X1 M 0 A+ 30\n\
+      file X2 M 100 A+ 160\n\
+      work W1 B 0 100\n"
 }
 
 fn their_objects() -> &'static [u8] {
@@ -124,6 +150,28 @@ fn a_plan_is_written(rt: HostRuntime) -> Result<(), Fail> {
         "plan airport.csv commands.txt",
         Status::Done,
         their_plan(),
+    )
+}
+
+#[test]
+fn figures_are_written(rt: HostRuntime) -> Result<(), Fail> {
+    expect_call(
+        &rt,
+        rt.alloc(),
+        "figures airport.csv commands.txt",
+        Status::Done,
+        their_figures(),
+    )
+}
+
+#[test]
+fn a_checkpoint_is_written(rt: HostRuntime) -> Result<(), Fail> {
+    expect_call(
+        &rt,
+        rt.alloc(),
+        "checkpoint airport.csv commands.txt",
+        Status::Done,
+        their_checkpoint(),
     )
 }
 

@@ -2,18 +2,20 @@
 ghost use Rattle.std.specs.Prelude.{◌≡◌, ◌⊎◌, ◌≤◌, ℕ, List, map, string_bytes, Some, None};
 ghost use Rattle.taxi_io.specs.Counts.{Rose};
 ghost use Rattle.taxi_io.specs.Files.{Files};
-ghost use Rattle.program_endings.specs.Call.{call_of};
+ghost use Rattle.program_files.specs.Call.{call_of};
 ghost use Rattle.tool_words.specs.Verb.{IsNamed, asked_by};
 ghost use Rattle.taxi_tools.specs.Due.{IsDueOf};
 ghost use Rattle.taxi_tools.specs.Endings.{Ends};
 ghost use Rattle.taxi_tools.specs.Handed.{IsHandedOver};
 ghost use Rattle.taxi_tools.specs.Order.{IsInOrder};
 
+use crate::checkpoints::checkpoint;
 use crate::graphs::graph;
 use crate::lints::lint;
 use crate::objects::json;
 use crate::plans::plan;
-use program_endings::{Status, write_last};
+use crate::sums::figures;
+use program_files::{Status, write_last};
 use std::alloc::Global;
 use taxi_io::{Shelf, Sink};
 use tool_words::{Verb, asked_by, usage_line};
@@ -57,6 +59,12 @@ pub fn tools<S: Shelf, K: Sink>(
                 start,
             },
         ) => plan(alloc, airport, commands, &start, shelf, out),
+        Some(Verb::Figures { airport, commands }) => {
+            figures(alloc, airport, commands, shelf, out)
+        }
+        Some(Verb::Checkpoint { airport, commands }) => {
+            checkpoint(alloc, airport, commands, shelf, out)
+        }
         Some(Verb::Json { airport, commands }) => json(alloc, airport, commands, shelf, out),
         None => write_last(out, usage_line(), Status::Usage),
     }

@@ -7,8 +7,8 @@ use Rattle.schedule_import.specs.declared.import.ScheduleRefused.{ScheduleRefuse
 use Rattle.schedule_import.specs.declared.import.ScheduleRefused.TheVariants as why
 use Rattle.schedule_import.specs.Schedule.{import_of}
 use Rattle.program_words.specs.Verb.{FileNames, Import}
-use Rattle.program_endings.specs.declared.status.Status.{Status}
-use Rattle.program_endings.specs.declared.status.Status.TheVariants as status
+use Rattle.program_files.specs.declared.status.Status.{Status}
+use Rattle.program_files.specs.declared.status.Status.TheVariants as status
 use Rattle.program_files.specs.declared.stop.Stop.TheVariants as stop
 use Rattle.program_files.specs.Inputs.{AreAccepted}
 use Rattle.program_files.specs.Stops.{IsReadEnd}

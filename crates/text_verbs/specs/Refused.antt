@@ -3,9 +3,9 @@ use Rattle.std.specs.Prelude.{◌≡◌, ℕ}
 use Rattle.taxi_io.specs.Written.{Output}
 use Rattle.schedule_import.specs.declared.import.ScheduleRefused.{ScheduleRefused}
 use Rattle.schedule_import.specs.declared.import.ScheduleRefused.TheVariants as schedule
-use Rattle.program_endings.specs.declared.status.Status.{Status}
-use Rattle.program_endings.specs.declared.status.Status.TheVariants as status
-use Rattle.program_endings.specs.LastLine.{EndsWith}
+use Rattle.program_files.specs.declared.status.Status.{Status}
+use Rattle.program_files.specs.declared.status.Status.TheVariants as status
+use Rattle.program_files.specs.LastLine.{EndsWith}
 use Rattle.text_verbs.specs.Lines.{first_row_line, bad_start_line}
 
 -- by the writing of the line that says why; want of memory writes none

@@ -7,8 +7,8 @@ use Rattle.schedule_import.specs.declared.import.ScheduleRefused.{ScheduleRefuse
 use Rattle.schedule_import.specs.declared.import.ScheduleRefused.TheVariants.{FirstRow, BadStart}
 use Rattle.schedule_import.specs.Schedule.{import_of}
 use Rattle.program_words.specs.Verb.{FileNames}
-use Rattle.program_endings.specs.declared.status.Status.{Status}
-use Rattle.program_endings.specs.declared.status.Status.TheVariants as status
+use Rattle.program_files.specs.declared.status.Status.{Status}
+use Rattle.program_files.specs.declared.status.Status.TheVariants as status
 use Rattle.program_files.specs.Inputs.{IsJudged, AreAccepted}
 use Rattle.text_verbs.specs.Lines.{first_row_line, bad_start_line}
 

@@ -7,8 +7,7 @@ ghost use Rattle.text_verbs.specs.Texts.{IsImportText};
 ghost use Rattle.text_verbs.specs.Refused.{RefusesWith};
 
 use crate::last_line::{bad_start_line, first_row_line};
-use program_endings::{Status, write_last};
-use program_files::{read_inputs, write_stop};
+use program_files::{Status, read_inputs, write_last, write_stop};
 use schedule_import::{ScheduleRefused, import_schedule};
 use std::alloc::Global;
 use taxi_io::{Shelf, Sink};

@@ -6,8 +6,7 @@ ghost use Rattle.program_files.specs.Stops.{IsReadEnd};
 ghost use Rattle.text_verbs.specs.Texts.{IsMigrateText};
 
 use airport_text::write_airport;
-use program_endings::{Status, write_last};
-use program_files::{read_airport_file, write_stop};
+use program_files::{Status, read_airport_file, write_last, write_stop};
 use std::alloc::Global;
 use taxi_io::{Shelf, Sink};
 

@@ -5,11 +5,14 @@ use Rattle.program_words.specs.Verb.{FileNames}
 use Rattle.civil_times.specs.Later.{is_start}
 
 -- What is asked for: the airport of a file as a graph, or what is odd about it; or the plan that a run leaves as a table, with its times as
--- seconds or, where a start is given, as civil times; or each reply of a run as a JSON object.
+-- seconds or, where a start is given, as civil times; or the figures of a run; or what a run leaves in
+-- force as a command file; or each reply of a run as a JSON object.
 pub data Verb : Type 0 where
   Graph : (airport : List ℕ) → Verb
   Lint : (airport : List ℕ) → Verb
   Plan : FileNames → (start : Option (List ℕ)) → Verb
+  Figures : FileNames → Verb
+  Checkpoint : FileNames → Verb
   Json : FileNames → Verb
 
 -- what a verb and one more word ask for
@@ -24,7 +27,9 @@ names_of airport commands = record { airport = airport; commands = commands }
 abbrev pub asked_of_two : List ℕ → List ℕ → List ℕ → Option Verb
 asked_of_two verb airport commands =
     if bytes_eq verb (codes "plan") then Some (Plan (names_of airport commands) None)
-    else (if bytes_eq verb (codes "json") then Some (Json (names_of airport commands)) else None)
+    else (if bytes_eq verb (codes "figures") then Some (Figures (names_of airport commands))
+    else (if bytes_eq verb (codes "checkpoint") then Some (Checkpoint (names_of airport commands))
+    else (if bytes_eq verb (codes "json") then Some (Json (names_of airport commands)) else None)))
 
 -- the start that a word names; none where it names none
 abbrev pub start_of : List ℕ → Option (List ℕ)
@@ -48,4 +53,6 @@ IsNamed None name = ⊥
 IsNamed (Some (Graph airport)) name = name ≡ airport
 IsNamed (Some (Lint airport)) name = name ≡ airport
 IsNamed (Some (Plan names start)) name = (name ≡ names.airport) ⊎ (name ≡ names.commands)
+IsNamed (Some (Figures names)) name = (name ≡ names.airport) ⊎ (name ≡ names.commands)
+IsNamed (Some (Checkpoint names)) name = (name ≡ names.airport) ⊎ (name ≡ names.commands)
 IsNamed (Some (Json names)) name = (name ≡ names.airport) ⊎ (name ≡ names.commands)

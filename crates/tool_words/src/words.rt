@@ -19,6 +19,14 @@ pub enum Verb<'a> {
         commands: &'a str,
         start: Option<Start>,
     },
+    Figures {
+        airport: &'a str,
+        commands: &'a str,
+    },
+    Checkpoint {
+        airport: &'a str,
+        commands: &'a str,
+    },
     Json {
         airport: &'a str,
         commands: &'a str,
@@ -63,6 +71,8 @@ fn asked_of_two<'a>(verb: &str, airport: &'a str, commands: &'a str) -> Option<V
             commands,
             start: None,
         }),
+        "figures" => Some(Verb::Figures { airport, commands }),
+        "checkpoint" => Some(Verb::Checkpoint { airport, commands }),
         "json" => Some(Verb::Json { airport, commands }),
         _ => None,
     }

@@ -1,9 +1,9 @@
 //! A taxiway from a runway R over J to a stand S1, and over J and K to a stand S2, with the windows that two holds leave.
+use crate::{BackwardList, ForwardList, ListedCell, are_fit};
 use label_search::{
     Cell, CellStep, CellValue, Closing, Found, LabelRoom, Opening, Run, earliest_exits,
     latest_entries,
 };
-use listed_cells::{BackwardList, ForwardList, ListedCell, are_fit};
 use std::alloc::Global;
 use std::test::Fail;
 

@@ -1,5 +1,5 @@
 use Rattle.std.proofs.Common.{◌≡◌, ◌∙◌, inl, ℕ, List, refl, sym, ap, subst, map, string_bytes, arith}
-use Rattle.program_endings.specs.declared.status.Status.TheVariants.{Memory}
+use Rattle.program_files.specs.declared.status.Status.TheVariants.{Memory}
 use Rattle.program_words.specs.Verb.{IsNamed, asked_by}
 use Rattle.program_words.specs.Given.{words_given}
 use Rattle.taxi_cli.specs.Endings.{Call, call_of}

@@ -1,6 +1,6 @@
 //! Each way in which a call ends, but for what failing files and output bring.
 use super::{MIGRATE, ROUTE, expect_call};
-use program_endings::Status;
+use program_files::Status;
 use std::test::Fail;
 
 const AIRPORT: &[u8] =

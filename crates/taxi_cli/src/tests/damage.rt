@@ -1,7 +1,7 @@
 //! Damaged airport files, transcripts with one change, and lines that are off the grammar.
 use super::worked::{SMALL, airport_of, front_with, worked_commands, worked_pieces};
 use super::{CHECK, ROUTE, expect_call};
-use program_endings::Status;
+use program_files::Status;
 use std::alloc::Global;
 use std::process::Abort;
 use std::test::Fail;

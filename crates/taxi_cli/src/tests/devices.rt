@@ -3,7 +3,7 @@ ghost use Rattle.std.specs.Prelude.{◌≤◌};
 
 use super::worked::{SMALL, airport_of, front_with, worked_commands};
 use super::{ROUTE, expect_end, shelf_of, sink_of};
-use program_endings::Status;
+use program_files::Status;
 use std::alloc::Global;
 use std::process::Abort;
 use std::test::Fail;

@@ -2,7 +2,7 @@
 use super::worked::{SMALL, airport_of};
 use super::{MIGRATE, ROUTE, expect_call, shelf_of, sink_of, words_of};
 use crate::top::taxi;
-use program_endings::Status;
+use program_files::Status;
 use std::alloc::Global;
 use std::test::Fail;
 use taxi_base::Memory;

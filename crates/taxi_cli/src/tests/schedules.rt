@@ -1,7 +1,7 @@
 //! A day's schedule turned into commands, and schedules that are refused.
 use super::expect_call;
 use super::worked::{SMALL, airport_of};
-use program_endings::Status;
+use program_files::Status;
 use std::test::Fail;
 
 const IMPORT: &str = "import airport.csv commands.txt";

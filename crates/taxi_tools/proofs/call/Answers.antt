@@ -1,6 +1,6 @@
 use Rattle.std.proofs.Common.{◌≡◌, inl, ℕ, List, refl, ap, ◌∙◌, subst, map, string_bytes, arith}
-use Rattle.program_endings.specs.declared.status.Status.TheVariants.{Memory}
-use Rattle.program_endings.specs.Call.{Call, call_of}
+use Rattle.program_files.specs.declared.status.Status.TheVariants.{Memory}
+use Rattle.program_files.specs.Call.{Call, call_of}
 use Rattle.program_words.specs.Given.{words_given}
 use Rattle.tool_words.specs.Verb.{IsNamed, asked_by}
 use Rattle.taxi_tools.specs.Exit.{KeepsPromises}

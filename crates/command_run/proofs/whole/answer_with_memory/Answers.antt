@@ -9,6 +9,6 @@ returns g c =
     let other : bytes_eq c.reply.result.now (codes "refused memory\n") ≡ false =
     subst (λ (text : List ℕ). bytes_eq c.reply.result.now text ≡ false) c.as_slice.ensures (sym c.eq.ensures ∙ c.if-eq.false) in
     record {
-      answered = (reply.block, reply.answered, other-text (g.R.Router.airport c.args.router.now) reply.block c.reply.result.now (c.reply.ensures ∙ reply.is_text) other);
+      answered = (reply, other-text (g.R.Router.airport c.args.router.now) reply.block c.reply.result.now (c.reply.ensures ∙ reply.is_text) other);
       airport = c.answer.ensures.airport;
     }

@@ -2,7 +2,8 @@ use Rattle.std.proofs.Common.{◌≡◌, ◌∙◌, refl, sym, ap, subst, true, 
 use Rattle.taxi_text.specs.Lines.{lines_of, lines_left, is_skipped}
 use Rattle.taxi_base.specs.Airport.{Airport}
 use Rattle.certificate.specs.Replies.{IsAnswered}
-use Rattle.command_run.proofs.Supplied.{supplied-first, supplied-skipped, supplied-answered, supplied-whole}
+use Rattle.std.specs.Prelude.{⊤}
+use Rattle.command_run.proofs.Supplied.{kept-first, kept-skipped, kept-answered, kept-whole}
 use Rattle.command_run.proofs.whole.run_all.Goals as goal
 
 pub loop-line-init : goal.loop-line-init
@@ -13,7 +14,7 @@ loop-line-init g c =
       can = tt;
       finite = tt;
       airport = refl;
-      so_far = rw left (supplied-first (g.R.Router.airport c.args.router.now) (lines_of c.args.commands.now) (g.R.Router.state c.args.router.now) c.requires.fresh);
+      so_far = rw left (kept-first (g.R.Router.airport c.args.router.now) (lines_of c.args.commands.now) (g.R.Router.state c.args.router.now) (λ blocks. ⊤) c.requires.fresh tt);
     }
 
 pub loop-line-preserved : goal.loop-line-preserved
@@ -24,7 +25,7 @@ loop-line-preserved g c =
       can = tt;
       finite = tt;
       airport = inv.airport;
-      so_far = supplied-skipped _ _ _ _ _ _ inv.so_far c.in-Some.ensures.steps skipped;
+      so_far = kept-skipped _ _ _ _ _ _ _ inv.so_far c.in-Some.ensures.steps skipped;
     }
 
 pub loop-line-preserved-in-Continue-1 : goal.loop-line-preserved-in-Continue-1
@@ -36,12 +37,17 @@ loop-line-preserved-in-Continue-1 g c =
       can = tt;
       finite = tt;
       airport = c.answer_with_memory.ensures.airport ∙ inv.airport;
-      so_far = supplied-answered (g.R.Router.airport c.args.router.now) _ _ _ (g.R.Router.state c.loop-line.router) _ c.in-Some.line.now got.0 inv.so_far c.in-Some.ensures.steps kept
-          (subst (λ (a : Airport). IsAnswered a (g.R.Router.state c.loop-line.router) c.in-Some.line.now got.0 (g.R.Router.state c.answer_with_memory.new.router)) inv.airport got.1) got.2;
+      so_far = kept-answered (g.R.Router.airport c.args.router.now) _ _ _ (g.R.Router.state c.loop-line.router) _ (λ blocks. ⊤) (λ blocks. ⊤) c.in-Some.line.now inv.so_far c.in-Some.ensures.steps kept
+          (record {
+            block = got.0.block;
+            answered = subst (λ (a : Airport). IsAnswered a (g.R.Router.state c.loop-line.router) c.in-Some.line.now got.0.block (g.R.Router.state c.answer_with_memory.new.router)) inv.airport got.0.answered;
+            found_memory = got.1;
+            kept = λ blocks none. tt;
+          });
     }
 
 pub returns : goal.returns
 returns g c = record {
-  run = supplied-whole (g.R.Router.airport c.args.router.now) (lines_of c.args.commands.now) _ _ c.loop-line.invariant.so_far c.in-None.ensures.steps.0;
+  run = (kept-whole (g.R.Router.airport c.args.router.now) (lines_of c.args.commands.now) _ _ (λ blocks. ⊤) c.loop-line.invariant.so_far c.in-None.ensures.steps.0).run;
   airport = c.loop-line.invariant.airport;
 }

@@ -1,6 +1,7 @@
 use Rattle.std.proofs.Common.{◌≡◌}
+use Rattle.std.specs.Prelude.{⊤}
 use Rattle.taxi_text.specs.Lines.{lines_of, lines_left}
-use Rattle.command_run.proofs.Supplied.{IsSuppliedSoFar}
+use Rattle.command_run.proofs.Supplied.{IsKeptSoFar}
 use Rattle.command_run.proofs.whole.run_all.Given as goal
 
 -- the commands among the lines before this one are answered
@@ -10,5 +11,5 @@ invariant-loop-line g l =
       can : (goal.iterator-loop-line g).can_next l.line-iterator;
       finite : (goal.iterator-loop-line g).is_finite l.line-iterator;
       airport : g.R.Router.airport l.router ≡ g.R.Router.airport l.initial.router;
-      so_far : IsSuppliedSoFar (g.R.Router.airport l.initial.router) (lines_of l.fn.commands) (lines_left l.line-iterator) (g.R.Router.state l.router);
+      so_far : IsKeptSoFar (g.R.Router.airport l.initial.router) (lines_of l.fn.commands) (lines_left l.line-iterator) (g.R.Router.state l.router) (λ blocks. ⊤);
     }

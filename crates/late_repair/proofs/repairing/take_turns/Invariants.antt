@@ -1,6 +1,7 @@
+use Rattle.late_repair.specs.TakenOut.{taken_back}
 use Rattle.late_repair.proofs.TurnsLaws.{IsTurning}
 use Rattle.late_repair.proofs.repairing.take_turns.Given as goal
 
--- the names so far have had their turns, and the others wait
-abbrev pub invariant-loop-name : goal.invariant-loop-name
-invariant-loop-name l = IsTurning l.airport l.delay l.ledger.state l.names l.name-index l.fn.after.state l.entries l.after
+-- the holders so far have had their turns, and the others wait
+abbrev pub invariant-loop-holder : goal.invariant-loop-holder
+invariant-loop-holder l = IsTurning l.airport l.delay (taken_back l.before l.fn.ledger.state) l.before l.holder-index l.fn.ledger l.entries l.ledger

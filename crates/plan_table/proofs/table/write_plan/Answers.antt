@@ -9,13 +9,12 @@ use Rattle.plan_table.proofs.TableLaws.{whole-of}
 use Rattle.plan_table.proofs.table.write_plan.Goals as goal
 
 -- The rows of the work parties follow those of the flights, whose rows follow the header.
-pub returns-clause-plan : goal.returns-clause-plan
-returns-clause-plan c =
+pub returns : goal.returns
+returns c =
     let flights = c.in_ok-write_flights.ensures in
     let parties = c.in_ok-write_parties.ensures in
-    let party_rows = subst (λ (s : State). ArePartyRows c.args.airport.now s s.parties parties.0) flights.state parties.1 in
-    let whole = whole-of (row_fields c.args.start.now) _ _ _ _ header_fields flights.rows.0 parties.0 c.new-records.ensures c.in_ok-write_header.ensures flights.rows.2 parties.2 in
-    planned c.args.airport.now c.args.ledger.now.state c.args.start.now flights.rows.0 parties.0 (λ text. text.items) c.finish.result flights.rows.1 party_rows
+    let whole = whole-of (row_fields c.args.start.now) _ _ _ _ header_fields flights.0 parties.0 c.new-records.ensures c.in_ok-write_header.ensures flights.2 parties.2 in
+    planned c.args.airport.now c.args.ledger.now.state c.args.start.now flights.0 parties.0 (λ text. text.items) c.finish.result flights.1 parties.1
     (subst (λ t. IfOk c.finish.result (λ text. text.items ≡ t)) whole c.finish.ensures)
   where
     planned : {T E : Type 0} (airport : Airport) (state : State) (start : Option (List ℕ)) (flights parties : List PlanRow) (items : T → List ℕ) (r : Result T E)

@@ -1,5 +1,5 @@
 use Rattle.std.proofs.Common.{◌≡◌, refl, sym, ap, subst, map, string_bytes, None}
-use Rattle.program_endings.specs.declared.status.Status.TheVariants.{Usage}
+use Rattle.program_files.specs.declared.status.Status.TheVariants.{Usage}
 use Rattle.program_words.specs.Usage.{usage_line}
 use Rattle.taxi_cli.specs.Endings.{Call, call_of}
 use Rattle.program_words.specs.Verb.{FileNames, Route, Check, Generate, Migrate, Import, asked_by}

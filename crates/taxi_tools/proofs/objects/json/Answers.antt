@@ -1,6 +1,6 @@
 use Rattle.std.proofs.Common.{[], ◌∷◌, inr, arith}
 use Rattle.program_words.specs.Verb.{FileNames}
-use Rattle.program_endings.specs.Call.{Call, call_of}
+use Rattle.program_files.specs.Call.{Call, call_of}
 use Rattle.program_files.proofs.InputLaws.{began-more}
 use Rattle.tool_words.specs.Verb.{names_of}
 use Rattle.taxi_tools.proofs.JsonEndings.{airport-ends, run-ends, stop-handed}

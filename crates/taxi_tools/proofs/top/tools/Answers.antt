@@ -1,9 +1,9 @@
 use Rattle.std.proofs.Common.{refl, sym, ap, subst, map, string_bytes, Option, None}
-use Rattle.program_endings.specs.declared.status.Status.TheVariants.{Usage}
-use Rattle.program_endings.specs.Call.{Call, call_of}
-use Rattle.program_endings.proofs.EndingLaws.{last-ends_as}
+use Rattle.program_files.specs.declared.status.Status.TheVariants.{Usage}
+use Rattle.program_files.specs.Call.{Call, call_of}
+use Rattle.program_files.proofs.EndingLaws.{last-ends_as}
 use Rattle.tool_words.specs.Usage.{usage_line}
-use Rattle.tool_words.specs.Verb.{Verb, Graph, Lint, Plan, Json, names_of}
+use Rattle.tool_words.specs.Verb.{Verb, Graph, Lint, Plan, Figures, Checkpoint, Json, names_of}
 use Rattle.tool_words.specs.LentWords.{asked_for}
 use Rattle.taxi_tools.specs.Endings.{IsDueText, Ends}
 use Rattle.taxi_tools.specs.Handed.{IsHandedOver}
@@ -72,6 +72,36 @@ pub returns-in-Some-Plan-clause-complete : goal.returns-in-Some-Plan-clause-comp
 returns-in-Some-Plan-clause-complete g c = λ files told no_read no_write.
     due-is (call_of g.S.Shelf.files g.S.Shelf.faults g.S.Shelf.given g.K.Sink.faults g.K.Sink.written (c.args.shelf.now, c.plan.new.shelf) (c.args.out.now, c.plan.new.out)) files _ _ told
     (returns-in-Some-Plan-clause-ends g c) no_read no_write
+
+pub returns-in-Some-Figures-clause-ends : goal.returns-in-Some-Figures-clause-ends
+returns-in-Some-Figures-clause-ends g c =
+    asked-ends (call_of g.S.Shelf.files g.S.Shelf.faults g.S.Shelf.given g.K.Sink.faults g.K.Sink.written (c.args.shelf.now, c.figures.new.shelf) (c.args.out.now, c.figures.new.out)) (map string_bytes c.args.words.now)
+    c.in-Some-Figures.field-0 (Figures (names_of c.in-Some-Figures.airport.now c.in-Some-Figures.commands.now)) c.figures.result c.in-Some-Figures.ensures (ap asked_for c.in-Some-Figures.field-0-is) tt c.figures.ensures.ends
+
+pub returns-in-Some-Figures-clause-handed : goal.returns-in-Some-Figures-clause-handed
+returns-in-Some-Figures-clause-handed g c =
+    asked-in_one (call_of g.S.Shelf.files g.S.Shelf.faults g.S.Shelf.given g.K.Sink.faults g.K.Sink.written (c.args.shelf.now, c.figures.new.shelf) (c.args.out.now, c.figures.new.out)) (map string_bytes c.args.words.now)
+    c.in-Some-Figures.field-0 (Figures (names_of c.in-Some-Figures.airport.now c.in-Some-Figures.commands.now)) c.figures.result c.in-Some-Figures.ensures (ap asked_for c.in-Some-Figures.field-0-is) tt c.figures.ensures.ends
+
+pub returns-in-Some-Figures-clause-complete : goal.returns-in-Some-Figures-clause-complete
+returns-in-Some-Figures-clause-complete g c = λ files told no_read no_write.
+    due-is (call_of g.S.Shelf.files g.S.Shelf.faults g.S.Shelf.given g.K.Sink.faults g.K.Sink.written (c.args.shelf.now, c.figures.new.shelf) (c.args.out.now, c.figures.new.out)) files _ _ told
+    (returns-in-Some-Figures-clause-ends g c) no_read no_write
+
+pub returns-in-Some-Checkpoint-clause-ends : goal.returns-in-Some-Checkpoint-clause-ends
+returns-in-Some-Checkpoint-clause-ends g c =
+    asked-ends (call_of g.S.Shelf.files g.S.Shelf.faults g.S.Shelf.given g.K.Sink.faults g.K.Sink.written (c.args.shelf.now, c.checkpoint.new.shelf) (c.args.out.now, c.checkpoint.new.out)) (map string_bytes c.args.words.now)
+    c.in-Some-Checkpoint.field-0 (Checkpoint (names_of c.in-Some-Checkpoint.airport.now c.in-Some-Checkpoint.commands.now)) c.checkpoint.result c.in-Some-Checkpoint.ensures (ap asked_for c.in-Some-Checkpoint.field-0-is) tt c.checkpoint.ensures.ends
+
+pub returns-in-Some-Checkpoint-clause-handed : goal.returns-in-Some-Checkpoint-clause-handed
+returns-in-Some-Checkpoint-clause-handed g c =
+    asked-in_one (call_of g.S.Shelf.files g.S.Shelf.faults g.S.Shelf.given g.K.Sink.faults g.K.Sink.written (c.args.shelf.now, c.checkpoint.new.shelf) (c.args.out.now, c.checkpoint.new.out)) (map string_bytes c.args.words.now)
+    c.in-Some-Checkpoint.field-0 (Checkpoint (names_of c.in-Some-Checkpoint.airport.now c.in-Some-Checkpoint.commands.now)) c.checkpoint.result c.in-Some-Checkpoint.ensures (ap asked_for c.in-Some-Checkpoint.field-0-is) tt c.checkpoint.ensures.ends
+
+pub returns-in-Some-Checkpoint-clause-complete : goal.returns-in-Some-Checkpoint-clause-complete
+returns-in-Some-Checkpoint-clause-complete g c = λ files told no_read no_write.
+    due-is (call_of g.S.Shelf.files g.S.Shelf.faults g.S.Shelf.given g.K.Sink.faults g.K.Sink.written (c.args.shelf.now, c.checkpoint.new.shelf) (c.args.out.now, c.checkpoint.new.out)) files _ _ told
+    (returns-in-Some-Checkpoint-clause-ends g c) no_read no_write
 
 pub returns-in-Some-Json-clause-ends : goal.returns-in-Some-Json-clause-ends
 returns-in-Some-Json-clause-ends g c =

@@ -1,6 +1,6 @@
 use Rattle.std.proofs.Common.{Err, inl, inr, ap}
 use Rattle.program_words.specs.Verb.{FileNames}
-use Rattle.program_endings.specs.declared.status.Status.TheVariants.{Done}
+use Rattle.program_files.specs.declared.status.Status.TheVariants.{Done}
 use Rattle.program_files.proofs.InputLaws.{import_cause}
 use Rattle.text_verbs.proofs.ImportLaws.{schedule-ends}
 use Rattle.text_verbs.proofs.importing.import.Goals as goal

@@ -1,5 +1,5 @@
 use Rattle.std.proofs.Common.{inl, inr, ◌∙◌}
-use Rattle.program_endings.specs.declared.status.Status.TheVariants.{Done}
+use Rattle.program_files.specs.declared.status.Status.TheVariants.{Done}
 use Rattle.program_files.proofs.InputLaws.{airport_cause}
 use Rattle.text_verbs.proofs.migrating.migrate.Goals as goal
 

@@ -1,4 +1,0 @@
-pub mod LastLine
-pub mod Lines
-pub mod Exit
-pub mod Call

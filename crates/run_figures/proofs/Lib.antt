@@ -1,0 +1,7 @@
+mod TallyLaws
+mod BlockLaws
+mod FlightLaws
+mod RowOrder
+mod BusyLaws
+mod TextLaws
+mod SumLaws

@@ -1,0 +1,59 @@
+//! The engine as a counter of its replies.
+ghost use Rattle.std.specs.Prelude.{◌≡◌, [], List, IfOk};
+ghost use Rattle.taxi_base.specs.State.{no_holder};
+ghost use Rattle.certificate.specs.declared.block.Block.{Block};
+ghost use Rattle.run_figures.specs.Counts.{AreCounts};
+ghost use Rattle.run_figures.specs.Figures.{IsFigures};
+
+use airport_file::Airport;
+use command_run::{Keeper, answer_with_memory};
+use run_figures::{ReplyCounts, write_figures};
+use std::alloc::Global;
+use taxi_base::Memory;
+use taxi_engine::Engine;
+
+/// An engine, whose replies are counted.
+#[derive(Drop)]
+pub(crate) struct ReplyCounter {
+    alloc: Global,
+    engine: Engine,
+    counts: ReplyCounts,
+}
+
+impl ReplyCounter {
+    /// A counter at an airport, with no flight in force and no reply. After an error the airport is gone.
+    pub(crate) fn new(alloc: Global, airport: Airport) -> Result<ReplyCounter, Memory>
+        ensures airport { IfOk result (λ counter. counter.engine.airport ≡ airport) }
+        ensures fresh { IfOk result (λ counter. counter.engine.state ≡ no_holder) }
+        ensures none { IfOk result (λ counter. AreCounts airport [] counter.counts) }
+    {
+        let engine = Engine::new(alloc, airport)?;
+        Ok(ReplyCounter {
+            alloc,
+            engine,
+            counts: ReplyCounts::new(alloc)?,
+        })
+    }
+
+    /// The figures of the run so far.
+    pub(crate) fn figures(&self) -> Result<Vec<u8>, Memory>
+        ensures { (blocks : List Block) → AreCounts self.now.engine.airport blocks self.now.counts → IfOk result (λ text. IsFigures self.now.engine.airport blocks self.now.engine.state text.items) }
+    {
+        let airport = self.engine.airport();
+        write_figures(self.alloc, airport, &self.counts, self.engine.ledger())
+    }
+}
+
+impl Keeper for ReplyCounter {
+    ghost airport = { λ counter. counter.engine.airport };
+
+    ghost state = { λ counter. counter.engine.state };
+
+    ghost Kept = { λ counter blocks. AreCounts counter.engine.airport blocks counter.counts };
+
+    fn answer_and_keep(&mut self, line: &[u8]) -> Result<(), Memory> {
+        answer_with_memory(&mut self.engine, line)?;
+        let (airport, reply) = (self.engine.airport(), self.engine.reply());
+        self.counts.add(self.alloc, airport, reply)
+    }
+}

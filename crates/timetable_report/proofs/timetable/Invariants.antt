@@ -1,6 +1,0 @@
-use Rattle.std.proofs.Common.{◌≡◌, map, take}
-use Rattle.taxi_base.specs.Reports.{flight_row}
-use Rattle.timetable_report.proofs.timetable.Given as goal
-
-abbrev pub invariant-loop-place : goal.invariant-loop-place
-invariant-loop-place l = l.rows ≡ map flight_row (take l.place l.ledger.state.flights)
