@@ -1,3 +1,5 @@
+pub mod NumberLaws
+pub mod PlaceLaws
 pub mod CountLaws
 pub mod PairLaws
 pub mod ArcLaws

@@ -24,7 +24,7 @@ use Rattle.airport_rules.specs.declared.faults.AirportFault.TheVariants.{FieldCo
 use Rattle.airport_rules.proofs.ConflictLaws.{order-in_order, length-in_order, All-in_order, members-of}
 use Rattle.airport_rules.proofs.LinkLaws.{goes_on-links, goes_on-more, degree-more}
 use Rattle.airport_rules.proofs.AirportViews.{place-within}
-use Rattle.name_list.proofs.PlaceLaws.{not_found-differs}
+use Rattle.airport_rules.proofs.PlaceLaws.{not_found-differs}
 use Rattle.airport_rules.specs.Sound.{IsSound, IsSoundTime, IsSoundClearance}
 
 -- ---- what a step says that lets a record through

@@ -5,3 +5,4 @@ pub mod Rules
 pub mod Indexed
 pub mod Sound
 pub mod Judged
+pub mod Places

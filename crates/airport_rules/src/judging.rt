@@ -5,8 +5,8 @@ ghost use Rattle.airport_rules.specs.Rules.{refused, some_or, is_given, kind_of,
 ghost use Rattle.airport_rules.specs.Indexed.{link_of_way};
 ghost use Rattle.airport_rules.specs.Judged.{Answers};
 
+use crate::name_list::NameList;
 use crate::{AirportFault, ClearanceRow, LimitKind, Plan, Taxiway, TimeRow};
-use name_list::NameList;
 use taxi_base::{Arc, Class, Kind, Memory, Name, Node, Segment};
 use taxi_text::{read_arc_word, read_number};
 

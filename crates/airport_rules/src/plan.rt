@@ -9,8 +9,8 @@ ghost use Rattle.airport_rules.specs.Plan.{empty_plan, layout_of_plan};
 ghost use Rattle.airport_rules.specs.Rules.{is_crowded, is_timed, has_clearance, goes_on, with_pair};
 ghost use Rattle.airport_rules.specs.Indexed.{link_of_way, time_key};
 
+use crate::name_list::NameList;
 use crate::{ClearanceRow, Taxiway, TimeRow};
-use name_list::NameList;
 use std::alloc::Global;
 use std::collections::{BTreeSet, HashSet};
 use std::marker::Model;

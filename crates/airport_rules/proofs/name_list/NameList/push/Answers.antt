@@ -1,7 +1,7 @@
 -- The index finds the new name at the end, and each other name where it was.
 use Rattle.std.proofs.Common.{rules}
-use Rattle.name_list.proofs.PlaceLaws.{ArePlaced-push}
-use Rattle.name_list.proofs.NameList.push.Goals as goal
+use Rattle.airport_rules.proofs.PlaceLaws.{ArePlaced-push}
+use Rattle.airport_rules.proofs.name_list.NameList.push.Goals as goal
 
 pub invariant_of-self-in_default : goal.invariant_of-self-in_default
 invariant_of-self-in_default c =

@@ -4,9 +4,9 @@ use Rattle.std.specs.Int.Digits.{number_from_digits}
 use Rattle.std.proofs.lemmas.List.{take_all}
 use Rattle.std.proofs.lemmas.Int.Digits.{number_more}
 use Rattle.taxi_base.proofs.NameDigits.{digit-fits, digit-grows}
-use Rattle.name_list.specs.Places.{number_of}
-use Rattle.name_list.proofs.NumberLaws.{byte-at}
-use Rattle.name_list.proofs.number_of.Goals as goal
+use Rattle.airport_rules.specs.Places.{number_of}
+use Rattle.airport_rules.proofs.NumberLaws.{byte-at}
+use Rattle.airport_rules.proofs.name_list.number_of.Goals as goal
 
 pub overflow_mul-number : goal.overflow_mul-number
 overflow_mul-number c =

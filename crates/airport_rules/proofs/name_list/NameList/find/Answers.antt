@@ -2,8 +2,8 @@
 use Rattle.std.proofs.Common.{◌≡◌, ◌<◌, ◌≤◌, ℕ, List, length, Option, Some, None, arith, rules, sym}
 use Rattle.std.specs.Prelude.{IfSome}
 use Rattle.taxi_base.specs.Airport.{place_of}
-use Rattle.name_list.proofs.PlaceLaws.{place-within}
-use Rattle.name_list.proofs.NameList.find.Goals as goal
+use Rattle.airport_rules.proofs.PlaceLaws.{place-within}
+use Rattle.airport_rules.proofs.name_list.NameList.find.Goals as goal
 
 within : (name : List ℕ) (names : List (List ℕ)) (found : Option ℕ) → found ≡ place_of name names → length names ≤ 10000 → IfSome found (λ at. at < length names) × IfSome found (λ at. at < 10000)
 within name names (Some at) e few = let low = place-within name names at (sym e) in (low, omega (arith, low, few))

@@ -9,7 +9,7 @@ use Rattle.std.proofs.lemmas.Int.Digits.{digits_of_step}
 use Rattle.std.proofs.lemmas.List.Sums.{AllPass-from_list_all}
 use Rattle.taxi_base.specs.Words.{is_name, is_name_byte}
 use Rattle.taxi_base.proofs.NameDigits.{byte-range, name-bytes}
-use Rattle.name_list.specs.Places.{number_of}
+use Rattle.airport_rules.specs.Places.{number_of}
 
 -- the digits of a number with more digits written behind it, none of them 0
 digits-after : (n : ℕ) (bytes : List ℕ) → list_all is_name_byte bytes ≡ true → digits_of 256 (number_from_digits_after 256 n bytes) ≡ digits_of 256 n ++ bytes

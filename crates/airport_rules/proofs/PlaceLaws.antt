@@ -12,8 +12,8 @@ use Rattle.std.proofs.lemmas.List.Sums.{fails_before_first, prefix_len-le-length
 use Rattle.std.proofs.lemmas.Slice.Eq.{bytes_eq-Decides}
 use Rattle.taxi_base.specs.Words.{is_name}
 use Rattle.taxi_base.specs.Airport.{place_of}
-use Rattle.name_list.specs.Places.{ArePlaced, number_of}
-use Rattle.name_list.proofs.NumberLaws.{number_of-same}
+use Rattle.airport_rules.specs.Places.{ArePlaced, number_of}
+use Rattle.airport_rules.proofs.NumberLaws.{number_of-same}
 
 -- an element that passes a test, after some that do not
 pub position-push_first : {X : Type 0} (p : X → Bool) (xs : List X) (y : X) → position p xs ≡ None → p y ≡ true → position p (xs ++ y ∷ []) ≡ Some (length xs)

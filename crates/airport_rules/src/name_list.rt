@@ -1,11 +1,9 @@
 //! Names in order, each found by an index.
-#![tactic(auto)]
-
 ghost use Rattle.std.specs.Prelude.{◌≡◌, ◌<◌, ◌≤◌, IfSome, ◌++◌, ◌∷◌, [], ℕ, length, None, Some, IsTrue, OnOk, OnErr, slice_get, AllPairs, ◌≢◌};
 ghost use Rattle.std.specs.List.{AllPass};
 ghost use Rattle.taxi_base.specs.Words.{is_name};
 ghost use Rattle.taxi_base.specs.Airport.{place_of};
-ghost use Rattle.name_list.specs.Places.{number_of};
+ghost use Rattle.airport_rules.specs.Places.{number_of};
 
 use std::alloc::Global;
 use std::collections::HashMap;
@@ -22,7 +20,7 @@ pub struct NameList {
 
 impl Model for NameList {
     ghost use Rattle.std.specs.Prelude.{List, ℕ};
-    ghost use Rattle.name_list.specs.Places.{ArePlaced};
+    ghost use Rattle.airport_rules.specs.Places.{ArePlaced};
 
     ghost Value = { List (List ℕ) };
 
