@@ -3,7 +3,7 @@ ghost use Rattle.std.specs.Prelude.{◌≡◌, ◌↔◌, ◌<◌, IsTrue, lengt
 ghost use Rattle.taxi_base.specs.Airport.{Airport};
 ghost use Rattle.taxi_base.specs.State.{IsSound};
 ghost use Rattle.taxi_text.specs.declared.command.Command.TheVariants as command;
-ghost use Rattle.checked_state.specs.Flights.{flights_of, state_of};
+ghost use Rattle.checked_state.specs.Flights.{flights_of, state_of, HasSpansOf};
 ghost use Rattle.certificate_check.specs.Judged.{IsJudged};
 ghost use Rattle.certificate_check.specs.Reports.{IsOccupancyOf, IsTimetableOf};
 
@@ -22,7 +22,8 @@ pub fn check_occupancy(
     name: &Name,
     block: &Block,
 ) -> Result<(), CheckRefused>
-    requires { IsSound airport.now (state_of held.now) }
+    requires sound { IsSound airport.now (state_of held.now) }
+    requires spans { HasSpansOf airport.now (state_of held.now) held.now }
     ensures { IsJudged airport.now (command.Occupancy name.now) block.now (state_of held.now) result (state_of held.now) }
 {
     let Some(segment) = airport.segment_named(name) else {
@@ -41,6 +42,7 @@ pub fn check_timetable(held: &HeldFlights, block: &Block) -> Result<(), CheckRef
 // Whether a block tells all that is held of a segment and of those in conflict with it.
 fn is_occupancy(airport: &Airport, held: &HeldFlights, segment: Segment, block: &Block) -> bool
     requires on { segment.0 < length airport.now.segments }
+    requires spans { HasSpansOf airport.now (state_of held.now) held.now }
     ensures { IsTrue result ↔ IsOccupancyOf airport.now (state_of held.now) segment block.now }
 {
     match block {

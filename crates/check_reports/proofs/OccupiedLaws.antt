@@ -1,27 +1,28 @@
 -- The rows of what is held: their order, and how one is found among them.
-use Rattle.std.proofs.Common.{◌≡◌, ◌↔◌, ◌∙◌, ℕ, zero, suc, ◌+◌, ◌-◌, ◌<◌, ◌≤◌, Bool, true, false, ◌&&◌, ◌||◌, eqb, ltb, List, length, get_or, All, Some, None, inl, inr, [], IsTrue, refl, sym, ap, subst, arith}
-use Rattle.std.specs.Prelude.{nat_lt, bytes_eq, Contains}
+use Rattle.std.proofs.Common.{◌≡◌, ◌↔◌, ◌∙◌, ℕ, zero, suc, ◌+◌, ◌-◌, ◌<◌, ◌≤◌, Bool, true, false, ◌&&◌, ◌||◌, eqb, ltb, List, [], ◌++◌, length, get_or, map, All, inl, inr, IsTrue, refl, sym, ap, subst, arith}
+use Rattle.std.specs.Prelude.{nat_lt, bytes_eq, Contains, flat_map}
 use Rattle.std.specs.List.{AllAdjacentBelow, IsAllAdjacentAnswer}
 use Rattle.std.specs.List.Sorted.{IsPartitionPoint, IsPartitionedBy}
 use Rattle.std.specs.Cmp.Lexicographic.{bytes_decides}
 use Rattle.std.proofs.lemmas.Bool.{cases_lt, both_ways, or_cases, or_left, or_right, and_parts, and_from, false≢true, ltb-true, lt-ltb, eqb-true, eq-eqb}
 use Rattle.std.proofs.lemmas.List.{get_or_default}
-use Rattle.std.proofs.lemmas.List.Elements.{All-contains, Contains-get_or}
+use Rattle.std.proofs.lemmas.List.Elements.{All-contains, Contains-get_or, Contains-append_cases, Contains-append_left, Contains-append_right}
 use Rattle.taxi_base.specs.declared.numbers.Segment.{Segment}
-use Rattle.taxi_base.specs.declared.rows.Step.{Step}
 use Rattle.taxi_base.specs.declared.rows.HeldRow.{HeldRow}
+use Rattle.taxi_base.specs.declared.rows.Span.{Span}
 use Rattle.taxi_base.specs.declared.answers.Flight.{Flight}
-use Rattle.taxi_base.specs.declared.answers.Party.{Party}
-use Rattle.taxi_base.specs.Airport.{Airport, conflict, clearance_of}
-use Rattle.taxi_base.specs.Windows.{Hold, hold_of}
-use Rattle.taxi_base.specs.State.{State, name_precedes, flight_named, party_named}
+use Rattle.taxi_base.specs.Airport.{Airport, conflict}
+use Rattle.taxi_base.specs.Windows.{Hold}
+use Rattle.taxi_base.specs.State.{State, name_precedes, flight_holds, party_hold}
 use Rattle.taxi_base.specs.Reports.{held_row, IsHeldRow, row_precedes, AreHeldRows}
-use Rattle.taxi_base.proofs.ListLaws.{Contains-map, map-Contains}
+use Rattle.taxi_base.proofs.ListLaws.{Contains-map, map-Contains, Contains-flat_map, flat_map-Contains}
 use Rattle.taxi_base.proofs.NameLaws.{name_precedes-trans, name_precedes-not_itself}
-use Rattle.taxi_base.proofs.NamedLists.{find-here}
-use Rattle.certificate.proofs.FlightLaws.{find-there, flight_named-there}
-use Rattle.checked_state.specs.Order.{AreInOrder, ArePartiesInOrder}
-use Rattle.check_reports.specs.HeldRows.{end_precedes, name_precedes_then_segment, AreRowsInOrder, row_of, shut_row, IsRowDue, IsRowOfFlight, IsFlightRow, IsStepTold, IsPartyRow, IsPartyTold, AreTold}
+use Rattle.conflict_sets.specs.Conflicts.{AreConflicts}
+use Rattle.held_spans.specs.declared.spans.HeldSpans.{HeldSpans}
+use Rattle.held_spans.specs.Spans.{rows_at, NamedHold, AreHeldBy}
+use Rattle.held_spans.proofs.SpanLaws.{one_hold, held-among, among-held}
+use Rattle.checked_state.specs.Flights.{flight_held, party_held, named_in}
+use Rattle.check_reports.specs.HeldRows.{end_precedes, name_precedes_then_segment, row_on, AreRowsInOrder, IsListed, IsRowDue, IsTold}
 
 -- ---- the order
 
@@ -136,113 +137,83 @@ module _ (rows : List HeldRow) (row : HeldRow) (ordered : AreRowsInOrder rows) (
   pub row-missing : length rows ≤ at → Contains rows row → ⊥
   row-missing past there = absurd (omega (arith, (row-there there).0))
 
--- ---- what a flight holds
+-- ---- what the lists of the segments have is what is held in a state
 
-module _ (airport : Airport) (flight : Flight) where
-  abbrev hold_by : Step → Hold
-  hold_by step = hold_of airport.horizon (clearance_of airport flight.class) step
+module _ (airport : Airport) (state : State) (spans : HeldSpans) (are : AreHeldBy (named_in airport state) spans) where
+  abbrev parties_held : List NamedHold
+  parties_held = map party_held state.parties
 
-  pub row-of_step : (row : HeldRow) (step : Step) → Contains flight.steps step → row ≡ row_of airport flight step → IsRowOfFlight airport flight row
-  row-of_step row step there is = (hold_by step, Contains-map hold_by flight.steps step there, is)
+  abbrev flights_held : List NamedHold
+  flights_held = flat_map (flight_held airport) state.flights
 
-  step-of_row : (row : HeldRow) → IsRowOfFlight airport flight row → (step : Step) × Contains flight.steps step × (row ≡ row_of airport flight step)
-  step-of_row row of =
-      let found = map-Contains hold_by flight.steps of.0 of.1 in
-      (found.0, found.1, of.2 ∙ ap (held_row flight.name) (sym found.2))
+  abbrev of_flight : Flight → Hold → NamedHold
+  of_flight f hold = record { hold = hold; holder = f.name }
 
-  pub row-of_none : (row : HeldRow) → All (λ step. row ≡ row_of airport flight step → ⊥) flight.steps → IsRowOfFlight airport flight row → ⊥
-  row-of_none row none of =
-      let found = step-of_row row of in
-      All-contains (λ step. row ≡ row_of airport flight step → ⊥) flight.steps found.0 none found.1 found.2
+  abbrev row_by : NamedHold → HeldRow
+  row_by h = held_row h.holder h.hold
 
-same_some : {A : Type 0} {x y : A} → Some x ≡ Some y → x ≡ y
-same_some e = cc
+  abbrev span_of : HeldRow → Span
+  span_of row = record { from = row.from; until = row.until }
 
--- ---- who holds what is told
+  held-by : (h : NamedHold) → Contains (parties_held ++ flights_held) h → IsHeldRow airport state (row_by h)
+  held-by h there =
+      elim (Contains-append_cases parties_held flights_held h there) [
+        | inl by_party ↦ (let p = map-Contains party_held state.parties h by_party in inl (p.0, p.1, ap row_by (sym p.2)))
+        | inr by_flight ↦ (
+            let f = flat_map-Contains (flight_held airport) state.flights h by_flight in
+            let x = map-Contains (of_flight f.0) (flight_holds airport f.0) h f.2 in
+            inr (f.0, f.1, x.0, x.1, ap row_by (sym x.2))
+            )
+      ]
 
--- a row is of the flight of its name
-module _ (airport : Airport) (flights : List Flight) (ordered : AreInOrder flights) where
-  holder : (row : HeldRow) → IsFlightRow airport flights row → (f : Flight) × IsRowOfFlight airport f row × (flight_named row.flight flights ≡ Some f)
-  holder row held =
-      let f = held.0 in
-      let place = held.1 in
-      let found : flight_named f.name flights ≡ Some f =
-      find-here (λ (g : Flight). g.name) f.name flights place.0 f ordered place.1 (ap (λ (g : Flight). g.name) place.2) ∙ ap Some place.2 in
-      (f, held.2, subst (λ name. flight_named name flights ≡ Some f) (sym (ap (λ (r : HeldRow). r.flight) held.2.2)) found)
+  listed-held : (row : HeldRow) → IsListed spans row → IsHeldRow airport state row
+  listed-held row listed =
+      held-by (one_hold row.segment (span_of row) row.flight) (among-held row.segment (span_of row) row.flight spans (named_in airport state) are listed)
 
-  pub flight-some : (row : HeldRow) (flight : Flight) → flight_named row.flight flights ≡ Some flight → (r : Bool) → IsTrue r ↔ IsRowOfFlight airport flight row
-      → IsTrue r ↔ IsFlightRow airport flights row
-  flight-some row flight found r same = (
-    λ yes. (flight, flight_named-there row.flight flights flight found, same.0 yes),
-    λ is.
-        let held = holder row is in
-        let one : held.0 ≡ flight = same_some (sym held.2 ∙ found) in
-        same.1 (subst (λ f. IsRowOfFlight airport f row) one held.1),
-  )
+  listed-by : (name : List ℕ) (hold : Hold) → Contains (parties_held ++ flights_held) (record { hold = hold; holder = name }) → IsListed spans (held_row name hold)
+  listed-by name hold there = held-among hold.segment hold.span name spans (named_in airport state) are there
 
-  pub flight-none : (row : HeldRow) → flight_named row.flight flights ≡ None → IsFlightRow airport flights row → ⊥
-  flight-none row none is = absurd (cc (sym none ∙ (holder row is).2))
-
--- and of the party of its name
-module _ (parties : List Party) (ordered : ArePartiesInOrder parties) where
-  shutter : (row : HeldRow) → IsPartyRow parties row → (p : Party) × (row ≡ shut_row p) × (party_named row.flight parties ≡ Some p)
-  shutter row held =
+  held-listed : (row : HeldRow) → IsHeldRow airport state row → IsListed spans row
+  held-listed row (inl held) =
       let p = held.0 in
-      let place = held.1 in
-      let found : party_named p.name parties ≡ Some p =
-      find-here (λ (q : Party). q.name) p.name parties place.0 p ordered place.1 (ap (λ (q : Party). q.name) place.2) ∙ ap Some place.2 in
-      (p, held.2, subst (λ name. party_named name parties ≡ Some p) (sym (ap (λ (r : HeldRow). r.flight) held.2)) found)
-
-  pub party-some : (row : HeldRow) (party : Party) → party_named row.flight parties ≡ Some party → (r : Bool) → IsTrue r ↔ (row ≡ shut_row party) → IsTrue r ↔ IsPartyRow parties row
-  party-some row party found r same = (
-    λ yes. (party, find-there (λ (p : Party). bytes_eq p.name row.flight) parties party found, same.0 yes),
-    λ is.
-        let held = shutter row is in
-        let one : held.0 ≡ party = same_some (sym held.2 ∙ found) in
-        same.1 (subst (λ p. row ≡ shut_row p) one held.1),
-  )
-
-  pub party-none : (row : HeldRow) → party_named row.flight parties ≡ None → IsPartyRow parties row → ⊥
-  party-none row none is = absurd (cc (sym none ∙ (shutter row is).2))
-
--- ---- all that is held in a state
-
-module _ (airport : Airport) (state : State) (segment : Segment) (rows : List HeldRow) where
-  told-there : AreTold airport state segment rows → (row : HeldRow) → IsHeldRow airport state row → IsTrue (conflict airport.conflicts segment row.segment) → Contains rows row
-  told-there told row (inl held) near =
-      subst (Contains rows) (sym held.2)
-      (All-contains (IsPartyTold airport segment rows) state.parties held.0 told.0 held.1 (subst (λ (r : HeldRow). IsTrue (conflict airport.conflicts segment r.segment)) held.2 near))
-  told-there told row (inr held) near =
+      let there = Contains-append_left parties_held flights_held (party_held p) (Contains-map party_held state.parties p held.1) in
+      subst (IsListed spans) (sym held.2) (listed-by p.name (party_hold p) there)
+  held-listed row (inr held) =
       let f = held.0 in
-      let found = step-of_row airport f row (held.2, held.3, held.4) in
-      let steps : All (IsStepTold airport segment rows f) f.steps = All-contains (λ flight. All (IsStepTold airport segment rows flight) flight.steps) state.flights f told.1 held.1 in
-      let is : row_of airport f found.0 ≡ row = sym found.2 in
-      subst (Contains rows) is
-      (All-contains (IsStepTold airport segment rows f) f.steps found.0 steps found.1 (subst (λ (r : HeldRow). IsTrue (conflict airport.conflicts segment r.segment)) found.2 near))
+      let hold = held.2 in
+      let own = Contains-map (of_flight f) (flight_holds airport f) hold held.3 in
+      let there = Contains-append_right parties_held flights_held (of_flight f hold) (Contains-flat_map (flight_held airport) state.flights f (of_flight f hold) held.1 own) in
+      subst (IsListed spans) (sym held.4) (listed-by f.name hold there)
 
-  there-told : AreHeldRows airport state segment rows → AreTold airport state segment rows
-  there-told are = (parties, flights) where
-    parties : All (IsPartyTold airport segment rows) state.parties
-    parties k d low near =
-        let p = get_or state.parties k d in
-        (are.whole (shut_row p)).1 (inl (p, Contains-get_or state.parties k d low, refl), near)
+  -- ---- all that is held is told
 
-    flights : All (λ flight. All (IsStepTold airport segment rows flight) flight.steps) state.flights
-    flights k d low i e on near =
-        let f = get_or state.flights k d in
-        let step = get_or f.steps i e in
-        (are.whole (row_of airport f step)).1
-        (inr (f, Contains-get_or state.flights k d low, hold_by airport f step, Contains-map (hold_by airport f) f.steps step (Contains-get_or f.steps i e on), refl), near)
+  module _ (segment : Segment) (segments : List Segment) (conflicts : AreConflicts airport.conflicts segment segments) (rows : List HeldRow) where
+    told-there : All (IsTold spans rows) segments → (row : HeldRow) → IsHeldRow airport state row → IsTrue (conflict airport.conflicts segment row.segment) → Contains rows row
+    told-there told row is near =
+        All-contains (λ listed. Contains rows (row_on row.segment listed)) (rows_at spans row.segment) (span_of row, row.flight)
+        (All-contains (IsTold spans rows) segments row.segment told ((conflicts.each row.segment).1 near)) (held-listed row is)
 
-  -- rows in order that are all due, where all that is due is told
-  pub all-held : AreRowsInOrder rows → All (IsRowDue airport state segment) rows → (r : Bool) → IsTrue r ↔ AreTold airport state segment rows → IsTrue r ↔ AreHeldRows airport state segment rows
-  all-held in_order due r same = (
-    λ yes. record {
-      ordered = in_order;
-      whole = λ row. (λ there. All-contains (IsRowDue airport state segment) rows row due there, λ is. told-there (same.0 yes) row is.0 is.1);
-    },
-    λ are. same.1 (there-told are),
-  )
+    there-told : AreHeldRows airport state segment rows → All (IsTold spans rows) segments
+    there-told told i e on k d low =
+        let s = get_or segments i e in
+        let listed = get_or (rows_at spans s) k d in
+        (told.whole (row_on s listed)).1 (listed-held (row_on s listed) (Contains-get_or (rows_at spans s) k d low), (conflicts.each s).0 (Contains-get_or segments i e on))
 
-  pub held-due : AreHeldRows airport state segment rows → All (IsRowDue airport state segment) rows
-  held-due are k d low = (are.whole (get_or rows k d)).0 (Contains-get_or rows k d low)
+    -- rows in order that are all due, where all that is due is told
+    pub all-held : AreRowsInOrder rows → All (IsRowDue airport spans segment) rows → (r : Bool) → IsTrue r ↔ All (IsTold spans rows) segments → IsTrue r ↔ AreHeldRows airport state segment rows
+    all-held in_order due r same = (
+      λ yes. record {
+        ordered = in_order;
+        whole = λ row. (
+          λ there. let is = All-contains (IsRowDue airport spans segment) rows row due there in (listed-held row is.0, is.1),
+          λ is. told-there (same.0 yes) row is.0 is.1,
+        );
+      },
+      λ told. same.1 (there-told told),
+    )
+
+  pub held-due : (segment : Segment) (rows : List HeldRow) → AreHeldRows airport state segment rows → All (IsRowDue airport spans segment) rows
+  held-due segment rows told k d low =
+      let row = get_or rows k d in
+      let is = (told.whole row).0 (Contains-get_or rows k d low) in
+      (held-listed row is.0, is.1)

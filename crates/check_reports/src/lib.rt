@@ -2,7 +2,6 @@
 #![tactic(auto)]
 
 mod occupied;
-mod parties;
 mod timetable;
 
 pub use occupied::are_held_rows;

@@ -1,16 +1,18 @@
 //! The rows that tell what is held of a segment and of those in conflict with it.
 ghost use Rattle.std.specs.Prelude.{◌≡◌, ◌↔◌, ◌<◌, ◌≤◌, true, false, All, Contains, IsTrue, length};
 ghost use Rattle.std.specs.List.Sorted.{IsPartitionPoint};
-ghost use Rattle.taxi_base.specs.Reports.{IsHeldRow, AreHeldRows, row_precedes};
-ghost use Rattle.checked_state.specs.Flights.{flights_of, state_of};
-ghost use Rattle.check_reports.specs.HeldRows.{row_of, end_precedes, name_precedes_then_segment, AreRowsInOrder, IsRowDue, IsFlightRow, IsRowOfFlight, IsStepTold, AreTold};
+ghost use Rattle.taxi_base.specs.Reports.{AreHeldRows, row_precedes};
+ghost use Rattle.held_spans.specs.Spans.{rows_at};
+ghost use Rattle.checked_state.specs.Flights.{state_of, HasSpansOf};
+ghost use Rattle.check_reports.specs.HeldRows.{row_on, end_precedes, name_precedes_then_segment, AreRowsInOrder, IsListed, IsRowDue, IsTold};
 
-use crate::parties::{are_parties_told, is_row_of_party};
 use airport_file::Airport;
-use checked_state::{FlightList, HeldFlights};
-use taxi_base::{Flight, HeldRow, Segment, Step};
+use checked_state::HeldFlights;
+use held_spans::HeldSpans;
+use taxi_base::{HeldRow, Name, Segment, Span};
 
-/// Whether rows are in order, none twice, and tell all that is held of a segment and of those in conflict with it.
+/// Whether rows are in order, none twice, and tell all that is held of a segment and of those in conflict with it. The spans
+/// of these segments are asked, and no flight.
 pub fn are_held_rows(
     airport: &Airport,
     held: &HeldFlights,
@@ -18,12 +20,15 @@ pub fn are_held_rows(
     rows: &[HeldRow],
 ) -> bool
     requires on { segment.0 < length airport.now.segments }
+    requires spans { HasSpansOf airport.now (state_of held.now) held.now }
     ensures { IsTrue result ↔ AreHeldRows airport.now (state_of held.now) segment rows.now }
 {
     if !are_in_order(rows) {
         return false;
     }
-    are_due(airport, held, segment, rows) && is_all_told(airport, held, segment, rows)
+    let spans = held.spans();
+    let conflicting = airport.conflicts().of(segment);
+    are_due(airport, spans, segment, rows) && are_all_told(spans, conflicting, rows)
 }
 
 // ---- the order
@@ -55,12 +60,12 @@ fn precedes_by_name(a: &HeldRow, b: &HeldRow) -> bool
 
 // ---- each row tells what is held
 
-fn are_due(airport: &Airport, held: &HeldFlights, segment: Segment, rows: &[HeldRow]) -> bool
+fn are_due(airport: &Airport, spans: &HeldSpans, segment: Segment, rows: &[HeldRow]) -> bool
     requires on { segment.0 < length airport.now.segments }
-    ensures { IsTrue result ↔ All (IsRowDue airport.now (state_of held.now) segment) rows.now }
+    ensures { IsTrue result ↔ All (IsRowDue airport.now spans.now segment) rows.now }
 {
     for row in rows {
-        if !is_due(airport, held, segment, row) {
+        if !is_due(airport, spans, segment, row) {
             return false;
         }
     }
@@ -68,122 +73,66 @@ fn are_due(airport: &Airport, held: &HeldFlights, segment: Segment, rows: &[Held
 }
 
 // Whether a row tells what is held, of a segment in conflict.
-fn is_due(airport: &Airport, held: &HeldFlights, segment: Segment, row: &HeldRow) -> bool
+fn is_due(airport: &Airport, spans: &HeldSpans, segment: Segment, row: &HeldRow) -> bool
     requires on { segment.0 < length airport.now.segments }
-    ensures { IsTrue result ↔ IsRowDue airport.now (state_of held.now) segment row.now }
+    ensures { IsTrue result ↔ IsRowDue airport.now spans.now segment row.now }
 {
-    airport.conflicts().conflict(segment, row.segment) && is_held(airport, held, row)
+    airport.conflicts().conflict(segment, row.segment) && is_listed(spans, row)
 }
 
-// Whether a row tells what a party or a flight holds.
-fn is_held(airport: &Airport, held: &HeldFlights, row: &HeldRow) -> bool
-    ensures { IsTrue result ↔ IsHeldRow airport.now (state_of held.now) row.now }
+// Whether what a row tells stands in the list of its segment.
+fn is_listed(spans: &HeldSpans, row: &HeldRow) -> bool
+    ensures { IsTrue result ↔ IsListed spans.now row.now }
 {
-    is_row_of_party(held, row) || is_flight_row(airport, held, row)
-}
-
-fn is_flight_row(airport: &Airport, held: &HeldFlights, row: &HeldRow) -> bool
-    ensures { IsTrue result ↔ IsFlightRow airport.now (state_of held.now).flights row.now }
-{
-    match held.flight(&row.flight) {
-        Some(flight) => is_row_of_flight(airport, flight, row),
-        None => false,
-    }
-}
-
-fn is_row_of_flight(airport: &Airport, flight: &Flight, row: &HeldRow) -> bool
-    ensures { IsTrue result ↔ IsRowOfFlight airport.now flight.now row.now }
-{
-    for step in flight.steps.as_slice() {
-        if is_row_of(airport, flight, step, row) {
-            return true;
-        }
-    }
-    false
-}
-
-fn is_row_of(airport: &Airport, flight: &Flight, step: &Step, row: &HeldRow) -> bool
-    ensures { IsTrue result ↔ (row.now ≡ row_of airport.now flight.now step.now) }
-{
-    *row == row_of(airport, flight, step)
-}
-
-// What a flight holds with one of its steps.
-fn row_of(airport: &Airport, flight: &Flight, step: &Step) -> HeldRow
-    ensures { result ≡ row_of airport.now flight.now step.now }
-{
-    let span = step.held(airport.horizon(), airport.clearance(flight.class));
-    HeldRow {
-        from: span.from,
-        until: span.until,
-        flight: flight.name,
-        segment: step.arc.segment(),
-    }
+    let span = Span {
+        from: row.from,
+        until: row.until,
+    };
+    spans.has(row.segment, span, &row.flight)
 }
 
 // ---- all that is held is told
 
-fn is_all_told(airport: &Airport, held: &HeldFlights, segment: Segment, rows: &[HeldRow]) -> bool
-    requires on { segment.0 < length airport.now.segments }
-    requires ordered { AreRowsInOrder rows.now }
-    ensures { IsTrue result ↔ AreTold airport.now (state_of held.now) segment rows.now }
+// Whether rows tell all for which some segments are held.
+fn are_all_told(spans: &HeldSpans, segments: &[Segment], rows: &[HeldRow]) -> bool
+    requires { AreRowsInOrder rows.now }
+    ensures { IsTrue result ↔ All (IsTold spans.now rows.now) segments.now }
 {
-    are_parties_told(airport, held.parties(), segment, rows)
-        && are_flights_told(airport, held.flights(), segment, rows)
-}
-
-fn are_flights_told(
-    airport: &Airport,
-    flights: &FlightList,
-    segment: Segment,
-    rows: &[HeldRow],
-) -> bool
-    requires on { segment.0 < length airport.now.segments }
-    requires ordered { AreRowsInOrder rows.now }
-    ensures { IsTrue result ↔ All (λ flight. All (IsStepTold airport.now segment rows.now flight) flight.steps) (flights_of flights.now) }
-{
-    for at in 0..flights.len() {
-        let flight = flights.at(at);
-        if !is_flight_told(airport, flight, segment, rows) {
+    for segment in segments {
+        if !is_told(spans, *segment, rows) {
             return false;
         }
     }
     true
 }
 
-fn is_flight_told(airport: &Airport, flight: &Flight, segment: Segment, rows: &[HeldRow]) -> bool
-    requires on { segment.0 < length airport.now.segments }
-    requires ordered { AreRowsInOrder rows.now }
-    ensures { IsTrue result ↔ All (IsStepTold airport.now segment rows.now flight.now) flight.now.steps }
+fn is_told(spans: &HeldSpans, segment: Segment, rows: &[HeldRow]) -> bool
+    requires { AreRowsInOrder rows.now }
+    ensures { IsTrue result ↔ IsTold spans.now rows.now segment }
 {
-    for step in flight.steps.as_slice() {
-        if !is_step_told(airport, flight, step, segment, rows) {
+    for place in 0..spans.count(segment) {
+        let (span, holder) = spans.row(segment, place);
+        if !has_row(rows, &row_on(segment, span, holder)) {
             return false;
         }
     }
     true
 }
 
-// Whether rows tell what a flight holds with a step, if that is of a segment in conflict.
-fn is_step_told(
-    airport: &Airport,
-    flight: &Flight,
-    step: &Step,
-    segment: Segment,
-    rows: &[HeldRow],
-) -> bool
-    requires on { segment.0 < length airport.now.segments }
-    requires ordered { AreRowsInOrder rows.now }
-    ensures { IsTrue result ↔ IsStepTold airport.now segment rows.now flight.now step.now }
+// The row that tells of a span for which a segment is held.
+fn row_on(segment: Segment, span: Span, holder: Name) -> HeldRow
+    ensures { result ≡ row_on segment (record { 0 = span; 1 = holder }) }
 {
-    if !airport.conflicts().conflict(segment, step.arc.segment()) {
-        return true;
+    HeldRow {
+        from: span.from,
+        until: span.until,
+        flight: holder,
+        segment,
     }
-    has_row(rows, &row_of(airport, flight, step))
 }
 
-/// Whether rows in order have a row.
-pub(crate) fn has_row(rows: &[HeldRow], row: &HeldRow) -> bool
+// Whether rows in order have a row.
+fn has_row(rows: &[HeldRow], row: &HeldRow) -> bool
     requires { AreRowsInOrder rows.now }
     ensures { IsTrue result ↔ Contains rows.now row.now }
 {

@@ -72,7 +72,29 @@ impl SegmentSpans {
         ensures { (t : ℕ) → IsTrue (span_has span t) → covers result.now t ≡ covers (map (λ row. row.0) self.now.rows) t }
     {
         let begun = &self.spans[..begun_before(&self.spans, span.until)];
-        &begun[begun_before(begun, span.from.saturating_sub(self.longest))..]
+        &begun[begun_before_from_last(begun, span.from.saturating_sub(self.longest))..]
+    }
+
+    /// How many spans there are.
+    pub(crate) fn count(&self) -> usize
+        ensures { result ≡ length self.now.rows }
+    {
+        self.spans.len()
+    }
+
+    /// The span at a place, and its holder.
+    pub(crate) fn row(&self, place: usize) -> (Span, Name)
+        requires { place < length self.now.rows }
+        ensures { slice_get self.now.rows place ≡ Some result }
+    {
+        (self.spans[place], self.holders[place])
+    }
+
+    /// Whether a holder has a span.
+    pub(crate) fn has(&self, span: Span, holder: &Name) -> bool
+        ensures { IsTrue result ↔ Contains self.now.rows (record { 0 = span; 1 = holder.now }) }
+    {
+        self.place_of(span, holder).is_some()
     }
 
     /// Puts a span in. Where memory runs out there are those that were, with no less room.
@@ -220,4 +242,18 @@ fn begun_before_by_halves(spans: &[Span], second: Time) -> usize
     ensures after { AllWithin (λ span. second ≤ span.from) spans.now result (length spans.now) }
 {
     spans.partition_point(|span| span.from < second)
+}
+
+// The same, looked for from the last span on. That is quicker where few begin later.
+fn begun_before_from_last(spans: &[Span], second: Time) -> usize
+    requires { IsNonDecreasingBy (λ span. span.from) spans.now }
+    ensures few { result ≤ length spans.now }
+    ensures before { AllWithin (λ span. span.from < second) spans.now 0 result }
+    ensures after { AllWithin (λ span. second ≤ span.from) spans.now result (length spans.now) }
+{
+    let mut begun = spans.len();
+    while begun > 0 && second <= spans[begun - 1].from {
+        begun -= 1;
+    }
+    begun
 }

@@ -1,5 +1,5 @@
 //! The spans for which segments are held, by their segment, and by whom.
-ghost use Rattle.std.specs.Prelude.{◌≡◌, ◌+◌, ◌≤◌, ◌<◌, ◌∷◌, ◌++◌, [], ◌==◌, if◌then◌else◌, List, map, All, Contains, IsOk, IfOk, OnOk, OnErr, length};
+ghost use Rattle.std.specs.Prelude.{◌≡◌, ◌↔◌, ◌+◌, ◌≤◌, ◌<◌, ◌∷◌, ◌++◌, [], ◌==◌, if◌then◌else◌, List, map, All, Contains, IsTrue, IsOk, IfOk, OnOk, OnErr, length, slice_get, Some};
 ghost use Rattle.taxi_base.specs.declared.numbers.Segment.{Segment};
 ghost use Rattle.taxi_base.specs.Airport.{segment_of};
 ghost use Rattle.taxi_base.specs.Windows.{Hold, holds_of};
@@ -126,6 +126,34 @@ impl HeldSpans {
     {
         let list = &mut self.lists[segment.0 as usize];
         list.take(span, holder);
+    }
+
+    /// For how many spans a segment itself is held.
+    pub fn count(&self, segment: Segment) -> usize
+        ensures { result ≡ length (rows_at self.now segment) }
+    {
+        match self.lists.get(segment.0 as usize) {
+            Some(list) => list.count(),
+            None => 0,
+        }
+    }
+
+    /// The span at a place of a segment's list, and its holder.
+    pub fn row(&self, segment: Segment, place: usize) -> (Span, Name)
+        requires { place < length (rows_at self.now segment) }
+        ensures { slice_get (rows_at self.now segment) place ≡ Some result }
+    {
+        self.lists[segment.0 as usize].row(place)
+    }
+
+    /// Whether a holder holds a segment itself for a span.
+    pub fn has(&self, segment: Segment, span: Span, holder: &Name) -> bool
+        ensures { IsTrue result ↔ Contains (rows_at self.now segment) (record { 0 = span; 1 = holder.now }) }
+    {
+        match self.lists.get(segment.0 as usize) {
+            Some(list) => list.has(span, holder),
+            None => false,
+        }
     }
 
     /// The first by name of those who hold a segment itself at a second; none where nobody does.

@@ -1,7 +1,6 @@
 use Rattle.std.proofs.Common.{All, take}
-use Rattle.checked_state.specs.Flights.{state_of}
 use Rattle.check_reports.specs.HeldRows.{IsRowDue}
 use Rattle.check_reports.proofs.occupied.are_due.Given as goal
 
 abbrev pub invariant-loop-row : goal.invariant-loop-row
-invariant-loop-row l = All (IsRowDue l.airport (state_of l.held) l.segment) (take l.row-index l.rows)
+invariant-loop-row l = All (IsRowDue l.airport l.spans l.segment) (take l.row-index l.rows)
