@@ -11,6 +11,9 @@ use std::alloc::Global;
 use std::marker::Model;
 use taxi_base::{Memory, Name, Span, Time};
 
+/// So many spans are gone through more quickly than by halves.
+const FEW: usize = 8;
+
 /// The spans for which a segment is held, in order of time, and beside them the names of their holders in the same order.
 #[derive(Drop)]
 pub(crate) struct SegmentSpans {
@@ -222,17 +225,25 @@ fn place_in_order(spans: &[Span], span: Span) -> usize
     }
 }
 
-// How many spans begin before a second. None does where the first one does not: mostly the oldest holder goes first.
+// How many spans begin before a second. It is found near the last of them, if few begin later. None does where the first one does
+// not: else mostly the oldest holder goes first.
 fn begun_before(spans: &[Span], second: Time) -> usize
     requires { IsNonDecreasingBy (λ span. span.from) spans.now }
     ensures few { result ≤ length spans.now }
     ensures before { AllWithin (λ span. span.from < second) spans.now 0 result }
     ensures after { AllWithin (λ span. second ≤ span.from) spans.now result (length spans.now) }
 {
+    if few_begin_later(spans, second) {
+        return begun_before_from_last(spans, second);
+    }
     match spans.first() {
         Some(first) if first.from < second => begun_before_by_halves(spans, second),
         _ => 0,
     }
+}
+
+fn few_begin_later(spans: &[Span], second: Time) -> bool {
+    spans.len() < FEW || spans[spans.len() - FEW].from < second
 }
 
 fn begun_before_by_halves(spans: &[Span], second: Time) -> usize
@@ -244,7 +255,7 @@ fn begun_before_by_halves(spans: &[Span], second: Time) -> usize
     spans.partition_point(|span| span.from < second)
 }
 
-// The same, looked for from the last span on. That is quicker where few begin later.
+// The same, looked for from the last span on.
 fn begun_before_from_last(spans: &[Span], second: Time) -> usize
     requires { IsNonDecreasingBy (λ span. span.from) spans.now }
     ensures few { result ≤ length spans.now }
