@@ -89,7 +89,12 @@ module _ {C : Type 0} (net : Network C) (starts : C → Option Start) (bound : O
           let r = closed.starts_in s.cell e.0 e.1 (below e.0 sooner) in
           inr (reason_along s u rest r.0 c t r.1 (omega (arith, r.2, e.2)) is_walk.1 ends takes below)
 
-  -- each walk that ends below the bound has a row at least as good
+  -- Each walk that ends below the bound has a row at least as good at its last cell. The argument of a table goes along the walk.
+  -- The first step can't be left before the start entry of its cell, and a closed table has a row as good as that entry.
+  -- Say that a step has a row as good at its cell. The next step isn't left before the expansion of this row to its own cell,
+  -- and a closed table has a row as good as that expansion too. So it goes on to the last step.
+  -- A table leaves nothing out below its bound alone. Each step takes a second at least, so each value on the way is less than
+  -- the end of the walk, and is below the bound as that end is.
   pub closed_covers : (c : C) (t : ℕ) → Reaches net starts c t → ((d : C) → 1 ≤ net.seconds d) → IsBelow bound t → HasAsGood Row c t
   closed_covers c t reach takes below = go (reason_of c t reach takes (λ earlier lt. IsBelow-less bound t earlier (omega arith) below))
     where

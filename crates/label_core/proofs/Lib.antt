@@ -8,7 +8,6 @@ pub mod MirroredTables
 pub mod MirroredWalks
 pub mod NoneSooner
 pub mod PickedOnWalks
-pub mod PickedValues
 pub mod PickedWalks
 pub mod SameNetwork
 pub mod SearchEnds

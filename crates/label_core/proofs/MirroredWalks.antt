@@ -1,5 +1,5 @@
 -- Walks that end as the finishes say are, in the mirror, the walks that begin as the mirrored starts say.
-use Rattle.std.proofs.Common.{◌≡◌, ℕ, ◌+◌, ◌-◌, ◌≤◌, max, List, [], ◌∷◌, Option, Some, None, option_map, map, refl, sym, ap, ap₂, ◌∙◌, arith}
+use Rattle.std.proofs.Common.{◌≡◌, ℕ, ◌+◌, ◌-◌, ◌≤◌, max, List, [], ◌∷◌, Option, Some, None, option_map, map, refl, sym, ap, arith}
 use mathlib.Core.List.{reverse_aux}
 use Rattle.label_core.specs.Walks.{Network, Step, IsStep, ComesAfter, NextComesAfter, IsChain, Begins, EndsAt, IsWalk, Reaches, IsEarliestExit}
 use Rattle.label_core.specs.Labels.{IsStartEntry, IsExpansion}
@@ -17,23 +17,6 @@ option_map_some f (Some x) y e = (x, refl, cc)
 abbrev pub EndsBy : {C : Type 0} → ℕ → List (Step C) → Type 0
 EndsBy k [] = Unit {0}
 EndsBy k (s ∷ rest) = (s.enter ≤ k) × (s.leave ≤ k) × EndsBy k rest
-
--- the mirror of the mirror is the step
-mirror_step_twice : {C : Type 0} (k : ℕ) (s : Step C) → s.enter ≤ k → s.leave ≤ k → mirror_step k (mirror_step k s) ≡ s
-mirror_step_twice {C} k s enter leave =
-    let f : ℕ → ℕ → Step C = λ a b. record { cell = s.cell; enter = a; leave = b } in
-    ap₂ f (let e : k - (k - s.enter) ≡ s.enter = omega arith in e) (let e : k - (k - s.leave) ≡ s.leave = omega arith in e)
-
-mirror_twice_onto : {C : Type 0} (k : ℕ) (walk done : List (Step C)) → EndsBy k walk
-    → reverse_aux (map (mirror_step k) (reverse_aux (map (mirror_step k) walk) done)) [] ≡ reverse_aux (map (mirror_step k) done) walk
-mirror_twice_onto k [] done by = refl
-mirror_twice_onto k (s ∷ rest) done by =
-    mirror_twice_onto k rest (mirror_step k s ∷ done) by.2
-    ∙ ap (λ u. reverse_aux (map (mirror_step k) done) (u ∷ rest)) (mirror_step_twice k s by.0 by.1)
-
--- the mirror of the mirror is the walk
-pub mirror_walk_twice : {C : Type 0} (k : ℕ) (walk : List (Step C)) → EndsBy k walk → mirror_walk k (mirror_walk k walk) ≡ walk
-mirror_walk_twice k walk by = mirror_twice_onto k walk [] by
 
 -- a map of steps that turns steps and what comes after what round, from one network to another
 module _ {C : Type 0} (net other : Network C) (m : Step C → Step C) (on_step : (s : Step C) → IsStep net s → IsStep other (m s))
@@ -105,7 +88,11 @@ module _ {C : Type 0} (net : Network C) (finishes : C → Option Finish) (k : �
   walk_laid s [] done ends chain = (start_in_mirror s ends, chain)
   walk_laid s (u ∷ rest) done ends chain = walk_laid u rest (mirror_step k s ∷ done) ends chain
 
-  -- the walks that end as the finishes say are walks in the mirror
+  -- The walks that end as the finishes say are walks in the mirror. This is the argument of all that goes backward.
+  -- Turn the clock round at k: a step from t to u becomes one from k - u to k - t, and the last step becomes the first.
+  -- It lasts as long, its window has it just where the turned window has it turned, and a turn is made the other way round.
+  -- The walks of the one network are those of the other, so the latest entry of the one is k less the earliest exit of the other.
+  -- So what is shown of searches and tables forward holds backward, and is shown once.
   pub walk_in_mirror : (walk : List (Step C)) → IsWalkTo net finishes walk → IsWalk (mirror_network k net) (mirror_starts k finishes) (mirror_walk k walk)
   walk_in_mirror [] out = absurd out.ends
   walk_in_mirror (s ∷ rest) out =
@@ -119,23 +106,11 @@ module _ {C : Type 0} (net : Network C) (finishes : C → Option Finish) (k : �
     ends = finishes_turned_onto finishes (map (mirror_step k) rest) (mirror_step k s) [] (finish_from_mirror s is_walk.0);
   }
 
-  -- the two are one to one
+  -- no step of a chain is past k
   ends_by : (walk : List (Step C)) → IsChain net walk → EndsBy k walk
   ends_by [] chain = tt
   ends_by (s ∷ rest) chain =
       (omega (arith, chain.0.in_time, chain.0.long_enough, fits.windows_last s.cell), omega (arith, chain.0.in_time, fits.windows_last s.cell), ends_by rest chain.2)
-
-  ends_by_in_mirror : (walk : List (Step C)) → IsChain (mirror_network k net) walk → EndsBy k walk
-  ends_by_in_mirror [] chain = tt
-  ends_by_in_mirror (s ∷ rest) chain =
-      (omega (arith, chain.0.in_time, chain.0.long_enough), omega (arith, chain.0.in_time), ends_by_in_mirror rest chain.2)
-
-  pub walk_there_and_back : (walk : List (Step C)) → IsWalkTo net finishes walk → mirror_walk k (mirror_walk k walk) ≡ walk
-  walk_there_and_back walk out = mirror_walk_twice k walk (ends_by walk out.chain)
-
-  pub walk_back_and_there : (walk : List (Step C)) → IsWalk (mirror_network k net) (mirror_starts k finishes) walk → mirror_walk k (mirror_walk k walk) ≡ walk
-  walk_back_and_there [] is_walk = absurd is_walk
-  walk_back_and_there (s ∷ rest) is_walk = mirror_walk_twice k (s ∷ rest) (ends_by_in_mirror (s ∷ rest) is_walk.1)
 
   -- begins are ends in the mirror
   pub leads_by : (c : C) (t : ℕ) → Leads net finishes c t → t ≤ k

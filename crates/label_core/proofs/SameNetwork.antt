@@ -1,9 +1,9 @@
--- Two networks that agree on the cells of which walks are made have the same walks.
+-- In two networks that agree on the cells of which walks are made the same steps are picked.
 use Rattle.label_core.specs.Picked.IsPicked.{at_start, going_back}
 use Rattle.std.proofs.Common.{[], ◌-◌, max, ◌≡◌, ℕ, List, ◌∷◌, true, Option, Some, arith, sym, subst}
 use Rattle.label_core.specs.Labels.{IsStartEntry, IsExpansion}
 use Rattle.label_core.specs.Picked.{IsPicked}
-use Rattle.label_core.specs.Walks.{Network, Start, Step, IsStep, IsChain, IsWalk, Reaches, IsEarliestExit}
+use Rattle.label_core.specs.Walks.{Network, Start, Step}
 
 -- the second network and its starts are the first at each cell that a walk of the first can use
 pub record Agrees {C : Type 0} (Inside : C → Type 0) (one two : Network C) (starts_one starts_two : C → Option Start) : Type 0 where
@@ -14,39 +14,6 @@ pub record Agrees {C : Type 0} (Inside : C → Type 0) (one two : Network C) (st
   pub turn_inside : (c d : C) → one.turn c d ≡ true → Inside c × Inside d
   pub same_start : (c : C) (s : Start) → starts_one c ≡ Some s → starts_two c ≡ Some s
   pub start_inside : (c : C) (s : Start) → starts_one c ≡ Some s → Inside c
-
-module _ {C : Type 0} (Inside : C → Type 0) (one two : Network C) (starts_one starts_two : C → Option Start) (agrees : Agrees Inside one two starts_one starts_two) where
-  step_agrees : (s : Step C) → Inside s.cell → IsStep one s → IsStep two s
-  step_agrees s inside step = record {
-    not_before = omega (arith, step.not_before, agrees.same_from s.cell inside);
-    long_enough = omega (arith, step.long_enough, agrees.same_seconds s.cell inside);
-    in_time = omega (arith, step.in_time, agrees.same_last s.cell inside);
-  }
-
-  chain_agrees : (s : Step C) (rest : List (Step C)) → Inside s.cell → IsChain one (s ∷ rest) → IsChain two (s ∷ rest)
-  chain_agrees s [] inside chain = (step_agrees s inside chain.0, tt, tt)
-  chain_agrees s (u ∷ rest) inside chain = (
-    step_agrees s inside chain.0,
-    record { at_once = chain.1.at_once; by_turn = agrees.same_turn s.cell u.cell chain.1.by_turn },
-    chain_agrees u rest (agrees.turn_inside s.cell u.cell chain.1.by_turn).1 chain.2,
-  )
-
-  walk_agrees : (walk : List (Step C)) → IsWalk one starts_one walk → IsWalk two starts_two walk
-  walk_agrees [] is_walk = absurd is_walk
-  walk_agrees (s ∷ rest) is_walk = (
-    record { start = is_walk.0.start; here = agrees.same_start s.cell is_walk.0.start is_walk.0.here; met = is_walk.0.met },
-    chain_agrees s rest (agrees.start_inside s.cell is_walk.0.start is_walk.0.here) is_walk.1,
-  )
-
-  pub reaches_agrees : (c : C) (t : ℕ) → Reaches one starts_one c t → Reaches two starts_two c t
-  reaches_agrees c t reach = record { walk = reach.walk; is_walk = walk_agrees reach.walk reach.is_walk; ends = reach.ends }
-
-pub earliest_agrees : {C : Type 0} (Inside : C → Type 0) (one two : Network C) (starts_one starts_two : C → Option Start)
-    → Agrees Inside one two starts_one starts_two → Agrees Inside two one starts_two starts_one → (c : C) (t : ℕ) → IsEarliestExit one starts_one c t → IsEarliestExit two starts_two c t
-earliest_agrees Inside one two starts_one starts_two there back c t earliest = record {
-  attained = reaches_agrees Inside one two starts_one starts_two there c t earliest.attained;
-  least = λ end reach. earliest.least end (reaches_agrees Inside two one starts_two starts_one back c end reach);
-}
 
 module _ {C : Type 0} (Inside : C → Type 0) (one two : Network C) (starts_one starts_two : C → Option Start) (agrees : Agrees Inside one two starts_one starts_two) where
   entry_agrees : (c : C) (t : ℕ) → IsStartEntry one starts_one c t → IsStartEntry two starts_two c t

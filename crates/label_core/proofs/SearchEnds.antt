@@ -3,10 +3,9 @@ use Rattle.std.proofs.Common.{◌≡◌, ℕ, ◌≤◌, ◌<◌, ◌↔◌, Boo
 use Rattle.std.proofs.lemmas.Bool.{false≢true, cases_Bool}
 use Rattle.label_core.specs.Walks.{Network, Start, IsEarliestExit}
 use Rattle.label_core.specs.Labels.{IsStartEntry}
-use Rattle.label_core.specs.Tables.{IsBelow, HasAsGood, IsClosed}
+use Rattle.label_core.specs.Tables.{IsBelow}
 use Rattle.label_core.specs.Settling.{IsSearch, NoneLeftBelow, IsArrived, NoneSettled, IsFirstTarget}
 use Rattle.label_core.specs.Best.{IsBestEnd, HasNoWalk, IsFirstBest}
-use Rattle.label_core.proofs.ClosedTables.{IsBelow-less}
 use Rattle.label_core.proofs.AttainedValues.{start_entry_reached}
 use Rattle.label_core.proofs.SettledCells.{SettledRow, settled_closed, settled_exact, least_earliest, earliest_known}
 use Rattle.label_core.proofs.NoneSooner.{none_sooner, none_at_all}
@@ -53,22 +52,6 @@ module _ {C : Type 0} (net : Network C) (starts : C → Option Start) (takes : (
   pub outcome_none : (best : Option ℕ) → IfNone best (NoneLeftBelow Known settled None) → IfNone best (HasNoWalk net starts target)
   outcome_none (Some end) none = tt
   outcome_none None none = none_at_all net starts (SettledRow Known settled) (λ c. target c ≡ true) takes no_target_row (settled_closed net starts takes Known settled search_ok None none)
-
-  -- and they are closed
-  pub outcome_closed : (best : Option ℕ) → IfSome best (IsArrived Known settled target) → IfNone best (NoneLeftBelow Known settled None)
-      → (Row : C → ℕ → Type 0) → ((c : C) (v : ℕ) → Row c v ↔ ((settled c ≡ true) × Known c v × IsBelow best v)) → IsClosed net starts best Row
-  outcome_closed best some none Row is_row = record {
-    starts_in = λ c t e below. as_good c t (closed.starts_in c t e below) below;
-    expansions_in = λ c d v t row e below. (
-        let from = (is_row c v).0 row in
-        as_good d t (closed.expansions_in c d v t (from.0, from.1) e below) below);
-  }
-    where
-      closed : IsClosed net starts best (SettledRow Known settled)
-      closed = settled_closed net starts takes Known settled search_ok best (none_left best some none)
-
-      as_good : (c : C) (t : ℕ) → HasAsGood (SettledRow Known settled) c t → IsBelow best t → HasAsGood Row c t
-      as_good c t has below = (has.0, (is_row c has.0).1 (has.1.0, has.1.1, IsBelow-less best t has.0 has.2 below), has.2)
 
 -- the first target with the value at which the search has arrived is the first with that earliest exit
 pub outcome_first : (net : Network ℕ) (starts : ℕ → Option Start) (takes : (d : ℕ) → 1 ≤ net.seconds d) (Known : ℕ → ℕ → Type 0) (settled target : ℕ → Bool)

@@ -1,10 +1,10 @@
 -- A search that settles one cell at a time, always one with the least known value.
-use Rattle.std.proofs.Common.{None, ◌≡◌, ℕ, ◌≤◌, ◌<◌, Bool, true, false, Option, Some, sym, ◌∙◌, subst, ◌⊎◌, inl, inr, arith}
+use Rattle.std.proofs.Common.{◌≡◌, ℕ, ◌≤◌, ◌<◌, Bool, true, false, Option, Some, sym, ◌∙◌, subst, ◌⊎◌, inl, inr, arith}
 use Rattle.std.proofs.lemmas.Bool.{cases_Bool, cases_lt, false≢true}
 use Rattle.label_core.specs.Walks.{Network, Start, Reaches, IsEarliestExit}
 use Rattle.label_core.specs.Labels.{IsStartEntry, IsExpansion}
 use Rattle.label_core.specs.Tables.{IsBelow, HasAsGood, IsClosed, IsAttained}
-use Rattle.label_core.specs.Settling.{IsSearch, IsExpanded, NoneLeftBelow, IsLeastLeft}
+use Rattle.label_core.specs.Settling.{IsSearch, IsExpanded, NoneLeftBelow}
 use Rattle.label_core.proofs.ClosedTables.{IsBelow-less, closed_covers}
 use Rattle.label_core.proofs.AttainedValues.{expansion_reached}
 use Rattle.label_core.proofs.ExactTables.{row_earliest, earliest_row, earliest_equation}
@@ -48,7 +48,11 @@ module _ {C : Type 0} (net : Network C) (starts : C → Option Start) (takes : (
     λ earliest. earliest_row net starts bound (SettledRow Known settled) takes (settled_closed bound left) settled_attained c v earliest below,
   )
 
-  -- a least value that is not settled is the earliest exit of its cell
+  -- A least value that is not settled is the earliest exit of its cell. This is the argument of the search (Dijkstra's).
+  -- Say that v is such a value, of cell c. Below v no value is left, so all start entries and all expansions of settled cells
+  -- that are below v belong to settled cells. The table of the settled cells is closed below v.
+  -- A walk that ended in c before v would have a row as good in that table, and c would be settled. It is not.
+  -- So no walk ends in c before v, and one ends then, as each known value is attained. What is settled next is right.
   pub least_earliest : (c : C) (v : ℕ) → settled c ≡ false → Known c v → NoneLeftBelow Known settled (Some v) → IsEarliestExit net starts c v
   least_earliest c v not known left = record { attained = search_ok.attained.reached c v known; least = least }
     where
@@ -138,19 +142,3 @@ module _ {C : Type 0} (net : Network C) (starts : C → Option Start) (takes : (
           go : (settled e ≡ true) ⊎ (settled e ≡ false) → u ≤ w
           go (inl was) = absurd (false≢true (sym yet ∙ settling.kept e was))
           go (inr still) = elim (cases_lt w v) [ inl lt ↦ absurd (left e w still old lt) | inr le ↦ omega (arith, (stayed d u (settling.only d is) now).1) ]
-
--- a queue that has each value that is left, and perhaps old ones of the same cells: a value that is left and no more
--- than any in the queue is a least one
-pub least_of_queue : {C : Type 0} (Known : C → ℕ → Type 0) (settled : C → Bool) (Queued : C → ℕ → Type 0)
-    → ((c : C) (v : ℕ) → settled c ≡ false → Known c v → Queued c v)
-    → (c : C) (v : ℕ) → settled c ≡ false → Known c v → ((d : C) (w : ℕ) → Queued d w → v ≤ w) → IsLeastLeft Known settled c v
-least_of_queue Known settled Queued all c v left known below = record {
-  known = known;
-  is_left = left;
-  least = λ d w other has lt. omega (arith, below d w (all d w other has));
-}
-
--- an empty queue: none is left
-pub none_of_queue : {C : Type 0} (Known : C → ℕ → Type 0) (settled : C → Bool) (Queued : C → ℕ → Type 0)
-    → ((c : C) (v : ℕ) → settled c ≡ false → Known c v → Queued c v) → ((d : C) (w : ℕ) → Queued d w → ⊥) → NoneLeftBelow Known settled None
-none_of_queue Known settled Queued all empty c v left known below = empty c v (all c v left known)

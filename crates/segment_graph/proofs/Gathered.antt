@@ -119,9 +119,6 @@ AreBarred-push forbidden x y groups barred low = record {
 
 -- ---- rows by number
 
-pub AreArcRows-none : (Row : Arc → List Arc → Type 0) → AreArcRows 0 Row []
-AreArcRows-none Row = record { count = refl; each = λ arc low. absurd (omega arith) }
-
 pub AreArcRows-push : (Row : Arc → List Arc → Type 0) (rows : List (List Arc)) (arc : Arc) (row : List Arc) → AreArcRows arc.0 Row rows → Row arc row → AreArcRows (arc.0 + 1) Row (rows ++ row ∷ [])
 AreArcRows-push Row rows arc row are is = record {
   count = length_push rows row ∙ ap (λ n. n + 1) are.count;

@@ -2,7 +2,7 @@
 use Rattle.std.proofs.Common.{◌≡◌, ℕ, ◌/◌, Bool, true, false, ◌&&◌, List, [], get_or, Option, Some, None, IsTrue, refl, sym, ◌∙◌, ap}
 use Rattle.std.specs.Prelude.{◌==◌, not, filter, is_some}
 use Rattle.std.proofs.lemmas.Bool.{and_parts, and_from, eqb-true, eq-eqb}
-use Rattle.taxi_base.proofs.InOrder.{same_answer, Contains-test, test-Contains, AreAll-none, AreAll-same, AreAll-filter}
+use Rattle.taxi_base.proofs.InOrder.{same_answer, Contains-test, test-Contains, AreAll-same, AreAll-filter}
 use Rattle.taxi_base.specs.declared.numbers.Node.{Node}
 use Rattle.taxi_base.specs.declared.numbers.Arc.{Arc}
 use Rattle.taxi_base.specs.Airport.{Link, Layout, meet, ends, head, arc_exists, is_forbidden, permits}
@@ -22,10 +22,6 @@ meet-first : (o : Option Node) (b : Node) → IsTrue (meet o (Some b)) → o ≡
 meet-first (Some a) b h = ap Some (same_node a b (eqb-true a.0 b.0 h))
 meet-first None b h = absurd (cc h)
 
-meet-none : (o : Option Node) → meet o None ≡ false
-meet-none (Some a) = refl
-meet-none None = refl
-
 meet-same : (a : Node) → IsTrue (meet (Some a) (Some a))
 meet-same a = eq-eqb a.0 a.0 refl
 
@@ -40,12 +36,6 @@ AreTurnsFrom-filter links barred x node leaving ahead all =
     (meet-second node (tail_in links y) (rw ahead at parts.0), parts.1))
     (AreAll-filter arc_number (λ a. tail_in links a ≡ Some node) (may_turn barred x) leaving all)
 
-pub AreTurnsFrom-none : (links : List Link) (barred : List (List Arc)) (x : Arc) → head_in links x ≡ None → AreTurnsFrom links barred x []
-AreTurnsFrom-none links barred x ahead =
-    AreAll-none arc_number (λ y. IsTrue (turn_in links barred x y))
-    (λ y h. let parts = and_parts (meet (head_in links x) (tail_in links y)) (may_turn barred x y) h in
-    let no : IsTrue (meet None (tail_in links y)) = rw ahead at parts.0 in cc)
-
 -- ---- the turns to an arc
 
 pub AreTurnsTo-filter : (links : List Link) (barred : List (List Arc)) (y : Arc) (node : Node) (entering : List Arc) → tail_in links y ≡ Some node
@@ -56,12 +46,6 @@ AreTurnsTo-filter links barred y node entering behind all =
     (λ x h. let parts = and_parts (meet (head_in links x) (tail_in links y)) (may_turn barred x y) h in
     (meet-first (head_in links x) node (rw behind at parts.0), parts.1))
     (AreAll-filter arc_number (λ a. head_in links a ≡ Some node) (λ x. may_turn barred x y) entering all)
-
-pub AreTurnsTo-none : (links : List Link) (barred : List (List Arc)) (y : Arc) → tail_in links y ≡ None → AreTurnsTo links barred y []
-AreTurnsTo-none links barred y behind =
-    AreAll-none arc_number (λ x. IsTrue (turn_in links barred x y))
-    (λ x h. let parts = and_parts (meet (head_in links x) (tail_in links y)) (may_turn barred x y) h in
-    let no = rw (behind, meet-none (head_in links x)) at parts.0 in cc no)
 
 -- ---- in a layout
 

@@ -1,5 +1,5 @@
 -- Reading and writing in pieces: what several pieces come to.
-use Rattle.std.proofs.Common.{◌≡◌, ◌<◌, ◌∷◌, inl, inr, ◌-◌, ◌++◌, ◌∙◌, ℕ, List, [], Option, Some, None, refl, sym, ap, subst, append_assoc, append-nil, take, drop, length, arith}
+use Rattle.std.proofs.Common.{◌≡◌, ◌<◌, ◌∷◌, inl, inr, ◌-◌, ◌++◌, ◌∙◌, ℕ, List, [], Option, Some, None, refl, sym, ap, append_assoc, append-nil, take, drop, length, arith}
 use Rattle.std.proofs.lemmas.List.{take_all, length-drop, take-append-drop}
 use Rattle.taxi_io.specs.Files.{Gave}
 use Rattle.std.specs.Io.KnownBytes.{append_known}
@@ -41,10 +41,6 @@ pub pieces-more : (text rest : List ℕ) (pieces : List (List ℕ)) (n : ℕ) �
     → ArePieces text (take (length rest - n) (drop n rest)) (pieces ++ rest ∷ [])
 pieces-more text rest [] n some is = (is, (n, some, rest-of n rest ∙ ap (λ (t : List ℕ). drop n t) is))
 pieces-more text rest (piece ∷ more) n some (here, (taken, any, next)) = (here, (taken, any, pieces-more (drop taken text) rest more n some next))
-
--- nothing is left
-pub pieces-all : (text rest : List ℕ) (pieces : List (List ℕ)) → rest ≡ [] → ArePieces text rest pieces → ArePieces text [] pieces
-pieces-all text rest pieces none is = subst (λ (r : List ℕ). ArePieces text r pieces) none is
 
 -- nothing is handed over
 pub handed-nothing : (a b : Output) (texts : List (List ℕ)) → b.pieces ≡ a.pieces → AreHandedInPart a b texts

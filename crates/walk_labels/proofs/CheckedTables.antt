@@ -154,7 +154,11 @@ module _ (c : Conditions) (fit : AreFit c) (Begins : Step → Type 0) (starts : 
     no_target_row to bound rows passes p v is row =
         All-contains (λ r. OneOf (λ node. head (layout_of c.airport) r.arc ≡ Some node) to → ⊥) rows (label_at p v) passes.none_reaches row ((leads-OneOf (layout_of c.airport) to p.arc).0 is)
 
-    -- no walk to the node ends before the bound
+    -- No walk to the node ends before the bound. This is the argument of the checker, which makes no search.
+    -- It looks at the rows of a table alone: that there is one as early for each way to begin (rule start), and for each next
+    -- label of a row (rule step), below the bound. By these two rules the table is closed, whoever made it.
+    -- A closed table has a row as early for each walk that ends below the bound, at the walk's last cell.
+    -- By rule target no row reaches the node. So no walk reaches it below the bound, and the route that ends at the bound is best.
     pub passed_none_sooner : (to : List Node) (end : ℕ) (rows : List LabelRow) → PassesForward c IsStart to (Some end) rows
         → (steps : List Step) → IsRoute c Begins (ReachesOneOf (layout_of c.airport) to) steps → end ≤ end_of steps
     passed_none_sooner to end rows passes steps route =

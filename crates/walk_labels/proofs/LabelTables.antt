@@ -1,5 +1,5 @@
 -- The rows of the values of cells are the table of labels.
-use Rattle.std.proofs.Common.{◌≡◌, ℕ, zero, suc, ◌+◌, ◌<◌, List, [], ◌∷◌, ◌++◌, length, get_or, take, inl, inr, IsTrue, Option, Some, None, refl, sym, ◌∙◌, ap, subst, arith, append_assoc, append-nil, ◌↔◌}
+use Rattle.std.proofs.Common.{◌≡◌, ℕ, zero, suc, ◌+◌, ◌<◌, List, [], ◌∷◌, ◌++◌, length, get_or, inl, inr, IsTrue, Option, Some, None, refl, sym, ap, subst, arith, ◌↔◌}
 use Rattle.std.specs.Prelude.{AllPairs, Contains}
 use Rattle.std.proofs.lemmas.List.{get_or_default}
 use Rattle.std.proofs.lemmas.List.Kept.{AllPairs-cons}
@@ -135,17 +135,6 @@ module _ {A : Type 0} (value : A → Option ℕ) where
   rows_of-ordered (p ∷ places) [] d e ordered = λ i j x low high. absurd (omega arith)
   rows_of-ordered (p ∷ places) (a ∷ known) d e ordered =
       first_before p a places known d e (ordered 0) (rows_of-ordered places known d e (λ i j v w before on has other. ordered (suc i) (suc j) v w (omega arith) (omega arith) has other))
-
-  -- one more place makes at most one more row, at the end
-  pub rows_of-more : (places : List Place) (known : List A) (k : ℕ) (d : Place) (e : A) → k < length places → k < length known
-      → rows_of value (take (k + 1) places) (take (k + 1) known) ≡ rows_of value (take k places) (take k known) ++ row_at (get_or places k d) (value (get_or known k e))
-  rows_of-more [] known k d e on in_known = absurd (omega arith)
-  rows_of-more (p ∷ places) [] k d e on in_known = absurd (omega arith)
-  rows_of-more (p ∷ places) (a ∷ known) zero d e on in_known = append-nil (row_at p (value a))
-  rows_of-more (p ∷ places) (a ∷ known) (suc k) d e on in_known =
-      let more : suc k + 1 ≡ suc (k + 1) = omega arith in
-      let rest = rows_of-more places known k d e (omega arith) (omega arith) in
-      rw more (ap (λ (rows : List LabelRow). row_at p (value a) ++ rows) rest ∙ sym (append_assoc (row_at p (value a)) (rows_of value (take k places) (take k known)) (row_at (get_or places k d) (value (get_or known k e)))))
 
   -- the rows of the values of numbered cells are their table
   module _ (c : Conditions) (fit : AreFit c) (numbers : List Place) (net : Network ℕ) (cells : AreCells c net (place_at numbers)) (ordered : IsOrdered c (place_at numbers) (λ j k. j < k))

@@ -1,8 +1,8 @@
--- The cells in given windows, arc by arc, are in order, all places are among them, and each arc's cells are a run of their numbers.
-use Rattle.std.proofs.Common.{◌≡◌, ℕ, zero, suc, ◌+◌, ◌-◌, ◌*◌, ◌/◌, ◌<◌, ◌≤◌, ◌&&◌, ltb, eqb, List, [], ◌∷◌, ◌++◌, length, get_or, map, inl, inr, IsTrue, is_some, refl, sym, ◌∙◌, subst, arith, length-append, ◌↔◌}
+-- The cells in given windows, arc by arc, are in order, and all places are among them.
+use Rattle.std.proofs.Common.{◌≡◌, ℕ, zero, suc, ◌+◌, ◌*◌, ◌/◌, ◌<◌, ◌≤◌, ◌&&◌, ltb, eqb, List, [], ◌∷◌, length, get_or, map, inl, inr, IsTrue, is_some, refl, subst, arith, ◌↔◌}
 use Rattle.std.specs.Prelude.{All, AllPairs, Contains}
 use Rattle.std.proofs.lemmas.Bool.{cases_lt, and_parts, and_from, lt-ltb, eq-eqb, or_left, or_right}
-use Rattle.std.proofs.lemmas.List.{get_or_append_left, get_or-append-add, get_or-append_right, get_or_default}
+use Rattle.std.proofs.lemmas.List.{get_or_default}
 use Rattle.std.proofs.lemmas.List.Kept.{AllPairs-cons}
 use Rattle.std.proofs.lemmas.List.Elements.{All-nil, All-cons, All-append, All-map, All-weaker, Contains-append_left, Contains-append_right}
 use Rattle.taxi_base.specs.declared.numbers.Arc.{Arc}
@@ -53,49 +53,6 @@ module _ (windows : List (List Span)) where
   arcs_below (suc n) =
       All-append (λ p. p.arc.0 < suc n) (before n) (of_arc n) (All-weaker (λ p. p.arc.0 < n) (λ p. p.arc.0 < suc n) (λ p h. omega arith) (before n) (arcs_below n))
       (All-weaker (λ p. p.arc.0 ≡ n) (λ p. p.arc.0 < suc n) (λ p h. omega arith) (of_arc n) (arcs_here n))
-
-  -- how many cells the first arcs have grows with their number
-  pub length_before : (n m : ℕ) → n ≤ m → length (before n) ≤ length (before m)
-  length_before n zero le = let e : n ≡ 0 = omega arith in subst (λ (k : ℕ). length (before k) ≤ length (before 0)) (sym e) (omega arith)
-  length_before n (suc m) le =
-      elim (cases_lt m n) [
-        | inl last ↦ let e : n ≡ suc m = omega arith in subst (λ (k : ℕ). length (before k) ≤ length (before (suc m))) (sym e) (omega arith)
-        | inr more ↦ omega (arith, length_before n m more, length-append (before m) (of_arc m))
-      ]
-
-  -- ---- the run of an arc's cells
-
-  -- a cell lies in the run of its arc
-  pub run_of_place : (n k : ℕ) (d : Place) → k < length (before n)
-      → ((get_or (before n) k d).arc.0 < n) × (length (before (get_or (before n) k d).arc.0) ≤ k) × (k < length (before (suc (get_or (before n) k d).arc.0)))
-  run_of_place zero k d on = absurd (omega arith)
-  run_of_place (suc n) k d on =
-      elim (cases_lt k (length (before n))) [
-        | inl earlier ↦
-            let same : get_or (before n) k d ≡ get_or (before n ++ of_arc n) k d = sym (get_or_append_left (before n) (of_arc n) d k earlier) in
-            let h = run_of_place n k d earlier in
-            subst (λ (p : Place). (p.arc.0 < suc n) × (length (before p.arc.0) ≤ k) × (k < length (before (suc p.arc.0)))) same (omega (arith, h.0), h.1, h.2)
-        | inr here ↦
-            let m : ℕ = k - length (before n) in
-            let in_arc : m < length (of_arc n) = omega (arith, length-append (before n) (of_arc n)) in
-            let same : get_or (of_arc n) m d ≡ get_or (before n ++ of_arc n) k d = sym (get_or-append_right (before n) (of_arc n) (length (before n)) k d refl here) in
-            let arc : (get_or (of_arc n) m d).arc.0 ≡ n = arcs_here n m d in_arc in
-            subst (λ (p : Place). (p.arc.0 < suc n) × (length (before p.arc.0) ≤ k) × (k < length (before (suc p.arc.0)))) same
-            (subst (λ (a : ℕ). (a < suc n) × (length (before a) ≤ k) × (k < length (before (suc a)))) (sym arc) (omega arith, here, on))
-      ]
-
-  -- and what is in the run of an arc is the arc with the window of that place in its list
-  pub place_in_run : (n a j : ℕ) (d : Place) → a < n → j < length (of_arc a) → get_or (before n) (length (before a) + j) d ≡ get_or (of_arc a) j d
-  place_in_run zero a j d below on = absurd (omega arith)
-  place_in_run (suc n) a j d below on =
-      elim (cases_lt a n) [
-        | inl earlier ↦
-            let inside : length (before a) + j < length (before n) = omega (arith, length_before (suc a) n (omega arith), length-append (before a) (of_arc a)) in
-            get_or_append_left (before n) (of_arc n) d (length (before a) + j) inside ∙ place_in_run n a j d earlier on
-        | inr last ↦
-            let e : n ≡ a = omega arith in
-            subst (λ (k : ℕ). get_or (before k ++ of_arc k) (length (before a) + j) d ≡ get_or (of_arc a) j d) (sym e) (get_or-append-add (before a) (of_arc a) j d)
-      ]
 
   -- ---- they are in order, and each has a window of its segment
 
