@@ -8,25 +8,10 @@ use Rattle.label_core.specs.Picked.{IsPicked}
 use Rattle.label_core.specs.Picked.IsPicked.{at_start, going_back}
 use Rattle.label_core.specs.Best.{IsBestEnd, HasNoWalk, IsPickedRoute}
 use Rattle.label_search.specs.declared.values.CellValue.{CellValue}
-use Rattle.label_search.specs.Problem.{Problem, IsProblem}
 use Rattle.label_search.specs.Values.{AreExits}
 use Rattle.label_search.specs.declared.forward.Route.{Route}
 use Rattle.label_search.specs.Answer.{step_of, ComesBefore}
-use Rattle.label_search.specs.Cut.{cut_network, cut_problem}
-
-pub cut_sound : (until : ℕ) (p : Problem) → IsProblem p → IsProblem (cut_problem until p)
-cut_sound until p sound = record {
-  takes = sound.takes;
-  small_seconds = sound.small_seconds;
-  small_last = λ c. omega (arith, sound.small_last c);
-  turns_in_runs = sound.turns_in_runs;
-  turns_in_runs_before = sound.turns_in_runs_before;
-  numbers_inside = sound.numbers_inside;
-  turns_inside = sound.turns_inside;
-  starts_inside = sound.starts_inside;
-  starts_in_runs = sound.starts_in_runs;
-  first_runs_inside = sound.first_runs_inside;
-}
+use Rattle.label_search.specs.Cut.{cut_network}
 
 module _ (until : ℕ) (net : Network ℕ) (starts : ℕ → Option Start) where
   abbrev cut : Network ℕ

@@ -36,10 +36,6 @@ module _ (network : Network ℕ) (c v : ℕ) where
   pub expanded_not : (IsDone : ℕ → Type 0) (s : Standing) → ((d t : ℕ) → IsDone d → IsExpansion network c v d t → HasAsGood (HasValue s.known) d t) → IsExpanded network c v IsDone s s
   expanded_not IsDone s done = record { lengths = record { known = refl; keys = refl }; each = λ d. inl (same_here s d); done = done }
 
-  -- there is no expansion to it
-  pub expanded_nothing : (s : Standing) (next : ℕ) → ((t : ℕ) → IsExpansion network c v next t → ⊥) → IsExpanded network c v (λ d. d ≡ next) s s
-  expanded_nothing s next none = expanded_not (λ d. d ≡ next) s (λ d t same e. absurd (none t (subst (λ x. IsExpansion network c v x t) same e)))
-
   -- it was offered its expansion
   pub expanded_offer : (old new : Standing) (next t : ℕ) → IsExpansion network c v next t → IsImproved old new next (label_by c t) → IsExpanded network c v (λ d. d ≡ next) old new
   expanded_offer old new next t e improved = record {

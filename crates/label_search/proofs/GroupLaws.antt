@@ -68,13 +68,6 @@ marked_write known groups new cell label on are more = record {
   ];
 }
 
--- labels are taken away
-pub marked_fewer : (known now : List (Option Label)) (groups : List ℕ) → AreMarked known groups → length now ≡ length known → ((c : ℕ) → label_of known c ≡ None → label_of now c ≡ None) → AreMarked now groups
-marked_fewer known now groups are same kept = record {
-  others = λ c zero. kept c (are.others c zero);
-  inside = λ c one. omega (arith, same, are.inside c one);
-}
-
 -- a bit that is set is cleared: the number gets less, and other bits are as before
 pub cleared_bit : (word k : ℕ) → k < 64 → bit_at word k ≡ 1
     → let left = bit_and word (bit_not w64 (1 * 2 ^ k % 2 ^ 64)) in
@@ -96,9 +89,6 @@ pub record AreTakenTo (known₀ known : List (Option Label)) (groups₀ groups :
   pub as_many : length groups ≡ length groups₀
   pub marked : AreMarked known groups
   pub done : (g : ℕ) → g < group → bits_of_group groups g ≡ 0
-
-pub taken_none : (known : List (Option Label)) (groups : List ℕ) → AreMarked known groups → AreTakenTo known known groups groups 0
-taken_none known groups are = record { same_length = refl; as_many = refl; marked = are; done = λ g below. absurd (omega (arith, below)) }
 
 module _ (known₀ known : List (Option Label)) (groups₀ groups : List ℕ) (group : ℕ) (so_far : AreTakenTo known₀ known groups₀ groups group) where
   -- a cell of the group, by its bit

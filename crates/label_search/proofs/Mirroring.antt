@@ -15,7 +15,7 @@ use Rattle.label_search.specs.declared.cells.Run.{Run}
 use Rattle.label_search.specs.declared.values.CellValue.{CellValue}
 use Rattle.label_search.specs.declared.pick.CellStep.{CellStep}
 use Rattle.label_search.specs.declared.forward.Route.{Route}
-use Rattle.label_search.specs.Problem.{IsProblem, IsPartOf, IsPartBefore, MayComeTo}
+use Rattle.label_search.specs.Problem.{IsPartOf, IsPartBefore, MayComeTo}
 use Rattle.label_search.specs.Values.{AreExits, AreEntries}
 use Rattle.label_search.specs.Answer.{step_of, best_of, ComesBefore}
 use Rattle.label_search.specs.Backward.{BackwardProblem, IsBackwardProblem, IsBackwardPartOf, IsPartAfter, mirror_second, mirror_problem, mirror_value, mirror_cell_step, MayGoFrom}
@@ -55,21 +55,6 @@ module _ (b : BackwardProblem) (sound : IsBackwardProblem b) where
     windows_from = λ c. omega (arith, sound.small_from c);
     windows_last = λ c. omega (arith, sound.small_last c);
     finishes_by = λ c f is. omega (arith, sound.small_finishes c f is);
-  }
-
-  -- the problem in the mirror is one
-  pub problem_in_mirror : IsProblem (mirror_problem b)
-  problem_in_mirror = record {
-    takes = sound.takes;
-    small_seconds = sound.small_seconds;
-    small_last = λ c. omega arith;
-    turns_in_runs = λ c d turn. sound.turns_in_runs d c turn;
-    turns_in_runs_before = λ c d turn. sound.turns_in_runs_after d c turn;
-    numbers_inside = sound.numbers_inside;
-    turns_inside = λ c d turn. (let inside = sound.turns_inside d c turn in (inside.1, inside.0));
-    starts_inside = λ c s is. (let f = option_map_some (mirror_start mirror_second) (b.finishes c) s is in sound.finishes_inside c f.0 f.1);
-    starts_in_runs = λ c s is. (let f = option_map_some (mirror_start mirror_second) (b.finishes c) s is in sound.finishes_in_runs c f.0 f.1);
-    first_runs_inside = sound.last_runs_inside;
   }
 
   above_of_below : (best : Option ℕ) (v : ℕ) → IfSome best (λ n. n ≤ mirror_second) → IsBelow best v → IsAbove (option_map (λ n. mirror_second - n) best) (mirror_second - v)

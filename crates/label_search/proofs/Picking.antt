@@ -1,8 +1,7 @@
 -- Picking back, step by step.
-use Rattle.std.proofs.Common.{◌≡◌, ℕ, ◌-◌, ◌<◌, ◌≤◌, List, [], ◌∷◌, ◌++◌, map, length, Option, Some, None, refl, sym, ap, ◌∙◌, subst, inl, inr, arith}
-use Rattle.std.proofs.lemmas.List.{get_or_past}
+use Rattle.std.proofs.Common.{◌≡◌, ℕ, ◌-◌, ◌<◌, ◌≤◌, List, [], ◌∷◌, ◌++◌, map, Option, Some, refl, sym, ap, ◌∙◌, subst, inl, inr, arith}
 use Rattle.std.specs.Prelude.{⊤}
-use Rattle.std.proofs.lemmas.Bool.{cases_lt, cases_Bool}
+use Rattle.std.proofs.lemmas.Bool.{cases_Bool}
 use Rattle.label_core.specs.Walks.{Network, Start, Step, IsEarliestExit}
 use Rattle.label_core.specs.Labels.{entry, IsStartEntry, IsExpansion}
 use Rattle.label_core.specs.Picked.{IsFirstBefore, IsPicked}
@@ -49,16 +48,9 @@ same_enter net starts c t s is e =
     let same : s ≡ e.start = cc in
     ap (λ x. entry net c x.earliest) same
 
--- a cell with a label is one of the list
-pub labelled_inside : (known : List (Option Label)) (c : ℕ) (label : Label) → label_of known c ≡ Some label → c < length known
-labelled_inside known c label is = elim (cases_lt c (length known)) [ inl lt ↦ lt | inr le ↦ absurd (let e : None ≡ Some label = sym (get_or_past known c None le) ∙ is in cc) ]
-
 module _ (p : Problem) (sound : IsProblem p) (s : Standing) (goal : Goal) (ended : IsAtEnd p s (Some goal)) where
   exact : (c v : ℕ) → v < goal.end → (SettledValue s ended.settled c v → IsEarliestExit p.network p.starts c v) × (IsEarliestExit p.network p.starts c v → SettledValue s ended.settled c v)
   exact c v below = settled_exact p.network p.starts sound.takes (HasValue s.known) ended.settled ended.search (Some goal.end) ended.some.least.least c v below
-
-  pub goal_labelled : HasValue s.known goal.cell goal.end
-  goal_labelled = ended.some.least.known
 
   -- a label below the best end is a settled one
   settled_below : (x u : ℕ) → HasValue s.known x u → u < goal.end → SettledValue s ended.settled x u

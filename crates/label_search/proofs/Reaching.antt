@@ -25,11 +25,6 @@ module _ (p : Problem) where
       (good.0, good.1, omega (arith, good.2))
 
   module _ (c at : ℕ) where
-    -- with labels that are as good
-    pub reached_still : (D : ℕ → Type 0) (old new : Standing) (reached : List ℕ) → IsExpanded p.network c at D old new → AreReached p old.known at reached → AreReached p new.known at reached
-    reached_still D old new reached expanded are r b d is turn before in_time =
-        good_still p.network c at old new d _ (expanded.each d) (are r b d is turn before in_time)
-
     -- what a run has reached need not be looked at
     pub done_by_reached : (known : List (Option Label)) (reached : List ℕ) (r : ℕ) → AreReached p known at reached → p.network.last c < get_or reached r 0
         → (d t : ℕ) → IsIn (p.run r) d → IsExpansion p.network c at d t → HasAsGood (HasValue known) d t

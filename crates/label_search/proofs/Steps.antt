@@ -3,7 +3,7 @@ use Rattle.std.proofs.Common.{◌≡◌, ℕ, zero, suc, ◌+◌, ◌^◌, ◌<�
 use Rattle.std.proofs.lemmas.Bool.{cases_eq, cases_Bool, false≢true}
 use Rattle.std.specs.Prelude.{⊤}
 use Rattle.std.proofs.lemmas.List.{length-set}
-use Rattle.label_queue.specs.Keys.{key_of, IsEmpty}
+use Rattle.label_queue.specs.Keys.{key_of}
 use Rattle.label_queue.specs.Least.{IsLeast}
 use Rattle.label_core.proofs.SettledCells.{IsSettling}
 use Rattle.label_search.specs.declared.labels.Label.{Label}
@@ -11,7 +11,7 @@ use Rattle.label_search.specs.Problem.{Problem, IsProblem, MayComeTo}
 use Rattle.label_search.specs.Labels.{Standing, label_of, HasValue, Same}
 use Rattle.label_search.specs.Expanding.{WasExpandedTo, IsExpanded}
 use Rattle.label_search.specs.Standing.{is_settled, SettledValue, IsTraced, AreTraced, IsUnderway, IsAtEnd}
-use Rattle.label_search.proofs.Settling.{taken, least_known, least_not_settled, key_of_left, least_left, settling_new, queued_new, search_new, settled_value_back, settled_value_on}
+use Rattle.label_search.proofs.Settling.{taken, least_known, least_not_settled, key_of_left, least_left, settling_new, queued_new, search_new, settled_value_on}
 use Rattle.label_search.proofs.Traced.{traced_still, traced_offered}
 
 -- 1 for a cell that isn't settled
@@ -76,9 +76,6 @@ module _ (p : Problem) (sound : IsProblem p) (s : Standing) (under : IsUnderway 
     settling : IsSettling (is_settled s) (is_settled new) c
     settling = settling_new p sound s under c k least new expanded
 
-    back : (x u : ℕ) → is_settled new x ≡ true → HasValue new.known x u → HasValue s.known x u
-    back = settled_value_back p sound s under c k least new expanded
-
     on : (x u : ℕ) → is_settled new x ≡ true → HasValue s.known x u → HasValue new.known x u
     on = settled_value_on p sound s under c k least new expanded
 
@@ -140,15 +137,3 @@ module _ (p : Problem) (sound : IsProblem p) (s : Standing) (under : IsUnderway 
       first x before target has (inl is) = false≢true (sym (under.passed x is) ∙ target)
       first x before target has (inr not) =
           elim (least.comes_first x k (λ same. omega (arith, same)) (key_of_left p sound s under c k least x k not has)) [ inl less ↦ omega arith | inr tie ↦ omega (arith, tie.1) ]
-
--- the queue is empty
-pub at_empty : (p : Problem) (s : Standing) → IsUnderway p s → IsEmpty s.keys → IsAtEnd p s None
-at_empty p s under empty = record {
-  room = under.room;
-  settled = is_settled s;
-  search = under.search;
-  traced = under.traced;
-  passed = under.passed;
-  some = tt;
-  none = λ d w not has below. false≢true (sym not ∙ (rw (empty d, has.1) refl));
-}

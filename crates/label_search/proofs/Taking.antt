@@ -1,5 +1,5 @@
 -- Taking the labels of a group of cells away, one marked cell after another.
-use Rattle.std.proofs.Common.{◌≡◌, ◌≢◌, ℕ, ◌+◌, ◌-◌, ◌<◌, ◌≤◌, List, ◌++◌, length, take, set, get_or, Option, None, min, refl, sym, ap, ◌∙◌, inl, inr, arith}
+use Rattle.std.proofs.Common.{◌≡◌, ◌≢◌, ℕ, ◌+◌, ◌-◌, ◌<◌, ◌≤◌, List, ◌++◌, length, take, set, get_or, Option, None, min, sym, ap, ◌∙◌, inl, inr, arith}
 use Rattle.std.specs.Int.{bit_at}
 use Rattle.std.proofs.lemmas.Bool.{cases_eq, cases_lt}
 use Rattle.std.proofs.lemmas.Grind.{get_or-set_at}
@@ -20,17 +20,6 @@ pub record IsTakenTo (marks first : ℕ) (old now : List (Option Label)) (left d
   pub gone : (k : ℕ) → k < 64 → bit_at marks k ≡ 1 → bit_at left k ≡ 0 → (first + k < done) × (label_of now (first + k) ≡ None)
   pub others : (c : ℕ) → label_of old c ≡ None → label_of now c ≡ None
   pub rest : (c : ℕ) → done ≤ c → label_of now c ≡ label_of old c
-
-pub none_taken : (marks first : ℕ) (old : List (Option Label)) → IsTakenTo marks first old old marks first
-none_taken marks first old = record {
-  same_length = refl;
-  from_first = omega arith;
-  to_last = omega arith;
-  still = λ k small one. (one, omega arith);
-  gone = λ k small one zero. absurd (omega arith);
-  others = λ c none. none;
-  rest = λ c from. refl;
-}
 
 module _ (marks first : ℕ) (old now : List (Option Label)) (left done : ℕ) (so_far : IsTakenTo marks first old now left done) where
   -- the lowest cell that is left is taken

@@ -12,3 +12,4 @@ pub mod Cut
 pub mod Reached
 pub mod Entering
 pub mod Queued
+pub mod Promised

@@ -1,12 +1,11 @@
 //! The search backward in time: latest entries, and the route with the latest begin. It is the search forward in a mirror
 //! of time, with the same order of cells.
 ghost use Rattle.std.specs.Prelude.{◌≡◌, ◌<◌, ◌≤◌, ◌-◌, option_map, map, reverse, IfSome, IfNone, IfOk};
-ghost use Rattle.label_core.specs.BackwardBest.{IsBestBegin, HasNoWalkFrom, IsPickedRouteOn};
 ghost use Rattle.label_core.specs.Mirror.{mirror_start, IsUpTo};
 ghost use Rattle.label_search.specs.Problem.{start_of};
 ghost use Rattle.label_search.specs.Backward.{IsBackwardProblem, mirror_problem, mirror_cell, mirror_second, mirror_value, mirror_cell_step, finish_of};
-ghost use Rattle.label_search.specs.Values.{TellEntries};
-ghost use Rattle.label_search.specs.Answer.{step_of, best_of, ComesBefore};
+ghost use Rattle.label_search.specs.Promised.{IsBestBack, IsPickedBack, HasNoWalkBack, TellEntriesOf};
+ghost use Rattle.label_search.specs.Answer.{best_of};
 
 use crate::cells::{BackwardCells, Cell, Closing, ForwardCells, Opening, Part, Run};
 use crate::forward::{Found, LabelRoom, Route, earliest_exits};
@@ -177,13 +176,10 @@ fn mirror_route(route: Option<Route>) -> Option<Route>
     ensures best { best_of result ≡ option_map (λ n. mirror_second - n) (best_of route) }
     ensures steps { IfSome result (λ r. IfSome route (λ f. r.steps.items ≡ map mirror_cell_step (reverse f.steps.items))) }
 {
-    match route {
-        None => None,
-        Some(route) => Some(Route {
-            steps: mirror_steps(route.steps),
-            best: MIRROR.saturating_sub(route.best),
-        }),
-    }
+    let route = route?;
+    let best = MIRROR.saturating_sub(route.best);
+    let steps = mirror_steps(route.steps);
+    Some(Route { steps, best })
 }
 
 /// The picked one of the walks that begin latest, if there is a walk, and all latest entries after its begin. Where there
@@ -194,14 +190,10 @@ pub fn latest_entries<C: BackwardCells>(
     cells: &C,
 ) -> Result<Found<C::Told>, Memory>
     requires sound { IsBackwardProblem (C.backward cells.now) }
-    ensures table { IfOk result (λ found. TellEntries (C.told cells.now) (C.backward cells.now).network (C.backward cells.now).finishes (C.backward cells.now).count
-        (best_of found.route) found.rows) }
-    ensures best { IfOk result (λ found. IfSome (best_of found.route)
-        (IsBestBegin (C.backward cells.now).network (C.backward cells.now).finishes (C.backward cells.now).source)) }
-    ensures picked { IfOk result (λ found. IfSome found.route (λ r. IsPickedRouteOn (C.backward cells.now).network (C.backward cells.now).finishes ComesBefore
-        (C.backward cells.now).source r.best (map step_of r.steps.items))) }
-    ensures none { IfOk result (λ found. IfNone (best_of found.route)
-        (HasNoWalkFrom (C.backward cells.now).network (C.backward cells.now).finishes (C.backward cells.now).source)) }
+    ensures table { IfOk result (λ found. TellEntriesOf (C.told cells.now) (C.backward cells.now) (best_of found.route) found.rows) }
+    ensures best { IfOk result (λ found. IfSome (best_of found.route) (IsBestBack (C.backward cells.now))) }
+    ensures picked { IfOk result (λ found. IfSome found.route (IsPickedBack (C.backward cells.now))) }
+    ensures none { IfOk result (λ found. IfNone (best_of found.route) (HasNoWalkBack (C.backward cells.now))) }
 {
     let found = earliest_exits(alloc, room, &Mirror { cells })?;
     Ok(Found {

@@ -44,13 +44,8 @@ fn expand_to<C: ForwardCells>(cells: &C, from: Ready, row: C::Row, next: usize, 
     ensures { IsExpanded (C.problem cells.now).network from.cell from.at (λ d. d ≡ next) (standing labels.old) (standing labels.new) }
 {
     if let Some(value) = leave_after(from, cells.cell_in(row, next)) {
-        labels.offer(
-            next,
-            Label {
-                value,
-                via: from.cell,
-            },
-        );
+        let via = from.cell;
+        labels.offer(next, Label { value, via });
     }
 }
 

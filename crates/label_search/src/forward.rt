@@ -2,12 +2,11 @@
 ghost use Rattle.std.specs.Prelude.{◌≡◌, ℕ, ◌≤◌, ◌^◌, length, slice_index_or, OnOk, map, reverse, is_some, IsTrue, IfSome, IfNone, IfOk};
 ghost use Rattle.label_core.specs.Walks.{IsEarliestExit};
 ghost use Rattle.label_core.specs.Picked.{IsPicked};
-ghost use Rattle.label_core.specs.Best.{IsBestEnd, HasNoWalk, IsPickedRoute};
 ghost use Rattle.label_search.specs.Problem.{IsProblem};
 ghost use Rattle.label_search.specs.Labels.{standing};
-ghost use Rattle.label_search.specs.Values.{TellExits};
+ghost use Rattle.label_search.specs.Promised.{IsBestFor, IsPickedFor, HasNoWalkFor, TellExitsOf};
 ghost use Rattle.label_search.specs.Standing.{IsAtEnd};
-ghost use Rattle.label_search.specs.Answer.{step_of, best_of, end_of_goal, ComesBefore};
+ghost use Rattle.label_search.specs.Answer.{best_of, end_of_goal};
 
 use crate::cells::ForwardCells;
 use crate::cut::CutCells;
@@ -60,23 +59,14 @@ pub fn earliest_exits<C: ForwardCells>(
     cells: &C,
 ) -> Result<Found<C::Told>, Memory>
     requires sound { IsProblem (C.problem cells.now) }
-    ensures table { IfOk result (λ found. TellExits (C.told cells.now) (C.problem cells.now).network (C.problem cells.now).starts (C.problem cells.now).count
-        (best_of found.route) found.rows) }
-    ensures best { IfOk result (λ found. IfSome (best_of found.route)
-        (IsBestEnd (C.problem cells.now).network (C.problem cells.now).starts (C.problem cells.now).target)) }
-    ensures picked { IfOk result (λ found. IfSome found.route (λ r. IsPickedRoute (C.problem cells.now).network (C.problem cells.now).starts ComesBefore
-        (C.problem cells.now).target r.best (map step_of r.steps.items))) }
-    ensures none { IfOk result (λ found. IfNone (best_of found.route)
-        (HasNoWalk (C.problem cells.now).network (C.problem cells.now).starts (C.problem cells.now).target)) }
+    ensures table { IfOk result (λ found. TellExitsOf (C.told cells.now) (C.problem cells.now) (best_of found.route) found.rows) }
+    ensures best { IfOk result (λ found. IfSome (best_of found.route) (IsBestFor (C.problem cells.now))) }
+    ensures picked { IfOk result (λ found. IfSome found.route (IsPickedFor (C.problem cells.now))) }
+    ensures none { IfOk result (λ found. IfNone (best_of found.route) (HasNoWalkFor (C.problem cells.now))) }
 {
     let begins = cells.begins();
-    let near = search(
-        alloc,
-        &mut room.labels,
-        &mut room.reached,
-        cells,
-        begins.saturating_add(room.reach),
-    )?;
+    let until = begins.saturating_add(room.reach);
+    let near = search(alloc, &mut room.labels, &mut room.reached, cells, until)?;
     let found = if near.route.is_some() {
         near
     } else {
@@ -103,16 +93,11 @@ fn search<C: ForwardCells>(
     until: u32,
 ) -> Result<Found<C::Told>, Memory>
     requires sound { IsProblem (C.problem cells.now) }
-    ensures short { IfOk result (λ found. IsTrue (is_some (best_of found.route)) → TellExits (C.told cells.now) (C.problem cells.now).network (C.problem cells.now).starts (C.problem cells.now).count
-        (best_of found.route) found.rows) }
-    ensures all { IfOk result (λ found. 2 ^ 31 ≤ until → TellExits (C.told cells.now) (C.problem cells.now).network (C.problem cells.now).starts (C.problem cells.now).count
-        (best_of found.route) found.rows) }
-    ensures best { IfOk result (λ found. IfSome (best_of found.route)
-        (IsBestEnd (C.problem cells.now).network (C.problem cells.now).starts (C.problem cells.now).target)) }
-    ensures picked { IfOk result (λ found. IfSome found.route (λ r. IsPickedRoute (C.problem cells.now).network (C.problem cells.now).starts ComesBefore
-        (C.problem cells.now).target r.best (map step_of r.steps.items))) }
-    ensures none { IfOk result (λ found. 2 ^ 31 ≤ until → IfNone (best_of found.route)
-        (HasNoWalk (C.problem cells.now).network (C.problem cells.now).starts (C.problem cells.now).target)) }
+    ensures short { IfOk result (λ found. IsTrue (is_some (best_of found.route)) → TellExitsOf (C.told cells.now) (C.problem cells.now) (best_of found.route) found.rows) }
+    ensures all { IfOk result (λ found. 2 ^ 31 ≤ until → TellExitsOf (C.told cells.now) (C.problem cells.now) (best_of found.route) found.rows) }
+    ensures best { IfOk result (λ found. IfSome (best_of found.route) (IsBestFor (C.problem cells.now))) }
+    ensures picked { IfOk result (λ found. IfSome found.route (IsPickedFor (C.problem cells.now))) }
+    ensures none { IfOk result (λ found. 2 ^ 31 ≤ until → IfNone (best_of found.route) (HasNoWalkFor (C.problem cells.now))) }
 {
     let found = search_cells(alloc, labels, reached, &CutCells { cells, until })?;
     Ok(found)
@@ -126,14 +111,10 @@ fn search_cells<C: ForwardCells>(
     cells: &C,
 ) -> Result<Found<C::Told>, Memory>
     requires sound { IsProblem (C.problem cells.now) }
-    ensures table { IfOk result (λ found. TellExits (C.told cells.now) (C.problem cells.now).network (C.problem cells.now).starts (C.problem cells.now).count
-        (best_of found.route) found.rows) }
-    ensures best { IfOk result (λ found. IfSome (best_of found.route)
-        (IsBestEnd (C.problem cells.now).network (C.problem cells.now).starts (C.problem cells.now).target)) }
-    ensures picked { IfOk result (λ found. IfSome found.route (λ r. IsPickedRoute (C.problem cells.now).network (C.problem cells.now).starts ComesBefore
-        (C.problem cells.now).target r.best (map step_of r.steps.items))) }
-    ensures none { IfOk result (λ found. IfNone (best_of found.route)
-        (HasNoWalk (C.problem cells.now).network (C.problem cells.now).starts (C.problem cells.now).target)) }
+    ensures table { IfOk result (λ found. TellExitsOf (C.told cells.now) (C.problem cells.now) (best_of found.route) found.rows) }
+    ensures best { IfOk result (λ found. IfSome (best_of found.route) (IsBestFor (C.problem cells.now))) }
+    ensures picked { IfOk result (λ found. IfSome found.route (IsPickedFor (C.problem cells.now))) }
+    ensures none { IfOk result (λ found. IfNone (best_of found.route) (HasNoWalkFor (C.problem cells.now))) }
 {
     labels.renew(alloc, cells.count())?;
     begin(cells, labels);
@@ -161,10 +142,7 @@ fn reach_none(alloc: Global, reached: &mut Vec<u32>, runs: usize) -> Result<(), 
 fn end_of_goal(goal: Option<Goal>) -> Option<u32>
     ensures { result ≡ end_of_goal goal }
 {
-    match goal {
-        None => None,
-        Some(goal) => Some(goal.end),
-    }
+    goal.map(|goal| goal.end)
 }
 
 /// The route that is picked back from the goal, if there is one.
@@ -177,18 +155,13 @@ fn route_to<C: ForwardCells>(
     requires sound { IsProblem (C.problem cells.now) }
     requires ended { IsAtEnd (C.problem cells.now) (standing labels.now) goal }
     ensures same_end { IfOk result (λ route. best_of route ≡ end_of_goal goal) }
-    ensures picked { IfOk result (λ route. IfSome route (λ r. IsPickedRoute (C.problem cells.now).network (C.problem cells.now).starts ComesBefore
-        (C.problem cells.now).target r.best (map step_of r.steps.items))) }
+    ensures picked { IfOk result (λ route. IfSome route (IsPickedFor (C.problem cells.now))) }
 {
-    match goal {
-        None => Ok(None),
-        Some(goal) => {
-            let mut steps = pick_back(alloc, cells, labels, goal)?;
-            steps.reverse();
-            Ok(Some(Route {
-                steps,
-                best: goal.end,
-            }))
-        }
-    }
+    let Some(goal) = goal else {
+        return Ok(None);
+    };
+    let mut steps = pick_back(alloc, cells, labels, goal)?;
+    steps.reverse();
+    let best = goal.end;
+    Ok(Some(Route { steps, best }))
 }

@@ -140,11 +140,8 @@ pub(crate) fn pick_back<C: ForwardCells>(
         let window = cells.cell(cell);
         let enter = label.value - window.seconds;
         steps.push(CellStep { cell, enter, leave })?;
-        let to = Entering {
-            cell,
-            from: window.from,
-            enter,
-        };
+        let from = window.from;
+        let to = Entering { cell, from, enter };
         cell = first_before(cells, labels, to, label.via);
         label = label_at(labels, cell);
         leave = enter;

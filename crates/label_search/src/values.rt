@@ -27,14 +27,8 @@ fn value_below(bound: Option<u32>, known: Option<Label>) -> Option<u32>
 {
     match (known, bound) {
         (None, _) => None,
-        (Some(label), None) => Some(label.value),
-        (Some(label), Some(bound)) => {
-            if label.value < bound {
-                Some(label.value)
-            } else {
-                None
-            }
-        }
+        (Some(label), Some(bound)) if bound <= label.value => None,
+        (Some(label), _) => Some(label.value),
     }
 }
 
