@@ -4,3 +4,4 @@ mod Quoted
 mod ListTexts
 mod ObjectTexts
 mod Encoded
+mod ReadBack

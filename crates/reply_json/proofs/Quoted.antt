@@ -35,11 +35,11 @@ name-plain b e = record {
   no_backslash = λ same. true≢false (sym e ∙ ap is_name_byte same);
 }
 
-names-plain : (bs : List ℕ) → list_all is_name_byte bs ≡ true → ArePlain bs
+pub names-plain : (bs : List ℕ) → list_all is_name_byte bs ≡ true → ArePlain bs
 names-plain [] e = tt
 names-plain (b ∷ bs) e = let parts = and_parts (is_name_byte b) (list_all is_name_byte bs) e in (name-plain b parts.0, names-plain bs parts.1)
 
-plain-append : (bs more : List ℕ) → ArePlain bs → ArePlain more → ArePlain (bs ++ more)
+pub plain-append : (bs more : List ℕ) → ArePlain bs → ArePlain more → ArePlain (bs ++ more)
 plain-append [] more one two = two
 plain-append (b ∷ bs) more one two = (one.0, plain-append bs more one.1 two)
 
@@ -64,7 +64,7 @@ escape-plain : (bs : List ℕ) → ArePlain bs → escape bs ≡ bs
 escape-plain [] plain = refl
 escape-plain (b ∷ bs) plain = ap (λ (t : List ℕ). t ++ escape bs) (escape-one b plain.0) ∙ ap (λ (t : List ℕ). b ∷ t) (escape-plain bs plain.1)
 
-encode-plain : (bs : List ℕ) → ArePlain bs → encode_utf8_all bs ≡ bs
+pub encode-plain : (bs : List ℕ) → ArePlain bs → encode_utf8_all bs ≡ bs
 encode-plain [] plain = refl
 encode-plain (b ∷ bs) plain = ap (λ (t : List ℕ). t ++ encode_utf8_all bs) (encode_ascii b plain.0.ascii) ∙ ap (λ (t : List ℕ). b ∷ t) (encode-plain bs plain.1)
 
@@ -74,7 +74,7 @@ text-plain bs plain = ap (λ (t : List ℕ). 34 ∷ (t ++ 34 ∷ [])) (sym (ap e
 pub name-quoted : (name : List ℕ) → IsTrue (is_name name) → 34 ∷ (name ++ 34 ∷ []) ≡ compact_text (text_value name)
 name-quoted name is = text-plain name (names-plain name (name-bytes name is))
 
-sign-plain : (forward : Bool) → IsPlain (sign_of forward)
+pub sign-plain : (forward : Bool) → IsPlain (sign_of forward)
 sign-plain true = record {
   printed = omega arith;
   ascii = omega arith;

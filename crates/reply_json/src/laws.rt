@@ -1,9 +1,25 @@
 //! What an object gives again, as laws of the definitions. The functions do nothing: their clauses are the laws.
-ghost use Rattle.std.specs.Prelude.{◌≡◌, ℕ, List};
+ghost use Rattle.std.specs.Prelude.{◌≡◌, ℕ, List, All};
 ghost use Rattle.std.specs.List.{join_with_byte};
+ghost use Rattle.taxi_base.specs.Airport.{Airport, IsWellFormed};
 ghost use Rattle.taxi_text.specs.Words.{words_of};
+ghost use Rattle.certificate.specs.declared.block.Block.{Block};
+ghost use Rattle.certificate.specs.Printable.{IsPrintable};
+ghost use Rattle.certificate.specs.Texts.{block_text};
+ghost use Rattle.serde_json.specs.Data.{Data};
+ghost use Rattle.transcripts.specs.Runs.{transcript};
+ghost use Rattle.reply_json.specs.Lines.{command_object};
+ghost use Rattle.reply_json.specs.Reading.{TellOf, block_text_of, transcript_of};
 
 /// The words of a line, joined by single blanks, are the line.
 pub fn words_give_the_line()
     ensures { (line : List ℕ) → join_with_byte 32 (words_of line) ≡ line }
+{}
+
+/// The object of a command gives the text of the block that answers it, by its members alone. The objects of a run give its transcript.
+pub fn objects_give_the_transcript()
+    ensures block { (airport : Airport) (block : Block) (command line : ℕ) (text : List ℕ) → IsWellFormed airport → IsPrintable airport block
+        → block_text_of (command_object airport command line text block) ≡ block_text airport block }
+    ensures whole { (airport : Airport) (blocks : List Block) (objects : List Data) → IsWellFormed airport → All (IsPrintable airport) blocks → TellOf airport objects blocks
+        → transcript_of objects ≡ transcript airport blocks }
 {}

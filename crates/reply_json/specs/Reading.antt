@@ -1,0 +1,112 @@
+-- Which text of a block does an object give, and which transcript do the objects of a run?
+use Rattle.std.specs.Prelude.{◌≡◌, ℕ, List, [], ◌∷◌, ◌++◌, length, map, flat_map, codes, decimal, bytes_eq, Option, Some, ⊤, if◌then◌else◌}
+use Rattle.taxi_base.specs.Airport.{Airport}
+use Rattle.certificate.specs.declared.block.Block.{Block}
+use Rattle.certificate.specs.Texts.{lines_text}
+use Rattle.transcripts.specs.Runs.{done_line}
+use Rattle.serde_json.specs.Data.{Data, unsigned, number, string, array, Items, no_items, item}
+use Rattle.serde_json.specs.Find.{get}
+use Rattle.reply_json.specs.Lines.{command_object}
+
+-- the words of a line
+abbrev pub Words : Type 0
+Words = List (List ℕ)
+
+-- ---- the members of an object
+
+-- a string is a word, and so is a number, by its digits
+abbrev pub word_in : Option Data → Words
+word_in (Some (string text)) = text ∷ []
+word_in (Some (number (unsigned n))) = decimal n ∷ []
+word_in _ = []
+
+-- the words under these keys, of those that the object has
+abbrev pub words_at : List (List ℕ) → Data → Words
+words_at [] object = []
+words_at (key ∷ keys) object = word_in (get key object) ++ words_at keys object
+
+abbrev pub values_of : Items → List Data
+values_of no_items = []
+values_of (item value items) = value ∷ values_of items
+
+abbrev pub values_in : Option Data → List Data
+values_in (Some (array items)) = values_of items
+values_in _ = []
+
+-- the values of the list under a key, and how many they are
+abbrev pub values_at : List ℕ → Data → List Data
+values_at key object = values_in (get key object)
+
+abbrev pub count_at : List ℕ → Data → List ℕ
+count_at key object = decimal (length (values_at key object))
+
+-- a line for each value of the list under a key: a word, and then the words under these keys
+abbrev pub rows_at : (list word : List ℕ) → List (List ℕ) → Data → List Words
+rows_at list word keys object = map (λ row. word ∷ words_at keys row) (values_at list object)
+
+-- ---- lines
+
+abbrev pub labels_at : Data → List Words
+labels_at object = rows_at (codes "labels") (codes "label") (codes "arc" ∷ codes "from" ∷ codes "until" ∷ codes "value" ∷ []) object
+
+abbrev pub route_at : Data → List Words
+route_at object =
+    (codes "route" ∷ (words_at (codes "flight" ∷ codes "second" ∷ []) object ++ count_at (codes "steps") object ∷ count_at (codes "labels") object ∷ []))
+    ∷ (rows_at (codes "steps") (codes "step") (codes "arc" ∷ codes "enter" ∷ codes "leave" ∷ []) object ++ labels_at object)
+
+abbrev pub no_route_at : Data → List Words
+no_route_at object = (codes "no-route" ∷ count_at (codes "labels") object ∷ []) ∷ labels_at object
+
+-- the first word of a reply
+abbrev pub reply_of : Words → List ℕ
+reply_of [] = []
+reply_of (word ∷ words) = word
+
+abbrev pub reply_at : Data → List ℕ
+reply_at object = reply_of (words_at (codes "reply" ∷ []) object)
+
+-- the lines of an entry
+abbrev pub entry_at : Data → List Words
+entry_at object =
+    if bytes_eq (reply_at object) (codes "dropped") then (codes "dropped" ∷ words_at (codes "flight" ∷ []) object) ∷ []
+    else (codes "next" ∷ words_at (codes "flight" ∷ []) object) ∷ (if bytes_eq (reply_at object) (codes "route") then route_at object else no_route_at object)
+
+abbrev pub entries_at : Data → List Words
+entries_at object = flat_map entry_at (values_at (codes "entries") object)
+
+-- a refusal has one line: the word that says why, and of these members those that it has
+abbrev pub refusal_at : Data → Words
+refusal_at object =
+    words_at (codes "why" ∷ codes "end" ∷ codes "start" ∷ codes "leave" ∷ codes "horizon" ∷ codes "step" ∷ codes "cause" ∷ codes "at" ∷ codes "by" ∷ []) object
+
+-- The lines of a block. The first begins with the word under "reply".
+abbrev pub block_at : Data → List Words
+block_at object =
+    if bytes_eq (reply_at object) (codes "refused") then (codes "refused" ∷ refusal_at object) ∷ []
+    else (if bytes_eq (reply_at object) (codes "filed") then (codes "filed" ∷ words_at (codes "flight" ∷ codes "start" ∷ codes "end" ∷ []) object) ∷ []
+    else (if bytes_eq (reply_at object) (codes "cancelled") then (codes "cancelled" ∷ words_at (codes "flight" ∷ []) object) ∷ []
+    else (if bytes_eq (reply_at object) (codes "route") then route_at object
+    else (if bytes_eq (reply_at object) (codes "no-route") then no_route_at object
+    else (if bytes_eq (reply_at object) (codes "windows") then (codes "windows" ∷ (words_at (codes "segment" ∷ []) object ++ count_at (codes "windows") object ∷ [])) ∷ rows_at (codes "windows") (codes "window") (codes "from" ∷ codes "until" ∷ []) object
+    else (if bytes_eq (reply_at object) (codes "occupancy") then (codes "occupancy" ∷ (words_at (codes "segment" ∷ []) object ++ count_at (codes "held") object ∷ [])) ∷ rows_at (codes "held") (codes "held") (codes "from" ∷ codes "until" ∷ codes "flight" ∷ codes "segment" ∷ []) object
+    else (if bytes_eq (reply_at object) (codes "timetable") then (codes "timetable" ∷ count_at (codes "flights") object ∷ []) ∷ rows_at (codes "flights") (codes "flight") (codes "flight" ∷ codes "kind" ∷ codes "class" ∷ codes "start" ∷ codes "end" ∷ []) object
+    else (if bytes_eq (reply_at object) (codes "batch") then (codes "batch" ∷ count_at (codes "entries") object ∷ words_at (codes "total" ∷ []) object) ∷ entries_at object
+    else (codes "late" ∷ (words_at (codes "flight" ∷ []) object ++ count_at (codes "entries") object ∷ [])) ∷ entries_at object))))))))
+
+-- ---- texts
+
+-- the text of the block that an object tells of
+unfoldable pub block_text_of : Data → List ℕ
+block_text_of object = lines_text (block_at object)
+
+-- the transcript that the objects of a run give
+abbrev pub transcript_of : List Data → List ℕ
+transcript_of objects = flat_map block_text_of objects ++ done_line (length objects)
+
+-- these objects tell of these blocks, each with some command and its numbers
+abbrev pub TellOf : Airport → List Data → List Block → Type 0
+TellOf airport [] [] = ⊤
+TellOf airport [] (block ∷ blocks) = ⊥
+TellOf airport (object ∷ objects) [] = ⊥
+TellOf airport (object ∷ objects) (block ∷ blocks) =
+    ((command : ℕ) × (line : ℕ) × (text : List ℕ) × (object ≡ command_object airport command line text block)) × TellOf airport objects blocks
