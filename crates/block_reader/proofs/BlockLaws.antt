@@ -154,6 +154,3 @@ module _ (airport : Airport) where
         ap (λ (t : List ℕ). block_at airport (t ++ rest)) (sym (batch_text-is airport total entries)) ∙ batch-again airport well total entries rest good
     block-again (Late flight entries) rest good =
         ap (λ (t : List ℕ). block_at airport (t ++ rest)) (sym (late_text-is airport flight entries)) ∙ late-again airport well flight entries rest good
-
-    pub block-spelling : IsSpelling (IsPrintable airport) (text airport) (block_at airport)
-    block-spelling = record { again = block-again; takes = block-takes }

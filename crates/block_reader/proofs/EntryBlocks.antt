@@ -1,20 +1,20 @@
 -- A batch is read as it was printed, and so is what is told where a flight is late.
 use Rattle.std.proofs.Common.{◌≡◌, ◌∙◌, ◌<◌, ◌^◌, ◌++◌, ◌∷◌, [], ℕ, true, List, length, codes, decimal, Some, refl, sym, ap, subst, append_assoc, IsTrue}
-use Rattle.std.specs.Prelude.{◌↔◌, All}
+use Rattle.std.specs.Prelude.{All}
 use Rattle.std.specs.List.{list_all, flat_map}
-use Rattle.std.proofs.lemmas.List.Elements.{recursion_from_All, All-from_recursion, All-nil, All-cons, All-head, All-tail}
+use Rattle.std.proofs.lemmas.List.Elements.{recursion_from_All, All-from_recursion}
 use Rattle.taxi_base.specs.Airport.{Airport, IsWellFormed}
 use Rattle.taxi_text.specs.Fields.{name_of}
 use Rattle.taxi_text.specs.Commands.{is_batch_count}
 use Rattle.certificate.specs.declared.block.Block.{Block}
 use Rattle.certificate.specs.declared.block.Block.TheVariants.{Batch, Late}
 use Rattle.certificate.specs.declared.entries.Entry.{Entry}
-use Rattle.certificate.specs.declared.entries.Entry.TheVariants as entry
 use Rattle.certificate.specs.Texts.{lines_text, entry_lines, block_text}
-use Rattle.certificate.specs.Printable.{IsCount, IsName, IsTold, IsPrintableEntry, IsPrintable}
+use Rattle.certificate.specs.Printable.{IsCount, IsName, IsTold, is_told, IsPrintableEntry, IsPrintable}
+use Rattle.certificate.proofs.ToldEntries.{told-all}
 use Rattle.block_reader.specs.Fields.{some_count_of, batch_count_of, total_of}
 use Rattle.block_reader.specs.Reading.{word_then, word_last, rows_at}
-use Rattle.block_reader.specs.Blocks.{is_told, batch_of, entry_at, batch_at, late_at}
+use Rattle.block_reader.specs.Blocks.{batch_of, entry_at, batch_at, late_at}
 use Rattle.block_reader.proofs.Spellings.{some-both, some-map, IsSpelling, last-spelling, then-spelling, rows-again, rows-takes}
 use Rattle.block_reader.proofs.Words.{kept, some_count-word, batch_count-word, total-word, name-word}
 use Rattle.block_reader.proofs.RouteLaws.{text, IsRest}
@@ -29,20 +29,6 @@ lines-append (x ∷ xs) ys = rw (lines-append xs ys) (sym (append_assoc _ (lines
 lines-of : {X : Type 0} (lines : X → List (List (List ℕ))) (xs : List X) → lines_text (flat_map lines xs) ≡ flat_map (λ x. lines_text (lines x)) xs
 lines-of lines [] = refl
 lines-of lines (x ∷ xs) = lines-append (lines x) (flat_map lines xs) ∙ ap (λ (t : List ℕ). lines_text (lines x) ++ t) (lines-of lines xs)
-
--- ---- none is dropped
-
-told-all : (entries : List (List ℕ × Entry)) → IsTrue (list_all is_told entries) ↔ All IsTold entries
-told-all [] = (λ _. All-nil IsTold, λ _. refl)
-told-all ((name, entry.Route second steps labels) ∷ entries) = (
-  λ e. All-cons IsTold _ entries tt ((told-all entries).0 e),
-  λ all. (told-all entries).1 (All-tail IsTold _ entries all),
-)
-told-all ((name, entry.NoRoute labels) ∷ entries) = (
-  λ e. All-cons IsTold _ entries tt ((told-all entries).0 e),
-  λ all. (told-all entries).1 (All-tail IsTold _ entries all),
-)
-told-all ((name, entry.Dropped) ∷ entries) = (λ e. absurd (cc e), λ all. absurd (All-head IsTold _ entries all))
 
 -- ---- first lines
 

@@ -1,5 +1,5 @@
 -- A text, or a word, that stands at the front of the bytes.
-use Rattle.std.proofs.Common.{◌≡◌, ◌≢◌, ◌==◌, ◌&&◌, ◌+◌, ◌-◌, ◌*◌, ◌<◌, ◌≤◌, ◌∙◌, ℕ, zero, suc, Bool, true, false, cond, List, [], ◌∷◌, ◌++◌, length, get_or, take, drop, Option, Some, None, refl, sym, ap, arith, inl, inr}
+use Rattle.std.proofs.Common.{◌≡◌, ◌==◌, ◌&&◌, ◌+◌, ◌-◌, ◌*◌, ◌<◌, ◌≤◌, ◌∙◌, ℕ, zero, suc, Bool, true, false, cond, List, [], ◌∷◌, ◌++◌, length, get_or, take, drop, Option, Some, None, refl, sym, ap, arith, inl, inr}
 use Rattle.std.specs.Prelude.{option_map, bytes_eq}
 use Rattle.std.specs.Bool.{one_answer}
 use Rattle.std.specs.Int.{Width, to_le_bytes, from_le_bytes}
@@ -33,12 +33,6 @@ behind-takes (b ∷ text) (c ∷ bytes) rest e =
     let g = guard_some (c == b) (behind text bytes) rest e in
     let same : c ≡ b = eqb-true c b g.0 in
     rw (same, behind-takes text bytes rest g.1) refl
-
-pub behind-none : (text bytes : List ℕ) → ((rest : List ℕ) → bytes ≢ text ++ rest) → behind text bytes ≡ None
-behind-none text bytes h = go (behind text bytes) refl where
-  go : (o : Option (List ℕ)) → behind text bytes ≡ o → o ≡ None
-  go None e = refl
-  go (Some rest) e = absurd (h rest (behind-takes text bytes rest e))
 
 -- ---- a word
 

@@ -1,5 +1,5 @@
 -- How each kind of block is read.
-use Rattle.std.specs.Prelude.{ℕ, Bool, true, false, List, Option, Some, None, option_map, codes, bytes_eq, if◌then◌else◌}
+use Rattle.std.specs.Prelude.{ℕ, List, Option, Some, None, option_map, codes, bytes_eq, if◌then◌else◌}
 use Rattle.std.specs.List.{list_all}
 use Rattle.taxi_base.specs.declared.rows.Step.{Step}
 use Rattle.taxi_base.specs.declared.rows.Span.{Span}
@@ -19,6 +19,7 @@ use Rattle.certificate.specs.declared.block.Block.{Block}
 use Rattle.certificate.specs.declared.block.Block.TheVariants.{Refused, Filed, Cancelled, Route, NoRoute, Windows, Occupancy, Timetable, Batch, Late}
 use Rattle.certificate.specs.declared.entries.Entry.{Entry}
 use Rattle.certificate.specs.declared.entries.Entry.TheVariants as entry
+use Rattle.certificate.specs.Printable.{is_told}
 use Rattle.block_reader.specs.Fields.{number_of, count_of, some_count_of, batch_count_of, total_of, step_number_of, kind_of, class_of_word, segment_of_word, arc_of_word}
 use Rattle.block_reader.specs.Reading.{after, word_then, word_last, made, either, rows_at}
 
@@ -156,11 +157,6 @@ told_at airport bytes =
 unfoldable pub entry_at : Airport → List ℕ → Option ((List ℕ × Entry) × List ℕ)
 entry_at airport =
     either (codes "next ") (told_at airport) (after (codes "dropped ") (made (λ name. (name, entry.Dropped)) (word_last name_of)))
-
--- something is told of the flight
-abbrev pub is_told : List ℕ × Entry → Bool
-is_told (name, entry.Dropped) = false
-is_told (name, told) = true
 
 -- ---- blocks with entries, behind their first word
 

@@ -1,16 +1,15 @@
 //! Blocks that tell of several flights, one after the other.
 ghost use Rattle.std.specs.Prelude.{◌≡◌};
-ghost use Rattle.std.specs.List.{list_all};
 ghost use Rattle.taxi_text.specs.Fields.{name_of};
 ghost use Rattle.block_reader.specs.Fields.{some_count_of, batch_count_of, total_of};
 ghost use Rattle.block_reader.specs.Reading.{word_then, word_last, rows_at, Finds, IsRead};
-ghost use Rattle.block_reader.specs.Blocks.{entry_of, told_at, entry_at, is_told, batch_at, late_at};
+ghost use Rattle.block_reader.specs.Blocks.{entry_of, told_at, entry_at, batch_at, late_at};
 
 use crate::fields::{batch_count_field, behind, name_field, some_count_field, total_field};
 use crate::found::read_found;
 use crate::refused::BlockRefused;
 use airport_file::Airport;
-use certificate::{Block, Entries, Entry};
+use certificate::{Block, Entries, Entry, are_told};
 use std::alloc::Global;
 use taxi_base::Name;
 
@@ -27,7 +26,7 @@ pub(crate) fn read_batch<'a>(
         return Err(BlockRefused::NotABlock);
     };
     let (entries, rest) = read_entries(alloc, airport, count, rest)?;
-    if !are_told(&entries) {
+    if !are_told(entries.as_slice()) {
         return Err(BlockRefused::NotABlock);
     }
     Ok((Block::Batch { total, entries }, rest))
@@ -39,16 +38,6 @@ fn batch_head(bytes: &[u8]) -> Option<((u64, u32), &[u8])>
     let (count, rest) = batch_count_field(b' ', bytes)?;
     let (total, rest) = total_field(b'\n', rest)?;
     Some(((count, total), rest))
-}
-
-// Whether something is told in each entry.
-fn are_told(entries: &Entries) -> bool
-    ensures { result ≡ list_all is_told entries.now }
-{
-    entries
-        .as_slice()
-        .iter()
-        .all(|told| !matches!(told.1, Entry::Dropped))
 }
 
 /// What is told where a flight is late.

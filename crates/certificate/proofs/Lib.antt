@@ -24,6 +24,7 @@ pub mod OneReply
 pub mod TablesKept
 pub mod TurnLaws
 pub mod SoughtPasses
+pub mod ToldEntries
 pub mod EntryTurns
 pub mod EntryPasses
 pub mod BatchTurns

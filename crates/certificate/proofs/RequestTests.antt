@@ -1,8 +1,8 @@
 -- The requests of a batch, tried one after the other, as a loop does: what those before a place ask for, and what refuses the batch.
-use Rattle.std.proofs.Common.{◌≡◌, ◌∙◌, ◌<◌, ◌≤◌, ◌+◌, ◌++◌, ◌∷◌, [], ℕ, suc, Bool, true, false, ◌||◌, List, length, take, drop, get_or, add-one, append_assoc, Option, Some, None, option_map, option_and_then, refl, sym, ap}
+use Rattle.std.proofs.Common.{◌≡◌, ◌∙◌, ◌<◌, ◌+◌, ◌++◌, ◌∷◌, [], ℕ, suc, Bool, true, false, ◌||◌, List, length, take, drop, get_or, add-one, append_assoc, Option, Some, None, option_map, option_and_then, refl, sym, ap}
 use Rattle.std.specs.List.{list_any}
 use Rattle.std.proofs.Math.Seq.{drop-cons}
-use Rattle.std.proofs.lemmas.List.{take_more, take_all, drop_all}
+use Rattle.std.proofs.lemmas.List.{take_more}
 use Rattle.taxi_base.specs.declared.answers.Refusal.{Refusal}
 use Rattle.taxi_base.specs.declared.answers.Refusal.TheVariants as refusal
 use Rattle.taxi_base.specs.Airport.{Airport}
@@ -34,13 +34,6 @@ new-before state before name e = rw e (held (has_holder name state)) where
   held true = refl
   held false = refl
 
--- one has it
-pub named-before : (state : State) (before : List BatchRequest) (name : List ℕ) → list_any (is_name_of name) before ≡ true → in_force_or_before state before name ≡ Some refusal.InForce
-named-before state before name e = rw e (held (has_holder name state)) where
-  held : (b : Bool) → refused_if (b || true) refusal.InForce ≡ Some refusal.InForce
-  held true = refl
-  held false = refl
-
 -- ---- request by request
 
 wishes-more : (airport : Airport) (before : List BatchRequest) (request : BatchRequest) (wishes : List Wish) (wish : Wish) → wishes_of airport before ≡ Some wishes → wish_of airport request ≡ Some wish
@@ -64,9 +57,6 @@ module _ (airport : Airport) (state : State) where
   pub record AreTried (requests : List BatchRequest) (place : ℕ) (wishes : List Wish) : Type 0 where
     pub known : wishes_of airport (take place requests) ≡ Some wishes
     pub come : (more : List (Option Refusal)) → first_of (tests_of_requests airport state [] requests ++ more) ≡ first_of (tests_of_requests airport state (take place requests) (drop place requests) ++ more)
-
-  pub none-tried : (requests : List BatchRequest) → AreTried requests 0 []
-  none-tried requests = record { known = refl; come = λ more. refl }
 
   module _ (requests : List BatchRequest) (place : ℕ) (request : BatchRequest) (within : place < length requests) (is : request ≡ get_or requests place request) where
     abbrev before : List BatchRequest
@@ -103,12 +93,3 @@ module _ (airport : Airport) (state : State) where
     one-refused wishes why tried some =
         let more : List (Option Refusal) = full_with (length requests) state ∷ [] in
         tried.come more ∙ ap first_of (parted more) ∙ stopped own _ why some
-
-  -- all were tried
-  pub all-tried : (requests : List BatchRequest) (place : ℕ) (wishes : List Wish) → length requests ≤ place → AreTried requests place wishes
-      → (wishes_of airport requests ≡ Some wishes) × (first_refusal airport state (command.Batch requests) ≡ first_of (full_with (length requests) state ∷ []))
-  all-tried requests place wishes over tried =
-      let more : List (Option Refusal) = full_with (length requests) state ∷ [] in (
-        ap (wishes_of airport) (sym (take_all place requests over)) ∙ tried.known,
-        tried.come more ∙ ap (λ (rs : List BatchRequest). first_of (tests_of_requests airport state (take place requests) rs ++ more)) (drop_all place requests over),
-      )

@@ -1,8 +1,8 @@
 -- A text that is written piece by piece, and may be cut short.
-use Rattle.std.proofs.Common.{◌≡◌, ◌∙◌, ℕ, zero, suc, ◌+◌, ◌≤◌, List, [], ◌∷◌, ◌++◌, length, take, drop, map, Some, Result, Ok, Err, decimal, codes, refl, sym, ap, append_assoc, append-nil}
+use Rattle.std.proofs.Common.{◌≡◌, ◌∙◌, ℕ, zero, suc, ◌+◌, List, [], ◌∷◌, ◌++◌, length, take, drop, map, Some, Result, Ok, Err, decimal, codes, refl, sym, ap, append_assoc}
 use Rattle.std.specs.Prelude.{OnErr, slice_get, flat_map}
 use Rattle.std.proofs.lemmas.Option.{slice_get_within, get_or_from_slice_get}
-use Rattle.std.proofs.lemmas.List.{drop_more, drop_all}
+use Rattle.std.proofs.lemmas.List.{drop_more}
 use Rattle.taxi_base.specs.declared.rows.Step.{Step}
 use Rattle.taxi_base.specs.declared.rows.LabelRow.{LabelRow}
 use Rattle.taxi_base.specs.Airport.{Airport}
@@ -105,16 +105,6 @@ entry_route-by airport name second steps labels line head s l is head_is same_st
     ap (λ (t : List ℕ). t ++ rows) is ∙ append_assoc (next_line name) head rows
     ∙ ap (λ (t : List ℕ). next_line name ++ t) (route_text-by airport name second steps labels head s l head_is same_steps same_labels)
 
--- and of one without
-pub entry_none-by : (airport : Airport) (name : List ℕ) (labels : List LabelRow) (line head : List ℕ) (l : List LabelRow)
-    → line ≡ next_line name ++ head → head ≡ line_text (codes "no-route" ∷ decimal (length l) ∷ []) → l ≡ labels
-    → line ++ rows_text (label_words airport) l ≡ lines_text (entry_lines airport (name, entry.NoRoute labels))
-entry_none-by airport name labels line head l is head_is same_labels =
-    let rows : List ℕ = rows_text (label_words airport) l in
-    ap (λ (t : List ℕ). t ++ rows) is ∙ append_assoc (next_line name) head rows
-    ∙ ap (λ (t : List ℕ). next_line name ++ (t ++ rows)) head_is
-    ∙ ap (λ (t : List LabelRow). next_line name ++ (line_text (codes "no-route" ∷ decimal (length t) ∷ []) ++ rows_text (label_words airport) t)) same_labels
-
 module _ (airport : Airport) (entries : List (List ℕ × Entry)) (place : ℕ) (told : List ℕ × Entry) (there : slice_get entries place ≡ Some told) where
   -- the text of the entries from a place on is that of the entry there, and of those behind it
   entries-from : entries_text airport (drop place entries) ≡ lines_text (entry_lines airport told) ++ entries_text airport (drop (place + 1) entries)
@@ -146,9 +136,3 @@ module _ (airport : Airport) (entries : List (List ℕ × Entry)) (place : ℕ) 
         parts = come.1 ∙ ap (λ (t : List ℕ). come.0 ++ t) (entries-from ∙ ap (λ (t : List ℕ). t ++ rest) cut.parts ∙ append_assoc cut.written cut.rest rest) ∙ sym (append_assoc come.0 cut.written (cut.rest ++ rest));
         grown = cut.grown ∙ ap (λ (t : List ℕ). t ++ cut.written) come.2 ∙ append_assoc old come.0 cut.written;
       }
-
--- all of them have come
-pub entries_come : (airport : Airport) (entries : List (List ℕ × Entry)) (place : ℕ) (text old new : List ℕ) → length entries ≤ place → HasCome text old (entries_text airport (drop place entries)) new → new ≡ old ++ text
-entries_come airport entries place text old new all come =
-    let none : drop place entries ≡ [] = drop_all place entries all in
-    come.2 ∙ ap (λ (t : List ℕ). old ++ t) (sym (come.1 ∙ ap (λ (es : List (List ℕ × Entry)). come.0 ++ entries_text airport es) none ∙ append-nil come.0))

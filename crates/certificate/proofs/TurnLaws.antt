@@ -205,17 +205,6 @@ module _ (airport : Airport) (state : State) (line : List ℕ) where
     is-after (Batch total entries) after form is = absurd form
     is-after (Late flight entries) after form is = absurd form
 
-    -- the first rule that the search breaks is the first that the block breaks
-    pub one-breaks : (block : Block) → IsFormOf s block → KeepsReply airport state line block → (r : Rule) → IsFirstOf (KeepsTurn (record { sought = s; told = block })) (Some r) → IsFirstBroken airport state line block r
-    one-breaks block form reply r first = go r first (subst (λ ts. BreaksFirst ts r) (sym (one_turn block form)) (inl first)) where
-      go : (r : Rule) → IsFirstOf (KeepsTurn (record { sought = s; told = block })) (Some r) → BreaksFirst (turns_of airport state line block) r → IsFirstBroken airport state line block r
-      go rule.Reply first breaks = absurd (first.0 tt)
-      go rule.Walk first breaks = (reply, breaks)
-      go rule.Rows first breaks = (reply, breaks)
-      go rule.Start first breaks = (reply, breaks)
-      go rule.Step first breaks = (reply, breaks)
-      go rule.Target first breaks = (reply, breaks)
-
   -- ---- what is best of a block is best of what its line seeks
 
   best-turn : (told : Block) (o : Option Sought) → sought_by airport state line ≡ o → map (λ turn. turn.told) (turns_by told o) ≡ told ∷ [] → All (λ turn. IsBestTold turn.sought turn.told) (turns_by told o)

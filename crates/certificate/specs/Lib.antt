@@ -12,3 +12,4 @@ pub mod Replies
 pub mod Turns
 pub mod TableRules
 pub mod Passes
+pub mod Named

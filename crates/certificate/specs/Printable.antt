@@ -1,5 +1,5 @@
 -- Which blocks have a text in the grammar.
-use Rattle.std.specs.Prelude.{ℕ, ◌<◌, ◌≤◌, ◌^◌, List, length, All, IsTrue, ⊤}
+use Rattle.std.specs.Prelude.{ℕ, ◌<◌, ◌≤◌, ◌^◌, Bool, true, false, List, length, All, IsTrue, ⊤}
 use Rattle.taxi_base.specs.Words.{is_name}
 use Rattle.taxi_text.specs.Commands.{is_batch_count}
 use Rattle.taxi_base.specs.Airport.{Airport, arc_exists, layout_of}
@@ -94,6 +94,10 @@ IsPrintableEntry airport (name, entry.Dropped) = IsName name
 abbrev pub IsTold : List ℕ × Entry → Type 0
 IsTold (name, entry.Dropped) = ⊥
 IsTold (name, told) = ⊤
+
+abbrev pub is_told : List ℕ × Entry → Bool
+is_told (name, entry.Dropped) = false
+is_told (name, told) = true
 
 -- A block that has a text in the grammar: its arcs, segments and classes are the airport's, its names are names, its numbers have
 -- at most 7 digits and its counts at most 10, and a route has at least one step. A batch has 2 to 6 entries, of which none is

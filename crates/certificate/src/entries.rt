@@ -1,5 +1,7 @@
 //! What a block tells of several flights, one after the other.
 ghost use Rattle.std.specs.Prelude.{◌≡◌, ◌<◌, ◌∷◌, ◌++◌, [], length, slice_get, Some, IfErr, OnOk, OnErr};
+ghost use Rattle.std.specs.List.{list_all};
+ghost use Rattle.certificate.specs.Printable.{is_told};
 
 use std::alloc::Global;
 use std::marker::Model;
@@ -88,4 +90,11 @@ impl Entries {
     {
         self.entries
     }
+}
+
+/// Whether something is told in each of some entries, so that none is dropped.
+pub fn are_told(entries: &[(Name, Entry)]) -> bool
+    ensures { result ≡ list_all is_told entries.now }
+{
+    entries.iter().all(|told| !matches!(told.1, Entry::Dropped))
 }

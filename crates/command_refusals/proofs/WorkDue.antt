@@ -8,7 +8,7 @@ use Rattle.taxi_base.specs.Faults.{hold_fault}
 use Rattle.taxi_text.specs.declared.command.Shut.{Shut}
 use Rattle.taxi_text.specs.declared.command.Command.TheVariants as command
 use Rattle.certificate.specs.declared.block.Block.TheVariants.{Filed}
-use Rattle.certificate.specs.Refusals.{most_holders, first_refusal}
+use Rattle.certificate.specs.Refusals.{most_holders}
 use Rattle.certificate.specs.Asked.{party_of}
 use Rattle.certificate.specs.Replies.{IsDueTo}
 
@@ -18,9 +18,3 @@ module _ (airport : Airport) (state : State) where
       → IsDueTo airport state (command.Work shut) (Filed shut.name shut.from shut.until) (with_party (party_of shut segment) state)
   work-due shut segment absent known room faultless =
       rw (absent, known, lt-leb most_holders (holder_count state) room, faultless) (record { segment = segment; segment_known = known; reply = (refl, refl) })
-
-  -- once all is tried, nothing is refused
-  pub work-unrefused : (shut : Shut) (segment : Segment) → has_holder shut.name state ≡ false → segment_named airport shut.segment ≡ Some segment
-      → holder_count state < most_holders → hold_fault airport state (record { segment = segment; span = record { from = shut.from; until = shut.until } }) ≡ None
-      → first_refusal airport state (command.Work shut) ≡ None
-  work-unrefused shut segment absent known room faultless = rw (absent, known, lt-leb most_holders (holder_count state) room, faultless) refl

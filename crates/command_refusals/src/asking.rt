@@ -1,15 +1,15 @@
 //! What an arrival or a departure asks for, or why it is refused before any search.
-ghost use Rattle.std.specs.Prelude.{◌≡◌, ◌∷◌, [], Some, None, false, IfOk, IfErr};
+ghost use Rattle.std.specs.Prelude.{◌≡◌, ◌∷◌, Some, None, IfOk, IfErr};
 ghost use Rattle.taxi_base.specs.declared.answers.Request.TheVariants as request;
-ghost use Rattle.taxi_base.specs.State.{has_holder};
 ghost use Rattle.taxi_text.specs.declared.command.BatchRequest.TheVariants as requested;
 ghost use Rattle.taxi_text.specs.declared.command.Command.TheVariants as command;
-ghost use Rattle.certificate.specs.Refusals.{first_of, in_force, unknown_class, unknown_node, tests_of_words, first_refusal};
+ghost use Rattle.certificate.specs.Refusals.{first_of, in_force, tests_of_words, first_refusal};
 ghost use Rattle.commitments.specs.Book.{Fits};
 ghost use Rattle.command_refusals.specs.Named.{IsTripOf};
 
 use crate::holders::{is_full, is_held};
 use airport_file::Airport;
+use certificate::{Named, arrival_words, departure_words};
 use commitments::Ledger;
 use taxi_base::{Class, Node, Refusal, Request, Time};
 use taxi_text::Asked;
@@ -26,6 +26,19 @@ pub struct Trip {
 }
 
 impl Trip {
+    // Between the nodes that words name, at the times that they ask for.
+    fn of(named: &Named, asked: &Asked) -> Trip
+        ensures { result ≡ record { class = named.now.class; from = named.now.from; to = named.now.to; time = asked.now.time; slack = asked.now.slack } }
+    {
+        Trip {
+            class: named.class,
+            from: named.from,
+            to: named.to,
+            time: asked.time,
+            slack: asked.slack,
+        }
+    }
+
     /// What the flight of an arrival asks for.
     pub fn arrival(&self) -> Request
         ensures { result ≡ request.Arrival self.now.from self.now.to self.now.time self.now.slack }
@@ -89,14 +102,11 @@ pub(crate) fn arrival_trip(
     ensures ok { IfOk result (λ trip. first_of (in_force ledger.now.state asked.now.flight ∷ tests_of_words airport.now (requested.Arrival asked.now)) ≡ None) }
     ensures err { IfErr result (λ why. first_of (in_force ledger.now.state asked.now.flight ∷ tests_of_words airport.now (requested.Arrival asked.now)) ≡ Some why) }
 {
-    let trip = find_trip(airport, ledger, asked)?;
-    if !airport.is_runway(trip.from) {
-        return Err(Refusal::WrongKind);
+    if is_held(ledger, &asked.flight) {
+        return Err(Refusal::InForce);
     }
-    if !airport.is_stand(trip.to) {
-        return Err(Refusal::WrongKind);
-    }
-    Ok(trip)
+    let named = arrival_words(airport, asked)?;
+    Ok(Trip::of(&named, asked))
 }
 
 /// The same of a departure.
@@ -109,39 +119,9 @@ pub(crate) fn departure_trip(
     ensures ok { IfOk result (λ trip. first_of (in_force ledger.now.state asked.now.flight ∷ tests_of_words airport.now (requested.Departure asked.now)) ≡ None) }
     ensures err { IfErr result (λ why. first_of (in_force ledger.now.state asked.now.flight ∷ tests_of_words airport.now (requested.Departure asked.now)) ≡ Some why) }
 {
-    let trip = find_trip(airport, ledger, asked)?;
-    if !airport.is_stand(trip.from) {
-        return Err(Refusal::WrongKind);
-    }
-    if !airport.is_runway(trip.to) {
-        return Err(Refusal::WrongKind);
-    }
-    Ok(trip)
-}
-
-// What the words name, where the flight's name is new.
-fn find_trip(airport: &Airport, ledger: &Ledger, asked: &Asked) -> Result<Trip, Refusal>
-    ensures named { IfOk result (IsTripOf airport.now asked.now) }
-    ensures new { IfOk result (λ trip. has_holder asked.now.flight ledger.now.state ≡ false) }
-    ensures err { IfErr result (λ why. first_of (in_force ledger.now.state asked.now.flight ∷ unknown_class airport.now asked.now.class ∷ unknown_node airport.now asked.now.from ∷ unknown_node airport.now asked.now.to ∷ []) ≡ Some why) }
-{
     if is_held(ledger, &asked.flight) {
         return Err(Refusal::InForce);
     }
-    let Some(class) = airport.class_named(&asked.class) else {
-        return Err(Refusal::UnknownClass);
-    };
-    let Some(from) = airport.node_named(&asked.from) else {
-        return Err(Refusal::UnknownNode);
-    };
-    let Some(to) = airport.node_named(&asked.to) else {
-        return Err(Refusal::UnknownNode);
-    };
-    Ok(Trip {
-        class,
-        from,
-        to,
-        time: asked.time,
-        slack: asked.slack,
-    })
+    let named = departure_words(airport, asked)?;
+    Ok(Trip::of(&named, asked))
 }

@@ -6,10 +6,7 @@ ghost use Rattle.commitments.specs.Book.{Fits};
 
 use airport_file::Airport;
 use commitments::Ledger;
-use taxi_base::Name;
-
-/// How many flights and work parties may be in force.
-const MOST_HOLDERS: usize = 4096;
+use taxi_base::{MOST_HOLDERS, Name};
 
 /// Whether a flight or a work party has the name.
 pub fn is_held(ledger: &Ledger, name: &Name) -> bool

@@ -2,6 +2,7 @@
 ghost use Rattle.std.specs.Prelude.{◌≡◌, ◌<◌, ◌∷◌, [], length};
 ghost use Rattle.certificate.specs.Refusals.{is_filed, is_departure, first_of, not_routed, not_arrival, already_done, already_moving};
 
+use certificate::fixed_refused;
 use taxi_base::{Flight, Refusal, Request, Time, begin_of, end_of};
 
 /// Why a reroute of a flight in force is refused.
@@ -29,21 +30,6 @@ pub fn divert_refused(flight: &Flight, time: Time) -> Option<Refusal>
     }
     if is_departure(&flight.request) {
         return Some(Refusal::NotArrival);
-    }
-    let end = end_of(flight.steps.as_slice());
-    if end <= time {
-        return Some(Refusal::AlreadyDone { end });
-    }
-    None
-}
-
-/// Why nothing of a flight is changed from a time on: its route was given by hand, or it has ended.
-pub(crate) fn fixed_refused(flight: &Flight, time: Time) -> Option<Refusal>
-    requires { 0 < length flight.now.steps }
-    ensures { result ≡ first_of (not_routed flight.now ∷ already_done time flight.now ∷ []) }
-{
-    if is_filed(&flight.request) {
-        return Some(Refusal::NotRouted);
     }
     let end = end_of(flight.steps.as_slice());
     if end <= time {

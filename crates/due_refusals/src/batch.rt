@@ -5,7 +5,7 @@ ghost use Rattle.certificate.specs.Refusals.{first_of, tests_of_request};
 ghost use Rattle.checked_state.specs.Flights.{state_of};
 ghost use Rattle.due_refusals.specs.Batch.{AreBatchNamed};
 
-use crate::asked::{arrival_words, departure_words, is_full_with};
+use crate::asked::{is_full_with, new_arrival, new_departure};
 use airport_file::Airport;
 use certificate::{Wish, asked_in, is_asked_for};
 use checked_state::HeldFlights;
@@ -59,7 +59,7 @@ fn named_after(
     }
     let (class, request) = match request {
         BatchRequest::Arrival(asked) => {
-            let named = arrival_words(airport, held, asked)?;
+            let named = new_arrival(airport, held, asked)?;
             let request = Request::Arrival {
                 from: named.from,
                 to: named.to,
@@ -69,7 +69,7 @@ fn named_after(
             (named.class, request)
         }
         BatchRequest::Departure(asked) => {
-            let named = departure_words(airport, held, asked)?;
+            let named = new_departure(airport, held, asked)?;
             let request = Request::Departure {
                 from: named.from,
                 to: named.to,

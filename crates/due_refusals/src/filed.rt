@@ -6,13 +6,12 @@ ghost use Rattle.checked_state.specs.Flights.{state_of, HasSpansOf};
 ghost use Rattle.due_refusals.specs.KnownIn.{AreKnownIn};
 ghost use Rattle.due_refusals.specs.Filing.{IsDueOf};
 
-use crate::asked::MOST_HOLDERS;
 use crate::faults::route_fault;
 use airport_file::Airport;
 use check_rows::KnownWindows;
 use checked_state::HeldFlights;
 use std::alloc::Global;
-use taxi_base::{Flight, List, Memory, Refusal, Request, Step, Time};
+use taxi_base::{Flight, List, MOST_HOLDERS, Memory, Refusal, Request, Step, Time};
 use taxi_text::{Filed, FiledStep};
 
 /// What is due to a filed route: its refusal, or that its flight is in force.

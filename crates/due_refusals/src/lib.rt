@@ -13,7 +13,7 @@ mod shut;
 mod taken;
 
 pub use again::{divert_refused, reroute_refused};
-pub use asked::{Named, named_arrival, named_departure};
+pub use asked::{named_arrival, named_departure};
 pub use batch::{NamedBatch, named_batch};
 pub use choice::{NamedAny, named_arrival_any, named_departure_any};
 pub use filed::{Due, find_due};

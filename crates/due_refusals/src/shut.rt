@@ -7,12 +7,11 @@ ghost use Rattle.certificate.specs.Refusals.{first_of, hold_fails, first_refusal
 ghost use Rattle.checked_state.specs.Flights.{state_of, HasSpansOf};
 ghost use Rattle.due_refusals.specs.KnownIn.{AreKnownIn};
 
-use crate::asked::MOST_HOLDERS;
 use crate::taken::taken_by;
 use airport_file::Airport;
 use check_rows::KnownWindows;
 use checked_state::HeldFlights;
-use taxi_base::{Memory, Refusal, Segment, Span, StepCause, StepFault};
+use taxi_base::{MOST_HOLDERS, Memory, Refusal, Segment, Span, StepCause, StepFault};
 use taxi_text::Shut;
 
 /// The segment that a work party is to shut, or why it is refused before its span is looked at.

@@ -10,10 +10,7 @@ use crate::name_order::{order_at, order_of};
 use slab::Slab;
 use std::alloc::Global;
 use std::marker::Model;
-use taxi_base::{Flight, Memory, Name};
-
-// No more holders than these are ever in force at once.
-const MOST_FLIGHTS: usize = 4096;
+use taxi_base::{Flight, MOST_HOLDERS, Memory, Name};
 
 // So many keys are told apart in two bytes.
 const MOST_KEYS: usize = 1 << 16;
@@ -53,7 +50,7 @@ impl FlightList {
     pub fn new(alloc: Global) -> Result<FlightList, Memory>
         ensures { IfOk result (λ l. l.flights ≡ []) }
     {
-        let flights = Slab::with_capacity(alloc, MOST_FLIGHTS)?;
+        let flights = Slab::with_capacity(alloc, MOST_HOLDERS)?;
         if MOST_KEYS < flights.capacity() {
             return Err(Memory::for_so_many(flights.capacity()));
         }

@@ -4,9 +4,9 @@ ghost use Rattle.std.specs.Prelude.{◌≡◌, ◌+◌, ◌≤◌, length, IfOk}
 use holder_lists::{FlightList, PartyList};
 use std::alloc::Global;
 use std::test::Fail;
-use taxi_base::{Arc, Class, Flight, List, Memory, Name, Party, Request, Segment, Step};
-
-const MOST_FLIGHTS: usize = 4_096;
+use taxi_base::{
+    Arc, Class, Flight, List, MOST_HOLDERS, Memory, Name, Party, Request, Segment, Step,
+};
 
 // A flight of a name that makes one step.
 fn flight(alloc: Global, name: Name) -> Result<Flight, Memory>
@@ -32,7 +32,7 @@ fn file(alloc: Global, flights: &mut FlightList, name: &[u8]) -> Result<(), Fail
     if flights.flight(&name).is_some() {
         return Err(Fail::from("no flight has the name"));
     }
-    if flights.count() >= MOST_FLIGHTS {
+    if flights.count() >= MOST_HOLDERS {
         return Err(Fail::from("there are fewer flights than may be"));
     }
     flights.prepare()?;

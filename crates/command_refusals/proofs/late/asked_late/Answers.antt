@@ -3,8 +3,8 @@ use Rattle.std.proofs.lemmas.List.Elements.{All-contains}
 use Rattle.certificate.proofs.FlightLaws.{flight_named-there}
 use Rattle.command_refusals.proofs.late.asked_late.Goals as goal
 
-pub delay_refusal-requires : goal.delay_refusal-requires
-delay_refusal-requires c =
+pub delay_refused-requires : goal.delay_refused-requires
+delay_refused-requires c =
     let flights = c.args.ledger.now.state.flights in
     let f = c.in-Some.flight.now in
     let found = sym (rw c.in-Some.is at c.flight.ensures) in

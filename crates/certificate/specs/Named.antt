@@ -2,7 +2,7 @@
 use Rattle.std.specs.Prelude.{◌≡◌, Some}
 use Rattle.taxi_base.specs.Airport.{Airport, node_named, class_named}
 use Rattle.taxi_text.specs.declared.command.Asked.{Asked}
-use Rattle.due_refusals.specs.declared.asked.Named.{Named}
+use Rattle.certificate.specs.declared.words.Named.{Named}
 
 -- the class and the nodes are those that the words name
 pub record AreNamed (airport : Airport) (asked : Asked) (named : Named) : Type 0 where
