@@ -39,10 +39,6 @@ way-degree plan ways i d node s e low =
     subst (λ xs. link_ends node xs ≤ 32) (links-more ways plan.links i d e low)
     (let less = sum_by-take-le (own_ends node) plan.links (i + 1) in let all = s.degree node in omega (arith, less, all))
 
-pub few-ways : (plan : Plan) (ways : List Taxiway) (i : ℕ) → IsSound plan → map link_of_way ways ≡ plan.links → i < length ways → i < 10000
-few-ways plan ways i s e low =
-    let as_many : length ways ≡ length plan.links = sym (length-map ways link_of_way) ∙ ap length e in omega (arith, low, as_many, s.links, s.segments.few)
-
 -- ---- turns
 
 -- a turn that goes on is between two arcs that there are

@@ -24,9 +24,6 @@ comma : (fields : List (List ℕ)) (field u : List ℕ)
 unfolding next_record
 comma fields field u = refl
 
-split-comma : (field rest : List ℕ) → split_from field (44 ∷ rest) ≡ field ∷ split_from [] rest
-split-comma field rest = refl
-
 split-other : (field : List ℕ) (b : ℕ) (rest : List ℕ) → (b == 44) ≡ false → split_from field (b ∷ rest) ≡ split_from (field ++ b ∷ []) rest
 split-other field b rest other = rw other refl
 

@@ -1,6 +1,6 @@
 -- What is so of a node and of an arc, by the tests.
-use Rattle.std.proofs.Common.{◌≡◌, ◌↔◌, ◌⊎◌, Bool, true, false, not, ◌&&◌, List, Option, Some, None, IsTrue, inl, inr, refl, sym, ◌∙◌, ap, subst}
-use Rattle.std.specs.Prelude.{slice_get, option_map, is_some}
+use Rattle.std.proofs.Common.{◌≡◌, ◌↔◌, ◌⊎◌, Bool, false, not, ◌&&◌, List, Option, Some, None, IsTrue, inl, inr, refl, sym, ◌∙◌, ap, subst}
+use Rattle.std.specs.Prelude.{slice_get, option_map}
 use Rattle.std.specs.Option.{option_map_or}
 use Rattle.std.specs.List.{list_any}
 use Rattle.std.proofs.lemmas.Bool.{and_parts, and_from, not-true, not_from_false, false_from_ne_true, both_ways}
@@ -8,7 +8,7 @@ use Rattle.taxi_base.specs.declared.numbers.Node.{Node}
 use Rattle.taxi_base.specs.declared.numbers.Arc.{Arc}
 use Rattle.taxi_base.specs.declared.rows.Kind.{Kind}
 use Rattle.taxi_base.specs.declared.rows.Kind.TheVariants.{Runway, Junction, Stand}
-use Rattle.taxi_base.specs.Airport.{Airport, NodeRow, Ends, layout_of, segment_of, ends, head, arc_exists, is_runway, is_stand}
+use Rattle.taxi_base.specs.Airport.{Airport, NodeRow, layout_of, segment_of, head, is_runway, is_stand}
 use Rattle.taxi_base.proofs.ListLaws.{list_any-true, list_any-member}
 use Rattle.segment_graph.specs.Graphs.{AreNext}
 use Rattle.class_ways.specs.Ways.{is_of, is_junction}
@@ -59,13 +59,6 @@ module _ (airport : Airport) (node : Node) where
       )
 
 -- ---- dead ends
-
-head-exists : (e : Option Ends) (node : Node) → option_map (λ e. e.head) e ≡ Some node → is_some e ≡ true
-head-exists None node h = absurd (cc h)
-head-exists (Some e) node h = refl
-
-pub no-arc : (airport : Airport) (arc : Arc) → arc_exists (layout_of airport) arc ≡ false → IsDeadEnd airport arc → ⊥
-no-arc airport arc none dead = both_ways _ none (head-exists (ends (layout_of airport) arc) dead.node dead.comes_to)
 
 pub dead-end : (airport : Airport) (arc : Arc) (node : Node) (row : List Arc) (used junction onward so : Bool) → Some node ≡ head (layout_of airport) arc → AreNext (layout_of airport) arc row
     → used ≡ is_shared airport (segment_of arc) (segment_of arc) → junction ≡ is_of Junction airport node

@@ -1,5 +1,5 @@
 -- What walks pass: no dead end and no node that is unused. Idle turns stop none.
-use Rattle.std.proofs.Common.{◌≡◌, ◌+◌, ◌/◌, ◌&&◌, ◌||◌, Bool, false, not, ℕ, List, [], ◌∷◌, Option, Some, None, Contains, IsTrue, ◌⊎◌, inl, inr, refl, sym, ◌∙◌, ap, subst, arith}
+use Rattle.std.proofs.Common.{◌≡◌, ◌+◌, ◌/◌, ◌&&◌, ◌||◌, Bool, not, ℕ, List, [], ◌∷◌, Option, Some, None, Contains, IsTrue, ◌⊎◌, inl, inr, refl, sym, ◌∙◌, ap, subst, arith}
 use Rattle.std.specs.Prelude.{◌↔◌, ◌==◌, is_some, filter}
 use Rattle.std.proofs.lemmas.Bool.{both_ways, and_parts, cases_Bool, eqb-true, false_from_ne_true}
 use Rattle.taxi_base.specs.declared.numbers.Node.{Node}
@@ -9,11 +9,11 @@ use Rattle.taxi_base.specs.declared.rows.Kind.{Kind}
 use Rattle.taxi_base.specs.declared.rows.Kind.TheVariants.{Runway, Junction, Stand}
 use Rattle.taxi_base.specs.declared.rows.Step.{Step}
 use Rattle.taxi_base.specs.declared.answers.Request.TheVariants.{Arrival, Departure}
-use Rattle.taxi_base.specs.Airport.{Airport, NodeRow, Layout, layout_of, segment_of, arc_exists, ends, head, tail, meet, permits, is_forbidden, seconds, is_runway, is_stand}
+use Rattle.taxi_base.specs.Airport.{Airport, Layout, layout_of, segment_of, arc_exists, ends, head, tail, meet, permits, is_forbidden, seconds}
 use Rattle.taxi_base.specs.Walks.{Conditions, IsFeasibleStep, IsFeasibleWalk, LeavesNode, LeavesNodeWithin, ReachesNode, ReachesNodeWithin, AtFirst, AtLast, Meets}
 use Rattle.taxi_base.proofs.ListLaws.{Contains-cons_cases}
 use Rattle.class_ways.specs.declared.course.Course.TheVariants.{Onward}
-use Rattle.class_ways.specs.Ways.{is_junction, is_of, is_open}
+use Rattle.class_ways.specs.Ways.{is_of, is_open}
 use Rattle.class_ways.specs.Courses.{is_start, IsComing}
 use Rattle.class_ways.proofs.WayLaws.{open-class, start-from, met-comes}
 use Rattle.class_ways.proofs.WalkLaws.{step-open}

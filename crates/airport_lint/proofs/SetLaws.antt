@@ -1,12 +1,12 @@
 -- Which sets are needed, as they are judged one after the other.
-use Rattle.std.proofs.Common.{◌≡◌, ℕ, zero, suc, ◌+◌, ◌<◌, Bool, true, false, not, List, [], ◌∷◌, ◌++◌, length, get_or, take, drop, set, replicate, ◌&&◌, ◌||◌, Contains, IsTrue, if◌then◌else◌, inl, inr, refl, sym, ◌∙◌, ap, ap₂, arith, append_assoc, append-nil, take-append-drop, length-take}
+use Rattle.std.proofs.Common.{◌≡◌, ℕ, zero, suc, ◌+◌, ◌<◌, Bool, true, false, not, List, [], ◌∷◌, ◌++◌, length, get_or, take, drop, set, replicate, ◌&&◌, ◌||◌, Contains, IsTrue, if◌then◌else◌, inl, inr, refl, sym, ◌∙◌, ap, ap₂, arith, append_assoc, take-append-drop, length-take}
 use Rattle.std.specs.Prelude.{◌==◌}
 use Rattle.std.specs.List.{list_any, list_all}
 use Rattle.std.proofs.lemmas.Bool.{cases_Bool, or_cases, or_left, or_right, and_parts}
 use Rattle.std.proofs.lemmas.List.Folds.{list_any-append}
 use Rattle.taxi_base.specs.Airport.{conflict, has_member}
 use Rattle.taxi_base.proofs.InOrder.{same_answer, Contains-test}
-use Rattle.std.proofs.lemmas.List.{take_more, drop_all, drop_more}
+use Rattle.std.proofs.lemmas.List.{take_more, drop_more}
 use Rattle.taxi_base.specs.declared.numbers.Segment.{Segment}
 use Rattle.airport_lint.proofs.LoopLaws.{all-of}
 use Rattle.airport_lint.specs.Sets.{is_covered, marked, with_mark, needed_marks}
@@ -27,11 +27,6 @@ marked-others : (before : List (List Segment)) (one : List Segment) (after : Lis
     → marked (before ++ one ∷ after) (replicate (length before) true ++ false ∷ marks) ≡ before ++ marked after marks
 marked-others [] one after marks = refl
 marked-others (s ∷ before) one after marks = ap (λ t. s ∷ t) (marked-others before one after marks)
-
-pub marks-first : (sets : List (List Segment)) → replicate (length sets) true ≡ marks_from sets (length sets)
-marks-first sets =
-    let none : drop (length sets) sets ≡ [] = drop_all (length sets) sets (omega arith) in
-    sym (ap (λ d. replicate (length sets) true ++ needed_marks (take (length sets) sets) d) none ∙ append-nil (replicate (length sets) true))
 
 -- what the judging of the set before gives
 abbrev pub judged : List (List Segment) → List Bool → ℕ → List Bool
@@ -56,9 +51,6 @@ marks-more sets at low =
     let same : needed_marks before (drop at sets) ≡ mark ∷ later =
     ap (needed_marks before) split ∙ ap (λ f. with_mark before one after (needed_marks f after)) (sym front) in
     ap (λ o. set (marks_from sets (at + 1)) at (not (is_covered o one))) others ∙ changed mark ∙ ap (λ m. replicate at true ++ m) (sym same)
-
-pub marks-all : (sets : List (List Segment)) → marks_from sets 0 ≡ needed_marks [] sets
-marks-all sets = refl
 
 pub marks-length : (before sets : List (List Segment)) → length (needed_marks before sets) ≡ length sets
 marks-length before [] = refl

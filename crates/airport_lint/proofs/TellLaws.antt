@@ -18,9 +18,6 @@ pub tells-both : (airport : Airport) (these those old mid new : List Advice) →
 tells-both airport these those old mid new (told, one, is) (more, other, also) =
     (told ++ more, told-both airport these those told more one other, also ∙ ap (λ t. t ++ more) is ∙ append_assoc old told more)
 
-pub tells-none : (airport : Airport) (old : List Advice) → Tells airport [] old old
-tells-none airport old = ([], refl, sym (append-nil old))
-
 -- one thing, if it is so
 pub tells-one : (airport : Airport) (advice : Advice) (is_so : Bool) (old new : List Advice) → IsTrue is_so ↔ IsSo airport advice → new ≡ old ++ (if is_so then advice ∷ [] else [])
     → Tells airport (advice ∷ []) old new

@@ -1,19 +1,17 @@
 -- Walks of arrivals by the steps that stay and by how they begin after them.
-use Rattle.std.proofs.Common.{◌≡◌, ◌↔◌, ◌∙◌, ℕ, suc, ◌+◌, ◌-◌, ◌<◌, ◌≤◌, max, Bool, true, false, ◌&&◌, eqb, List, [], ◌∷◌, ◌++◌, length, get_or, take, drop, Option, Some, None, IsTrue, refl, sym, ap, subst, arith}
-use Rattle.std.specs.Prelude.{MatchOption, slice_get}
+use Rattle.std.proofs.Common.{◌≡◌, ◌↔◌, ◌∙◌, ℕ, ◌+◌, ◌-◌, ◌<◌, max, true, false, ◌&&◌, eqb, List, [], ◌∷◌, ◌++◌, length, get_or, drop, Option, Some, None, IsTrue, refl, sym, ap, subst}
+use Rattle.std.specs.Prelude.{MatchOption}
 use Rattle.std.specs.Option.{option_map_or}
 use Rattle.std.specs.Bool.{Decides}
 use Rattle.std.proofs.lemmas.Bool.{and_parts, and_from, eqb-true, eq-eqb, le-leb, leb-true, both_ways, false≢true}
 use Rattle.std.proofs.Math.Seq.{drop-append_seam}
-use Rattle.std.proofs.lemmas.List.{length-take, get_or-take}
-use Rattle.std.proofs.lemmas.Option.{slice_get-get_or}
 use Rattle.taxi_base.specs.declared.numbers.Arc.{Arc}
 use Rattle.taxi_base.specs.declared.numbers.Node.{Node}
 use Rattle.taxi_base.specs.declared.rows.Step.{Step}
 use Rattle.taxi_base.specs.declared.answers.Request.TheVariants.{Arrival}
 use Rattle.taxi_base.specs.Airport.{Layout, layout_of, tail, head}
-use Rattle.taxi_base.specs.Walks.{Conditions, AtFirst, AtLast, IsFeasibleWalk, ReachesNode, LeavesNodeWithin, Resumes, Meets, IsRoute}
-use Rattle.taxi_base.specs.State.{entered_count, step_begun, steps_done, IsFrozenWalk, IsResumed}
+use Rattle.taxi_base.specs.Walks.{Conditions, AtFirst, AtLast, IsFeasibleWalk, ReachesNode, LeavesNodeWithin, Resumes, IsRoute}
+use Rattle.taxi_base.specs.State.{step_begun, steps_done, IsResumed}
 use Rattle.walk_labels.specs.Requests.{Beginning, BeginsBy}
 use Rattle.walk_labels.specs.Requests.Beginning.{at_node, resuming}
 use Rattle.certificate.specs.Sought.{UnderWay, search_of, onward}
@@ -64,9 +62,6 @@ leads-is layout begin to at rest d some begins there = (
     same-node : {x y : Node} → ◌≡◌ {A = Option Node} (Some x) (Some y) → x.0 ≡ y.0
     same-node e = cc
 
-pub leads-not : (layout : Layout) (begin : Beginning) (to : Node) (rest : List Step) (d : Step) → 0 < length rest → (BeginsBy layout begin (get_or rest 0 d) → ⊥) → IsTrue false ↔ LeadsOn layout begin to rest
-leads-not layout begin to rest d some other = (λ e. absurd (false≢true e), λ leads. absurd (other ((at-first (BeginsBy layout begin) rest d some).0 leads.0)))
-
 -- ---- the walks of an arrival
 
 module _ (c : Conditions) (from to : Node) (asked hold : ℕ) where
@@ -113,37 +108,6 @@ module _ (c : Conditions) (from to : Node) (asked hold : ℕ) where
         (λ begun. IsResumed c (steps_done way.time way.steps) begun way.time to steps) → IsFeasibleWalk c steps
     go None met = met.walk
     go (Some begun) met = met.walk
-
--- ---- the course by the steps that were entered
-
--- none was entered
-pub none-begun : (time : ℕ) (steps : List Step) → entered_count time steps ≡ 0 → step_begun time steps ≡ None
-none-begun time steps none = rw none refl
-
--- the last that was entered
-pub last-begun : (time : ℕ) (steps : List Step) (n : ℕ) (step : Step) → entered_count time steps ≡ n → 0 < n → n ≤ length steps → step ≡ get_or steps (n - 1) step → step_begun time steps ≡ Some step
-last-begun time steps n step count some few is = rw count (at-last steps n step some few is) where
-  at-last : (steps : List Step) (n : ℕ) (step : Step) → 0 < n → n ≤ length steps → step ≡ get_or steps (n - 1) step → slice_get (take n steps) (n - 1) ≡ Some step
-  at-last steps n step some few is =
-      slice_get-get_or (take n steps) (n - 1) step (omega (arith, some, few, length-take n steps)) ∙ ap (λ (s : Step). Some s) (get_or-take n steps (n - 1) step (omega (arith, some)) ∙ sym is)
-
--- ---- the course that is found
-
-module _ (from : Node) (asked hold time : ℕ) (steps : List Step) (n : ℕ) (count : n ≡ entered_count time steps) where
-  abbrev way : UnderWay
-  way = record { steps = steps; time = time }
-
-  pub none-beginning : n ≡ 0 → beginning_for from asked hold (Some way) ≡ at_node from (max asked time) (asked + hold)
-  none-beginning none = rw (none-begun time steps (sym count ∙ none)) refl
-
-  pub none-done : n ≡ 0 → done_for (Some way) ≡ []
-  none-done none = rw (none-begun time steps (sym count ∙ none)) refl
-
-  pub begun-beginning : 0 < n → n ≤ length steps → (begun : Step) → begun ≡ get_or steps (n - 1) begun → beginning_for from asked hold (Some way) ≡ resuming begun time
-  begun-beginning some few begun is = rw (last-begun time steps n begun (sym count) some few is) refl
-
-  pub begun-done : 0 < n → n ≤ length steps → (begun : Step) → begun ≡ get_or steps (n - 1) begun → done_for (Some way) ≡ take (n - 1) steps
-  begun-done some few begun is = rw (last-begun time steps n begun (sym count) some few is) (ap (λ k. take (k - 1) steps) (sym count))
 
 -- ---- steps that keep those that stay
 

@@ -1,10 +1,10 @@
 -- How a walk begins and ends, by its first step and its last.
-use Rattle.std.proofs.Common.{◌≡◌, ◌↔◌, ◌∙◌, ℕ, suc, ◌-◌, ◌<◌, ◌≤◌, Bool, true, false, ◌&&◌, eqb, List, [], ◌∷◌, length, get_or, Option, Some, IsTrue, sym, arith}
+use Rattle.std.proofs.Common.{◌≡◌, ◌↔◌, ◌∙◌, ℕ, ◌-◌, ◌<◌, ◌≤◌, true, false, ◌&&◌, eqb, List, [], ◌∷◌, length, get_or, Option, Some, IsTrue, sym, arith}
 use Rattle.std.proofs.lemmas.Bool.{and_parts, and_from, eqb-true, eq-eqb, le-leb, leb-true, both_ways, false≢true}
 use Rattle.taxi_base.specs.declared.numbers.Node.{Node}
 use Rattle.taxi_base.specs.declared.rows.Step.{Step}
 use Rattle.taxi_base.specs.Airport.{Layout, tail, head}
-use Rattle.taxi_base.specs.Walks.{AtFirst, AtLast, LeavesNode, ReachesNodeWithin, end_of}
+use Rattle.taxi_base.specs.Walks.{AtFirst, LeavesNode, ReachesNodeWithin, end_of}
 use Rattle.taxi_base.proofs.WalkLaws.{at-last, end_of-at}
 use Rattle.check_walks.specs.Course.{is_within}
 use Rattle.check_walks.specs.Steps.{Departs}

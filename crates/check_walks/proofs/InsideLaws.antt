@@ -40,8 +40,3 @@ module _ (ws : List Span) (span : Span) (apart : AreApart 0 ws) (at : ℕ)
         let here : found ≡ get_or ws at w = sym is ∙ get_or_default ws at found w on in
         le-leb _ _ (omega (arith, rising, one.2.0, ap (λ (w : Span). w.from) here, ap (λ (w : Span). w.from) same)),
   )
-
-  pub inside-none : length ws ≤ at → InOne → ⊥
-  inside-none past one =
-      let late : span.until ≤ (get_or ws one.1.0 one.0).until = omega (arith, one.2.1, ap (λ (w : Span). w.until) one.1.2) in
-      absurd (omega (arith, past, one.1.1, not-before one.1.0 one.0 one.1.1 late))

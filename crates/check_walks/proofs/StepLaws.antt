@@ -3,7 +3,7 @@ use Rattle.std.proofs.Common.{◌≡◌, ◌↔◌, ℕ, ◌+◌, ◌<◌, ◌�
 use Rattle.std.specs.Prelude.{nat_le, IsSomeAnd, Contains, Result, Ok, Err, IfOk}
 use Rattle.std.specs.Option.{option_map_or}
 use Rattle.std.specs.List.{AllAdjacentBelow, IsAllAdjacentAnswer}
-use Rattle.std.proofs.lemmas.Bool.{both_ways, and_parts, and_from, eqb-true, eq-eqb, le-leb, leb-true, false≢true}
+use Rattle.std.proofs.lemmas.Bool.{both_ways, and_parts, and_from, eqb-true, eq-eqb, leb-true, false≢true}
 use Rattle.taxi_base.specs.declared.numbers.Class.{Class}
 use Rattle.taxi_base.specs.declared.rows.Span.{Span}
 use Rattle.taxi_base.specs.declared.rows.Step.{Step}
@@ -30,17 +30,9 @@ lasts-some : (enter leave : ℕ) (o : Option ℕ) → IsTrue (option_map_or (λ 
 lasts-some enter leave None h = absurd (false≢true h)
 lasts-some enter leave (Some n) h = leb-true _ _ h
 
-some-lasts : (enter leave : ℕ) (o : Option ℕ) → IsSomeAnd o (λ n. enter + n ≤ leave) → IsTrue (option_map_or (λ n. nat_le (enter + n) leave) o false)
-some-lasts enter leave None h = absurd h
-some-lasts enter leave (Some n) h = le-leb _ _ h
-
 module _ (airport : Airport) (class : Class) (holds : List Hold) (step : Step) where
   abbrev c : Conditions
   c = conditions_among airport class holds
-
-  pub feasible-possible : IsFeasibleStep c step → IsTrue (is_possible airport class step)
-  feasible-possible made =
-      and_from _ _ made.on_arc (and_from _ _ (le-leb _ _ made.in_time) (some-lasts step.enter step.leave (seconds airport class (segment_of step.arc)) made.lasts))
 
   pub feasible-inside : IsWellFormed airport → IsTrue (is_possible airport class step) → (ws : List Span) → AreWindows (c.free (segment_of step.arc)) ws
       → ((w : Span) × Contains ws w × IsPart (hold_under c step).span w) ↔ IsFeasibleStep c step

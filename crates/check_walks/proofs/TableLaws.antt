@@ -1,6 +1,6 @@
 -- The search of an arrival, by how its walk begins.
-use Rattle.std.proofs.Common.{◌≡◌, ◌∙◌, ℕ, ◌+◌, ◌-◌, ◌<◌, ◌≤◌, max, List, [], ◌∷◌, length, get_or, take, Option, Some, None, refl, sym, ap, subst, arith}
-use Rattle.std.specs.Prelude.{Result, Ok, Err, IfOk, MatchOption, All, slice_get}
+use Rattle.std.proofs.Common.{◌≡◌, ◌∙◌, ℕ, ◌+◌, ◌-◌, ◌<◌, ◌≤◌, max, List, [], ◌∷◌, length, take, Option, Some, None, refl, sym, subst, arith}
+use Rattle.std.specs.Prelude.{Result, Ok, Err, IfOk, MatchOption, All}
 use Rattle.std.specs.Option.{option_map_or, ForSome}
 use Rattle.std.proofs.lemmas.Option.{slice_get_within, get_or_from_slice_get}
 use Rattle.std.proofs.lemmas.List.{length-take, get_or-take}
@@ -20,7 +20,7 @@ use Rattle.check_rows.specs.declared.reach.Way.TheVariants.{Forward}
 use Rattle.check_rows.specs.declared.verdict.RowRule.{RowRule}
 use Rattle.check_rows.specs.Rules.{beginning_of, CanCheck, IsTableVerdict}
 use Rattle.check_rows.specs.Verdict.{IsVerdict}
-use Rattle.certificate.specs.Sought.{UnderWay, Search, onward, search_of}
+use Rattle.certificate.specs.Sought.{UnderWay, Search}
 use Rattle.certificate.specs.TableRules.{KeepsRows, KeepsStart, KeepsStep, KeepsTarget}
 use Rattle.check_walks.specs.Course.{beginning_for}
 use Rattle.check_walks.specs.Told.{IsVerdictOn}

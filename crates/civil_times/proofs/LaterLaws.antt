@@ -1,20 +1,18 @@
 -- The text of a start moved on.
-use Rattle.std.proofs.Common.{◌≡◌, ◌⊎◌, ℕ, zero, suc, ◌+◌, ◌-◌, ◌*◌, ◌/◌, ◌%◌, ◌<◌, ◌≤◌, Bool, true, false, List, ◌++◌, ◌∷◌, [], length, drop, Option, Some, None, codes, refl, sym, ap, arith, ◌∙◌, inl, inr, ℤ, pos, ◌+ℤ◌, ◌≤ℤ◌, length-drop}
+use Rattle.std.proofs.Common.{◌≡◌, ℕ, zero, suc, ◌+◌, ◌-◌, ◌*◌, ◌/◌, ◌%◌, ◌<◌, ◌≤◌, Bool, true, false, List, ◌++◌, ◌∷◌, [], length, drop, Some, None, codes, refl, sym, ap, arith, ◌∙◌, inl, inr, ℤ, pos, ◌+ℤ◌, ◌≤ℤ◌, length-drop}
 use Rattle.std.specs.Prelude.{IsTrue, slice_get, nat_lt, nat_le, ◌&&◌, if◌then◌else◌}
 use Rattle.std.specs.Char.{is_ascii_digit}
 use Rattle.std.proofs.lemmas.Bool.{cases_Bool, and_parts, and_from, le-leb, leb-true, ltb-true, ltb-false}
 use Rattle.jiff_core.specs.declared.civil.date.Date.{Date}
-use Rattle.jiff_core.specs.Calendar.{days_in_month, days_in_year, days_from_civil, day_count}
+use Rattle.jiff_core.specs.Calendar.{days_in_month}
 use Rattle.jiff_core.specs.Date.{epoch_day}
 use Rattle.jiff_core.proofs.CalendarLemmas.{days_from_civil-day_count, day_count-lt_year, day_count-later_year, day_count-day_of_year, days_in_year_bounds, days_in_month_bounds}
 use Rattle.jiff.proofs.SpanFacts.{signed_arith}
-use Rattle.taxi_text.specs.Commands.{◌>>=◌}
-use Rattle.civil_times.specs.Marks.{pair_at, digit_at}
-use Rattle.civil_times.specs.Times.{second_of, second_at, has_marks, day_of, is_date, time_of, seconds_of, offset_of}
-use Rattle.civil_times.specs.Later.{CivilDate, civil_date, days_later, date_text, time_text, pair_text, date_of, year_of, is_start, moved_text, civil_text}
-use Rattle.civil_times.specs.Read.{IsRead}
+use Rattle.civil_times.specs.Marks.{pair_at}
+use Rattle.civil_times.specs.Times.{second_of, second_at, has_marks, day_of, is_date, time_of, offset_of}
+use Rattle.civil_times.specs.Later.{CivilDate, civil_date, days_later, date_text, time_text, date_of, is_start, moved_text, civil_text}
 use Rattle.civil_times.proofs.DateLaws.{IsInCalendar, IsLater, number_of, later-days, same-date}
-use Rattle.civil_times.proofs.StartLaws.{IsDay, day-of, IsStart, start-parts, parts-of, second-from, offset-long, step-back}
+use Rattle.civil_times.proofs.StartLaws.{day-of, start-parts, parts-of, second-from, offset-long, step-back}
 
 -- ---- what a start says of later dates
 

@@ -1,13 +1,13 @@
 -- What a start says.
-use Rattle.std.proofs.Common.{◌≡◌, ◌⊎◌, ℕ, ◌+◌, ◌*◌, ◌<◌, ◌≤◌, Bool, true, false, List, length, Option, Some, None, refl, sym, ap, arith, ◌∙◌, inl, inr, ℤ, pos, neg_ℤ}
+use Rattle.std.proofs.Common.{◌≡◌, ◌⊎◌, ℕ, ◌+◌, ◌*◌, ◌<◌, ◌≤◌, Bool, true, false, List, length, Option, Some, None, refl, sym, arith, inl, inr, ℤ, pos, neg_ℤ}
 use Rattle.std.specs.Prelude.{IsTrue, IsSome, is_some, nat_lt, ◌&&◌, ◌==◌, if◌then◌else◌}
 use Rattle.std.specs.Option.{option_map_or}
-use Rattle.std.proofs.lemmas.Bool.{cases_Bool, and_parts, and_from, eqb-true, ltb-true, lt-ltb, leb-true}
-use Rattle.jiff_core.specs.Calendar.{days_in_month, days_from_civil, IsCivilDate}
+use Rattle.std.proofs.lemmas.Bool.{and_parts, eqb-true, ltb-true, lt-ltb, leb-true}
+use Rattle.jiff_core.specs.Calendar.{days_in_month, days_from_civil}
 use Rattle.jiff.proofs.SpanFacts.{signed_arith}
 use Rattle.taxi_text.specs.Commands.{◌>>=◌}
 use Rattle.civil_times.specs.Marks.{pair_at, is_at, colon, plus, dash, letter_z}
-use Rattle.civil_times.specs.Times.{second_of, second_at, has_marks, day_of, day_number, is_date, time_of, offset_of, offset_size, offset_seconds, is_utc}
+use Rattle.civil_times.specs.Times.{second_of, second_at, has_marks, day_of, is_date, time_of, offset_of, offset_size, offset_seconds, is_utc}
 use Rattle.civil_times.specs.Later.{CivilDate, year_of, date_of, is_start}
 use Rattle.civil_times.specs.Read.{IsRead}
 use Rattle.civil_times.proofs.DateLaws.{IsInCalendar, number_of, number-range}
@@ -165,9 +165,6 @@ no-day text none starts = let s = start-parts text starts in let is = (parts-of 
 
 pub no-time : (text : List ℕ) → time_of text ≡ None → IsTrue (is_start text) → ⊥
 no-time text none starts = let s = start-parts text starts in let is = (parts-of text s.second s.second_is).time_is in cc (none, is)
-
-pub no-year : (text : List ℕ) → year_of text ≡ None → IsTrue (is_start text) → ⊥
-no-year text none starts = let s = start-parts text starts in let is = s.year_is in cc (none, is)
 
 pub too-late : (text : List ℕ) (year : ℕ) → year_of text ≡ Some year → 2999 ≤ year → IsTrue (is_start text) → ⊥
 too-late text year is late starts =

@@ -1,5 +1,5 @@
 -- Which text is that of a civil time moved on by some seconds in the calendar?
-use Rattle.std.specs.Prelude.{ℕ, zero, suc, ◌+◌, ◌*◌, ◌/◌, ◌%◌, Bool, false, ◌&&◌, nat_lt, nat_le, if◌then◌else◌, pos, unsigned_abs, List, [], ◌∷◌, ◌++◌, drop, codes, Option, Some, None, is_some, unwrap_or}
+use Rattle.std.specs.Prelude.{ℕ, zero, suc, ◌+◌, ◌*◌, ◌/◌, ◌%◌, Bool, false, ◌&&◌, nat_lt, if◌then◌else◌, pos, unsigned_abs, List, [], ◌∷◌, ◌++◌, drop, codes, Option, Some, is_some, unwrap_or}
 use Rattle.std.specs.Option.{option_map_or}
 use Rattle.jiff_core.specs.declared.civil.date.Date.{Date}
 use Rattle.jiff_core.specs.Calendar.{days_in_month}

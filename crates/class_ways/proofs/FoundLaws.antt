@@ -1,14 +1,13 @@
 -- Arcs that are found one after the other: their marks, and what they gain.
-use Rattle.std.proofs.Common.{◌≡◌, ◌⊎◌, ℕ, zero, suc, ◌+◌, ◌<◌, ◌≤◌, Bool, true, false, cond, ◌||◌, List, [], ◌∷◌, ◌++◌, length, get_or, take, set, replicate, All, Contains, IsTrue, if◌then◌else◌, inl, inr, refl, sym, ◌∙◌, ap, subst, arith, append_assoc, append-nil, length-append}
+use Rattle.std.proofs.Common.{◌≡◌, ◌⊎◌, ℕ, ◌+◌, ◌<◌, Bool, true, false, ◌||◌, List, [], ◌∷◌, ◌++◌, length, get_or, take, All, Contains, IsTrue, if◌then◌else◌, inl, inr, refl, sym, ◌∙◌, ap, subst, arith, append_assoc, append-nil}
 use Rattle.std.specs.Prelude.{◌==◌}
-use Rattle.std.proofs.lemmas.Bool.{cases_Bool, cases_eq, cases_lt, false≢true, or_left, or_right, eq-eqb, ne_eqb}
-use Rattle.std.proofs.lemmas.List.{get_or-set_same, get_or-set_other, take_more}
+use Rattle.std.proofs.lemmas.Bool.{cases_Bool, cases_lt, false≢true, or_left, or_right, eq-eqb}
+use Rattle.std.proofs.lemmas.List.{take_more}
 use Rattle.std.proofs.lemmas.List.Elements.{All-append, All-nil, All-cons, All-contains, Contains-append_left, Contains-push, Contains-push_cases}
-use Rattle.std.proofs.lemmas.List.Folds.{list_any-append, sum_by-replicate}
-use Rattle.std.proofs.lemmas.List.Sums.{sum_by-set, count_by-le-length}
+use Rattle.std.proofs.lemmas.List.Folds.{list_any-append}
 use Rattle.taxi_base.specs.declared.numbers.Arc.{Arc}
-use Rattle.taxi_base.proofs.InOrder.{test-Contains, Contains-test}
-use Rattle.class_ways.specs.Found.{FoundArcs, has_arc, AreMarked, with_arc, Gained}
+use Rattle.taxi_base.proofs.InOrder.{Contains-test}
+use Rattle.class_ways.specs.Found.{FoundArcs, has_arc, with_arc, Gained}
 
 abbrev arc_number : Arc → ℕ
 arc_number a = a.0
@@ -19,51 +18,8 @@ same_arc a b e = ap (λ n. let r : Arc = record { 0 = n } in r) e
 pub has-Contains : (arcs : List Arc) (arc : Arc) → IsTrue (has_arc arcs arc) → Contains arcs arc
 has-Contains arcs arc h = Contains-test arc_number same_arc arcs arc h
 
-pub Contains-has : (arcs : List Arc) (arc : Arc) → Contains arcs arc → IsTrue (has_arc arcs arc)
-Contains-has arcs arc h = test-Contains arc_number arcs arc h
-
 pub has-append : (xs ys : List Arc) (arc : Arc) → has_arc (xs ++ ys) arc ≡ (has_arc xs arc || has_arc ys arc)
 has-append xs ys arc = list_any-append (λ a. a.0 == arc.0) xs ys
-
--- ---- marks
-
-unmarked : (n k : ℕ) → get_or (replicate n false) k false ≡ false
-unmarked zero k = refl
-unmarked (suc n) zero = refl
-unmarked (suc n) (suc k) = unmarked n k
-
-pub marked-none : (limit : ℕ) → AreMarked (replicate limit false) []
-marked-none limit = record {
-  each = λ arc. unmarked limit arc.0;
-  count = let none = sum_by-replicate (λ (mark : Bool). cond mark 1 0) limit false in omega (arith, none);
-}
-
-pub marked-few : (marks : List Bool) (arcs : List Arc) → AreMarked marks arcs → length arcs ≤ length marks
-marked-few marks arcs are = omega (arith, are.count, count_by-le-length (λ (mark : Bool). mark) marks)
-
--- one more arc and its mark
-pub marked-more : (marks : List Bool) (arcs : List Arc) (arc : Arc) → AreMarked marks arcs → arc.0 < length marks → has_arc arcs arc ≡ false
-    → AreMarked (set marks arc.0 true) (arcs ++ arc ∷ [])
-marked-more marks arcs arc are low new = record {
-  each = λ a. elim (cases_eq a.0 arc.0) [
-    | inl same ↦
-        ap (λ n. get_or (set marks arc.0 true) n false) same ∙ get_or-set_same marks arc.0 true false low
-        ∙ sym (has-append arcs (arc ∷ []) a ∙ or_right (has_arc arcs a) (has_arc (arc ∷ []) a) (or_left (arc.0 == a.0) false (eq-eqb arc.0 a.0 (sym same))))
-    | inr apart ↦
-        get_or-set_other marks arc.0 a.0 true false apart ∙ are.each a
-        ∙ sym (has-append arcs (arc ∷ []) a ∙ ap (λ b. has_arc arcs a || (b || false)) (ne_eqb arc.0 a.0 (λ e. apart (sym e))) ∙ or_false (has_arc arcs a))
-  ];
-  count =
-      let was : get_or marks arc.0 false ≡ false = are.each arc ∙ new in
-      let change = sum_by-set (λ (mark : Bool). cond mark 1 0) marks arc.0 true false low in
-      let as_number : Bool → ℕ = λ b. cond b 1 0 in
-      let nothing : as_number (get_or marks arc.0 false) ≡ 0 = ap as_number was in
-      omega (arith, change, nothing, are.count, length-append arcs (arc ∷ []));
-}
-  where
-    or_false : (b : Bool) → (b || false) ≡ b
-    or_false true = refl
-    or_false false = refl
 
 -- ---- what is gained
 

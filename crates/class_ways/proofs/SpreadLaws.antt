@@ -25,10 +25,6 @@ pub record IsSpread (course : Course) (airport : Airport) (class : Class) (begin
   pub onward : All (IsGoneOnFrom course airport class found.arcs) (take first found.arcs)
 
 module _ (course : Course) (airport : Airport) (class : Class) (begins : Arc → Bool) where
-  pub spread-none : (found : FoundArcs) → found.limit ≡ length airport.segments + length airport.segments → All (IsMet course airport class begins) found.arcs
-      → ((arc : Arc) → IsTrue (begins arc) → IsTrue (has_arc found.arcs arc)) → IsSpread course airport class begins 0 found
-  spread-none found limit met starts = record { limit = limit; met = met; starts = starts; onward = λ k d low. absurd (omega arith) }
-
   pub spread-more : (at : ℕ) (old new : FoundArcs) (x : Arc) → IsSpread course airport class begins at old → slice_get old.arcs at ≡ Some x
       → Gained (IsOpenTurn course airport class x) old new → IsSpread course airport class begins (at + 1) new
   spread-more at old new x so_far found gained = record {

@@ -107,9 +107,6 @@ comment-line at why = record { feed = comment-lacks 10 at why refl refl refl ref
 
 -- ---- what the lines are to the router
 
-pub comment-skipped : (at : ℕ) (why : RowFault) → is_skipped (comment_line at why) ≡ true
-comment-skipped at why = refl
-
 pub command-kept : (row : Row) (time : ℕ) → is_skipped (command_line row time) ≡ false
 command-kept row time = go row.movement
   where

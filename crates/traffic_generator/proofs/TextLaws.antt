@@ -6,7 +6,6 @@ use Rattle.std.proofs.lemmas.List.{map_more, take_all}
 use Rattle.std.proofs.lemmas.List.Elements.{filter-append}
 use Rattle.std.specs.List.{join_with_byte}
 use Rattle.std.proofs.lemmas.Grind.{flat_map-append}
-use Rattle.airport_file.specs.Plain.{text_of_lines}
 use Rattle.airport_text.specs.Canonical.{Fields, numbers_below}
 use Rattle.traffic_generator.specs.Texts.{text_of, and_lines}
 
@@ -43,11 +42,6 @@ line-ended separator before first rest i text past so_far =
     ∙ append_assoc before (join_with_byte separator (first ∷ map (λ p. p.now) rest)) (10 ∷ [])
 
 -- ---- no line, and lines after lines
-
-pub text_of_lines-append : (xs ys : List (List ℕ)) → text_of_lines (xs ++ ys) ≡ text_of_lines xs ++ text_of_lines ys
-text_of_lines-append [] ys = refl
-text_of_lines-append (l ∷ xs) ys =
-    ap (λ (rest : List ℕ). l ++ (10 ∷ rest)) (text_of_lines-append xs ys) ∙ sym (append_assoc l (10 ∷ text_of_lines xs) (text_of_lines ys))
 
 pub text_of-append : (separator : ℕ) (xs ys : List Fields) → text_of separator (xs ++ ys) ≡ text_of separator xs ++ text_of separator ys
 text_of-append separator [] ys = refl

@@ -1,4 +1,4 @@
-use Rattle.std.proofs.Common.{◌∙◌, ◌<◌, length, sym}
+use Rattle.std.proofs.Common.{◌∙◌, sym}
 use Rattle.std.proofs.lemmas.Bool.{eqb-true, eq-eqb, false≢true}
 use Rattle.taxi_base.specs.Walks.{conditions_among}
 use Rattle.taxi_base.proofs.WalkLaws.{IsFeasibleWalk-steps}

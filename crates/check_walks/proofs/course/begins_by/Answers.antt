@@ -1,5 +1,4 @@
-use Rattle.std.proofs.Common.{◌≡◌, Option, Some, sym, ◌∙◌, ap}
-use Rattle.taxi_base.specs.declared.numbers.Node.{Node}
+use Rattle.std.proofs.Common.{sym, ◌∙◌, ap}
 use Rattle.taxi_base.specs.Airport.{Layout, layout_of, tail}
 use Rattle.check_walks.proofs.CourseLaws.{node-begins, node-elsewhere, resumes-is}
 use Rattle.check_walks.proofs.course.begins_by.Goals as goal

@@ -1,4 +1,4 @@
-use Rattle.std.proofs.Common.{◌≡◌, ◌∙◌, ◌<◌, ◌-◌, length, get_or, ap, rules}
+use Rattle.std.proofs.Common.{◌∙◌, ◌<◌, ◌-◌, length, get_or, ap, rules}
 use Rattle.taxi_base.specs.Airport.{Layout, layout_of, head}
 use Rattle.check_rows.proofs.LoopLaws.{says-yes}
 use Rattle.check_rows.specs.Rules.{beginning_of}

@@ -1,10 +1,5 @@
-use Rattle.std.proofs.Common.{Option, Some, sym, subst}
-use Rattle.std.specs.Prelude.{IfOk, MatchOption}
 use Rattle.taxi_base.specs.Walks.{conditions_among}
-use Rattle.walk_labels.specs.Requests.{Beginning}
-use Rattle.check_rows.specs.Rules.{beginning_of, CanCheck}
-use Rattle.check_walks.specs.Course.{way_of, beginning_for}
-use Rattle.check_walks.specs.Told.{IsVerdictOn}
+use Rattle.check_walks.specs.Course.{way_of}
 use Rattle.check_walks.proofs.TableLaws.{can-begin, arrival-verdict}
 use Rattle.check_walks.proofs.tables.check_table.Goals as goal
 

@@ -1,5 +1,4 @@
-use Rattle.std.proofs.Common.{◌≡◌, ◌∙◌, ◌-◌, length, get_or, sym, ap}
-use Rattle.taxi_base.specs.declared.rows.Step.{Step}
+use Rattle.std.proofs.Common.{◌∙◌, ◌-◌, length, get_or, sym, ap}
 use Rattle.taxi_base.specs.Airport.{Layout, layout_of, tail, head}
 use Rattle.held_spans.proofs.LoopLaws.{no_step}
 use Rattle.check_walks.proofs.EndLaws.{departs-is, departs-not}

@@ -1,9 +1,8 @@
-use Rattle.std.proofs.Common.{◌≡◌, ◌-◌, ◌+◌, ◌/◌, ◌≤◌, take, drop, length, arith, w32, FitsSigned, pos, ◌+ℤ◌, sym, ap, ◌∙◌}
+use Rattle.std.proofs.Common.{◌≡◌, ◌-◌, ◌+◌, ◌/◌, take, drop, length, arith, w32, FitsSigned, sym}
 use Rattle.std.proofs.lemmas.Int.{to_z-of_z}
 use Rattle.std.proofs.lemmas.List.{take_all, length-drop}
 use Rattle.jiff.proofs.SpanFacts.{signed_arith}
-use Rattle.jiff_core.specs.Date.{epoch_day}
-use Rattle.civil_times.proofs.LaterLaws.{IsLaterDate, later-date, later-text}
+use Rattle.civil_times.proofs.LaterLaws.{later-date, later-text}
 use Rattle.civil_times.proofs.start.Start.later.Goals as goal
 
 pub date_text-requires : goal.date_text-requires

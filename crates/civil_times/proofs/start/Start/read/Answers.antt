@@ -1,9 +1,7 @@
-use Rattle.std.proofs.Common.{◌≡◌, sym, ◌∙◌, arith, w32, FitsSigned, refl}
-use Rattle.std.specs.Prelude.{IsTrue, length}
+use Rattle.std.proofs.Common.{sym, ◌∙◌, arith, w32, FitsSigned, refl}
 use Rattle.std.proofs.lemmas.Int.{to_z-of_z}
 use Rattle.jiff.proofs.SpanFacts.{signed_arith}
-use Rattle.civil_times.specs.Later.{is_start}
-use Rattle.civil_times.proofs.StartLaws.{never-some, no-second, no-day, no-time, no-year, too-late, read-start}
+use Rattle.civil_times.proofs.StartLaws.{never-some, no-second, no-day, no-time, too-late, read-start}
 use Rattle.civil_times.proofs.start.Start.read.Goals as goal
 
 pub returns-in_err-second_of-clause-some : goal.returns-in_err-second_of-clause-some
