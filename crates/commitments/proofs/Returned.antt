@@ -1,7 +1,8 @@
--- The steps of one holder are given back one after the other: what is among the others still, what stays, and the room that is left.
-use Rattle.std.proofs.Common.{◌≡◌, ℕ, ◌+◌, ◌<◌, List, [], ◌∷◌, ◌++◌, length, map, get_or, take, drop, sym, ap, ◌∙◌, subst, arith}
+-- The steps of one holder are given back, some after the others: what is among the others still, what stays, and the room that is left.
+use Rattle.std.proofs.Common.{◌≡◌, ℕ, ◌+◌, ◌-◌, ◌≤◌, List, [], ◌++◌, map, take, drop, sym, ap, ◌∙◌, subst, arith}
 use Rattle.std.specs.Prelude.{All, count_by, IsTrue}
-use Rattle.std.proofs.lemmas.List.{take-append-drop, map-append, map_more}
+use Rattle.std.proofs.lemmas.List.{take-append-drop, map-append}
+use Rattle.std.proofs.Math.Seq.{take-add}
 use Rattle.taxi_base.specs.declared.numbers.Segment.{Segment}
 use Rattle.taxi_base.specs.declared.rows.Step.{Step}
 use Rattle.taxi_base.specs.Airport.{Airport, conflict}
@@ -17,20 +18,24 @@ use Rattle.commitments.specs.Held.{hold_by, clearance_after, steps_with, AreAsMa
 use Rattle.commitments.proofs.Arranged.{count-append}
 use Rattle.commitments.proofs.HoldRoom.{StandsFor-parted}
 
-module _ (holder : Holder) (steps : List Step) (k : ℕ) (d : Step) (low : k < length steps) where
-  abbrev this : Step
-  this = get_or steps k d
+module _ (holder : Holder) (steps : List Step) (k next : ℕ) (later : k ≤ next) where
+  -- those from a place on and before the next one
+  abbrev these : List Step
+  these = take (next - k) (drop k steps)
 
-  more : steps_with holder (take (k + 1) steps) ≡ steps_with holder (take k steps) ++ steps_with holder (this ∷ [])
-  more = map_more (λ step. record { step = step; holder = holder }) steps k d low
+  parted : take next steps ≡ take k steps ++ these
+  parted = let whole : k + (next - k) ≡ next = omega arith in subst (λ n. take n steps ≡ take k steps ++ these) whole (take-add k (next - k) steps)
 
-  all : steps_with holder steps ≡ steps_with holder (take (k + 1) steps) ++ steps_with holder (drop (k + 1) steps)
-  all = ap (steps_with holder) (sym (take-append-drop (k + 1) steps)) ∙ map-append (λ step. record { step = step; holder = holder }) (take (k + 1) steps) (drop (k + 1) steps)
+  more : steps_with holder (take next steps) ≡ steps_with holder (take k steps) ++ steps_with holder these
+  more = ap (steps_with holder) parted ∙ map-append (λ step. record { step = step; holder = holder }) (take k steps) these
 
-  -- the next of them is among what is held still
-  pub next-among : (old now : List HeldStep) → AreAmong (steps_with holder steps) old → AreAsMany old (now ++ steps_with holder (take k steps)) → AreAmong (steps_with holder (this ∷ [])) now
+  all : steps_with holder steps ≡ steps_with holder (take next steps) ++ steps_with holder (drop next steps)
+  all = ap (steps_with holder) (sym (take-append-drop next steps)) ∙ map-append (λ step. record { step = step; holder = holder }) (take next steps) (drop next steps)
+
+  -- the next of them are among what is held still
+  pub next-among : (old now : List HeldStep) → AreAmong (steps_with holder steps) old → AreAsMany old (now ++ steps_with holder (take k steps)) → AreAmong (steps_with holder these) now
   next-among old now among gone =
-      let rest = among.0 ++ steps_with holder (drop (k + 1) steps) in (
+      let rest = among.0 ++ steps_with holder (drop next steps) in (
         rest,
         λ p. omega (
           arith,
@@ -38,39 +43,39 @@ module _ (holder : Holder) (steps : List Step) (k : ℕ) (d : Step) (low : k < l
           gone p,
           count-append p among.0 (steps_with holder steps),
           count-append p now (steps_with holder (take k steps)),
-          count-append p among.0 (steps_with holder (drop (k + 1) steps)),
-          count-append p rest (steps_with holder (this ∷ [])),
+          count-append p among.0 (steps_with holder (drop next steps)),
+          count-append p rest (steps_with holder these),
           ap (count_by p) more,
-          count-append p (steps_with holder (take k steps)) (steps_with holder (this ∷ [])),
+          count-append p (steps_with holder (take k steps)) (steps_with holder these),
           ap (count_by p) all,
-          count-append p (steps_with holder (take (k + 1) steps)) (steps_with holder (drop (k + 1) steps)),
+          count-append p (steps_with holder (take next steps)) (steps_with holder (drop next steps)),
         ),
       )
 
-  -- and is gone then with those before
-  pub next-gone : (old now new : List HeldStep) → AreAsMany old (now ++ steps_with holder (take k steps)) → AreAsMany now (new ++ steps_with holder (this ∷ []))
-      → AreAsMany old (new ++ steps_with holder (take (k + 1) steps))
+  -- and are gone then with those before
+  pub next-gone : (old now new : List HeldStep) → AreAsMany old (now ++ steps_with holder (take k steps)) → AreAsMany now (new ++ steps_with holder these)
+      → AreAsMany old (new ++ steps_with holder (take next steps))
   next-gone old now new gone next p =
       omega (
         arith,
         gone p,
         next p,
         count-append p now (steps_with holder (take k steps)),
-        count-append p new (steps_with holder (this ∷ [])),
-        count-append p new (steps_with holder (take (k + 1) steps)),
+        count-append p new (steps_with holder these),
+        count-append p new (steps_with holder (take next steps)),
         ap (count_by p) more,
-        count-append p (steps_with holder (take k steps)) (steps_with holder (this ∷ [])),
+        count-append p (steps_with holder (take k steps)) (steps_with holder these),
       )
 
   -- a window that is clear of all of them stays
   pub windows-kept : (sets : List (List Segment)) (horizon clearance : ℕ) (old now new : Store) → KeepsNodes old now
-      → KeepsWindows IsClearOf sets (holds_of horizon clearance (take k steps)) old now → KeepsWindows IsClearOf sets (holds_of horizon clearance (this ∷ [])) now new
-      → KeepsWindows IsClearOf sets (holds_of horizon clearance (take (k + 1) steps)) old new
+      → KeepsWindows IsClearOf sets (holds_of horizon clearance (take k steps)) old now → KeepsWindows IsClearOf sets (holds_of horizon clearance these) now new
+      → KeepsWindows IsClearOf sets (holds_of horizon clearance (take next steps)) old new
   windows-kept sets horizon clearance old now new nodes before next s w low_s there against =
       let Against : Hold → Type 0 = λ h. IsTrue (conflict sets s h.segment) → IsClearOf w h.span in
-      let parts : All Against (holds_of horizon clearance (take k steps) ++ holds_of horizon clearance (this ∷ [])) = subst (All Against) (map_more (hold_of horizon clearance) steps k d low) against in
-      next s w (omega (arith, low_s, nodes.lists)) (before s w low_s there (All-front Against (holds_of horizon clearance (take k steps)) (holds_of horizon clearance (this ∷ [])) parts))
-      (All-back Against (holds_of horizon clearance (take k steps)) (holds_of horizon clearance (this ∷ [])) parts)
+      let parts : All Against (holds_of horizon clearance (take k steps) ++ holds_of horizon clearance these) = subst (All Against) (ap (holds_of horizon clearance) parted ∙ map-append (hold_of horizon clearance) (take k steps) these) against in
+      next s w (omega (arith, low_s, nodes.lists)) (before s w low_s there (All-front Against (holds_of horizon clearance (take k steps)) (holds_of horizon clearance these) parts))
+      (All-back Against (holds_of horizon clearance (take k steps)) (holds_of horizon clearance these) parts)
 
 -- none is given back at first
 pub none-gone : (holder : Holder) (old : List HeldStep) → AreAsMany old (old ++ steps_with holder [])

@@ -12,9 +12,11 @@ use crate::segment_holds::{Holder, clearance_after};
 use airport_file::Airport;
 use std::alloc::Global;
 use std::marker::Model;
-use std::slice;
 use taxi_base::{Memory, Name, Segment, Span, Step, Time};
 use window_store::{OtherHolds, WindowStore};
+
+// So many steps of a holder are taken out together.
+const AT_ONCE: usize = 32;
 
 /// The free windows of each segment, and the steps that leave them, by segment.
 #[derive(Drop)]
@@ -131,9 +133,12 @@ impl HeldSegments {
         ensures nodes { KeepsNodes self.old.store self.new.store }
         ensures steps { AreAsMany self.old.steps (self.new.steps ++ steps_with holder.now steps.now) }
     {
-        // Step by step, so that what the steps to come hold is found by its time, among what the others hold.
-        for step in steps {
-            self.release_at_once(airport, slice::from_ref(step), holder);
+        // Not all of many steps at once: those that are to come are found by their time then, among what the others hold.
+        let mut done = 0;
+        while done < steps.len() {
+            let next = done + AT_ONCE.min(steps.len() - done);
+            self.release_at_once(airport, &steps[done..next], holder);
+            done = next;
         }
     }
 

@@ -3,6 +3,7 @@ mod Releasing
 pub mod Standing
 pub mod Seconds
 pub mod Changes
+pub mod Staying
 pub mod Pieces
 pub mod Runs
 pub mod Rooms

@@ -4,5 +4,6 @@ pub mod Store
 pub mod Stands
 pub mod Kept
 pub mod Conflicting
+pub mod Stays
 pub mod Edits
 pub mod Rows

@@ -1,16 +1,17 @@
 //! Edits of the lists in conflict with the segments of steps.
-ghost use Rattle.std.specs.Prelude.{ℕ, ◌≡◌, ◌+◌, ◌/◌, ◌^◌, ◌<◌, ◌≤◌, List, ◌++◌, length, All, OnOk};
+ghost use Rattle.std.specs.Prelude.{ℕ, ◌≡◌, ◌+◌, ◌/◌, ◌^◌, ◌<◌, ◌≤◌, List, ◌++◌, length, All, IsTrue, OnOk};
 ghost use Rattle.taxi_base.specs.declared.numbers.Segment.{Segment as SegmentNumber};
-ghost use Rattle.taxi_base.specs.Airport.{segment_of};
+ghost use Rattle.taxi_base.specs.Airport.{conflict, segment_of};
 ghost use Rattle.taxi_base.specs.Windows.{Hold, hold_of, holds_of};
 ghost use Rattle.conflict_sets.specs.Conflicts.{AreConflicts};
 ghost use Rattle.window_store.specs.Store.{of_lists_and_ids, IsStore};
 ghost use Rattle.window_store.specs.Stands.{StandsFor, HasRoomFor, conflicting_steps, AreOnSegments, TakeTime, AreInTime};
-ghost use Rattle.window_store.specs.Conflicting.{spans_in_conflict};
-ghost use Rattle.window_store.specs.Edits.{of_lists, list_in, EachInConflict, ChangesConflicting, CanHold, IsHeld, CanRelease, IsReleased, IsRaised, HasRoom, AreHeld, AreReleased, AreRaised, GainsNodes};
+ghost use Rattle.window_store.specs.Stays.{step_at};
+ghost use Rattle.window_store.specs.Edits.{of_lists, list_in, EachInConflict, ChangesConflicting, CanHold, IsHeld, StandsForLeft, IsReleased, IsRaised, HasRoom, AreHeld, AreReleased, AreRaised, GainsNodes};
 
 use crate::held::OtherHolds;
 use crate::segment_windows::SegmentWindows;
+use crate::stays::{begins_stay, stay_from};
 use crate::still_held::StillHeld;
 use conflict_sets::Conflicts;
 use interval_list::Ids;
@@ -43,7 +44,7 @@ pub(crate) fn span_of(step: &Step, term: Term) -> Span
 
 // ---- holding
 
-/// Each list in conflict with a step is cut by what the step holds.
+/// Each list in conflict with a step is cut by what the step holds. What several steps hold of a segment without a gap is cut out at once.
 pub(crate) fn hold_steps(
     lists: &mut [SegmentWindows],
     conflicts: &Conflicts,
@@ -58,28 +59,59 @@ pub(crate) fn hold_steps(
     requires room { HasRoomFor conflicts.now.sets steps.now (of_lists lists.old) }
     ensures { AreHeld conflicts.now.sets term.horizon term.clearance steps.now lists.old lists.new }
 {
-    for step in steps {
-        hold_step(lists, conflicts, step, term);
+    for place in 0..steps.len() {
+        hold_step(lists, conflicts, steps, place, term);
     }
 }
 
-fn hold_step(lists: &mut [SegmentWindows], conflicts: &Conflicts, step: &Step, term: Term)
+fn hold_step(
+    lists: &mut [SegmentWindows],
+    conflicts: &Conflicts,
+    steps: &[Step],
+    place: usize,
+    term: Term,
+)
     requires segments { length lists.old ≡ conflicts.now.segments }
-    requires step { step.now.arc.0 / 2 < conflicts.now.segments }
-    requires time { step.now.enter < step.now.leave }
-    requires in_time { step.now.leave ≤ term.horizon }
-    requires can { EachInConflict conflicts.now.sets (segment_of step.now.arc) CanHold lists.old }
-    ensures { ChangesConflicting conflicts.now.sets (segment_of step.now.arc) (IsHeld (hold_of term.horizon term.clearance step.now).span) lists.old lists.new }
+    requires steps { AreOnSegments conflicts.now.segments steps.now }
+    requires place { place < length steps.now }
+    requires time { TakeTime steps.now }
+    requires in_time { AreInTime term.horizon steps.now }
+    requires can { EachInConflict conflicts.now.sets (segment_of (step_at steps.now place).arc) (CanHold conflicts.now.sets steps.now place) lists.old }
+    ensures { ChangesConflicting conflicts.now.sets (segment_of (step_at steps.now place).arc) (IsHeld conflicts.now.sets term.horizon term.clearance steps.now place) lists.old lists.new }
 {
-    for segment in segments_of(conflicts, step) {
-        lists[segment.0 as usize].hold(span_of(step, term));
+    for segment in segments_of(conflicts, &steps[place]) {
+        let list = &mut lists[segment.0 as usize];
+        hold_stay(list, conflicts, *segment, steps, place, term);
+    }
+}
+
+// A segment's list is cut by what the stay holds that begins at a step. Where none does that is done.
+fn hold_stay(
+    list: &mut SegmentWindows,
+    conflicts: &Conflicts,
+    segment: Segment,
+    steps: &[Step],
+    place: usize,
+    term: Term,
+)
+    requires exists { segment.0 < conflicts.now.segments }
+    requires place { place < length steps.now }
+    requires met { IsTrue (conflict conflicts.now.sets segment (segment_of (step_at steps.now place).arc)) }
+    requires time { TakeTime steps.now }
+    requires in_time { AreInTime term.horizon steps.now }
+    requires can { CanHold conflicts.now.sets steps.now place segment list.old }
+    ensures { IsHeld conflicts.now.sets term.horizon term.clearance steps.now place segment list.old list.new }
+{
+    if begins_stay(conflicts, segment, steps, place) {
+        let stay = stay_from(conflicts, segment, &steps[place..], term);
+        list.hold(stay.span, stay.steps);
     }
 }
 
 // ---- releasing
 
 /// Each list in conflict with a step gets back what the step held and nothing else does: neither a later step nor a
-/// route that remains.
+/// route that remains. What several steps held of a segment without a gap is given back at once.
 pub(crate) fn release_steps<R: OtherHolds>(
     lists: &mut [SegmentWindows],
     conflicts: &Conflicts,
@@ -94,8 +126,8 @@ pub(crate) fn release_steps<R: OtherHolds>(
     requires stands { StandsFor conflicts.now.sets term.horizon (R.holds remaining.now ++ holds_of term.horizon term.clearance steps.now) (of_lists lists.old) }
     ensures { AreReleased conflicts.now.sets term.horizon term.clearance (R.holds remaining.now) steps.now (length steps.now) lists.old lists.new }
 {
-    for (place, step) in steps.iter().enumerate() {
-        release_step(lists, conflicts, remaining, step, &steps[place + 1..], term);
+    for place in 0..steps.len() {
+        release_step(lists, conflicts, remaining, steps, place, term);
     }
 }
 
@@ -103,26 +135,53 @@ fn release_step<R: OtherHolds>(
     lists: &mut [SegmentWindows],
     conflicts: &Conflicts,
     remaining: &R,
-    step: &Step,
-    later: &[Step],
+    steps: &[Step],
+    place: usize,
     term: Term,
 )
     requires segments { length lists.old ≡ conflicts.now.segments }
-    requires step { step.now.arc.0 / 2 < conflicts.now.segments }
-    requires time { step.now.enter < step.now.leave }
-    requires in_time { step.now.leave ≤ term.horizon }
-    requires can { EachInConflict conflicts.now.sets (segment_of step.now.arc) (CanRelease (hold_of term.horizon term.clearance step.now).span (λ s. spans_in_conflict conflicts.now.sets s (R.holds remaining.now ++ holds_of term.horizon term.clearance later.now))) lists.old }
-    ensures { ChangesConflicting conflicts.now.sets (segment_of step.now.arc) (IsReleased (hold_of term.horizon term.clearance step.now).span (λ s. spans_in_conflict conflicts.now.sets s (R.holds remaining.now ++ holds_of term.horizon term.clearance later.now))) lists.old lists.new }
+    requires steps { AreOnSegments conflicts.now.segments steps.now }
+    requires place { place < length steps.now }
+    requires time { TakeTime steps.now }
+    requires in_time { AreInTime term.horizon steps.now }
+    requires stands { EachInConflict conflicts.now.sets (segment_of (step_at steps.now place).arc) (StandsForLeft conflicts.now.sets term.horizon term.clearance steps.now place (R.holds remaining.now)) lists.old }
+    ensures { ChangesConflicting conflicts.now.sets (segment_of (step_at steps.now place).arc) (IsReleased conflicts.now.sets term.horizon term.clearance (R.holds remaining.now) steps.now place) lists.old lists.new }
 {
-    for segment in segments_of(conflicts, step) {
+    for segment in segments_of(conflicts, &steps[place]) {
+        let list = &mut lists[segment.0 as usize];
+        release_stay(list, conflicts, *segment, remaining, steps, place, term);
+    }
+}
+
+// A segment's list gets back what only the stay held that begins at a step. Where none does that is done.
+fn release_stay<R: OtherHolds>(
+    list: &mut SegmentWindows,
+    conflicts: &Conflicts,
+    segment: Segment,
+    remaining: &R,
+    steps: &[Step],
+    place: usize,
+    term: Term,
+)
+    requires exists { segment.0 < conflicts.now.segments }
+    requires place { place < length steps.now }
+    requires met { IsTrue (conflict conflicts.now.sets segment (segment_of (step_at steps.now place).arc)) }
+    requires time { TakeTime steps.now }
+    requires in_time { AreInTime term.horizon steps.now }
+    requires stands { StandsForLeft conflicts.now.sets term.horizon term.clearance steps.now place (R.holds remaining.now) segment list.old }
+    ensures { IsReleased conflicts.now.sets term.horizon term.clearance (R.holds remaining.now) steps.now place segment list.old list.new }
+{
+    if begins_stay(conflicts, segment, steps, place) {
+        let left = &steps[place..];
+        let stay = stay_from(conflicts, segment, left, term);
         let others = StillHeld {
             conflicts,
-            segment: *segment,
+            segment,
             remaining,
-            later,
+            later: &left[stay.steps..],
             term,
         };
-        lists[segment.0 as usize].release(span_of(step, term), &others);
+        list.release(stay.span, stay.steps, &others);
     }
 }
 

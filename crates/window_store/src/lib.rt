@@ -6,6 +6,7 @@ mod held;
 mod laws;
 mod row;
 mod segment_windows;
+mod stays;
 mod still_held;
 mod store;
 

@@ -4,6 +4,7 @@ ghost use Rattle.taxi_base.specs.declared.rows.Span.{Span as Plain};
 ghost use Rattle.taxi_base.specs.Windows.{AreWindows};
 ghost use Rattle.interval_list.specs.Intervals.{spans_of, owned, drawn, IsNormal, OwnsSame, KeepsUnmet, KeepsUntouched};
 ghost use Rattle.window_store.specs.Spans.{Listed, nodes, is_unheld, StandsForSpans};
+ghost use Rattle.window_store.specs.Stays.{HaveSecondsOf};
 
 use crate::held::HeldSeconds;
 use crate::row::{copy_row, follow, follow_back};
@@ -138,33 +139,35 @@ impl SegmentWindows {
         self.held -= 1;
     }
 
-    /// Holds the segment for one more span. It needs no memory.
-    pub(crate) fn hold(&mut self, span: Span)
+    /// Holds the segment for so many more spans, which have the seconds of one. It needs no memory.
+    pub(crate) fn hold(&mut self, span: Span, number: usize)
         requires some { span.from < span.until }
+        requires number { 1 ≤ number }
         requires stands { (horizon : ℕ) × (spans : List Plain) × StandsForSpans horizon spans self.old }
-        requires room { 2 + self.old.held ≤ nodes self.old }
-        ensures stands { (horizon : ℕ) (spans : List Plain) → StandsForSpans horizon spans self.old → StandsForSpans horizon (span ∷ spans) self.new }
+        requires room { 1 + self.old.held + number ≤ nodes self.old }
+        ensures stands { (horizon : ℕ) (own spans : List Plain) → HaveSecondsOf span own → length own ≡ number → StandsForSpans horizon spans self.old → StandsForSpans horizon (own ++ spans) self.new }
         ensures kept { KeepsUnmet span self.old.intervals.windows self.new.intervals.windows }
         ensures ids { OwnsSame self.old.intervals self.new.intervals }
         ensures nodes { nodes self.new ≡ nodes self.old }
     {
         self.intervals.subtract(span.from, span.until);
         follow(&mut self.row, span, &self.intervals);
-        self.held += 1;
+        self.held += number;
     }
 
-    /// No longer holds the segment for a span, while others hold it for theirs. Only what no other span has becomes free.
-    /// It needs no memory.
-    pub(crate) fn release<H: HeldSeconds>(&mut self, span: Span, others: &H)
+    /// No longer holds the segment for so many spans, which have the seconds of one, while others hold it for theirs. Only what no other
+    /// span has becomes free. It needs no memory.
+    pub(crate) fn release<H: HeldSeconds>(&mut self, span: Span, number: usize, others: &H)
         requires some { span.from < span.until }
-        requires stands { (horizon : ℕ) × (span.until ≤ horizon) × StandsForSpans horizon (span ∷ H.spans others.now) self.old }
-        ensures stands { (horizon : ℕ) → span.until ≤ horizon → StandsForSpans horizon (span ∷ H.spans others.now) self.old → StandsForSpans horizon (H.spans others.now) self.new }
+        requires number { 1 ≤ number }
+        requires stands { (horizon : ℕ) × (own : List Plain) × (span.until ≤ horizon) × HaveSecondsOf span own × (length own ≡ number) × StandsForSpans horizon (own ++ H.spans others.now) self.old }
+        ensures stands { (horizon : ℕ) (own : List Plain) → span.until ≤ horizon → HaveSecondsOf span own → length own ≡ number → StandsForSpans horizon (own ++ H.spans others.now) self.old → StandsForSpans horizon (H.spans others.now) self.new }
         ensures kept { KeepsUntouched span self.old.intervals.windows self.new.intervals.windows }
         ensures ids { OwnsSame self.old.intervals self.new.intervals }
         ensures nodes { nodes self.new ≡ nodes self.old }
     {
         give_back_unheld(&mut self.intervals, &mut self.row, span, others);
-        self.held -= 1;
+        self.held -= number;
     }
 }
 

@@ -1,45 +1,44 @@
-use Rattle.std.proofs.Common.{◌++◌, List, get_or, subst, arith}
+use Rattle.std.proofs.Common.{get_or, subst}
 use Rattle.taxi_base.specs.declared.numbers.Segment.{Segment}
-use Rattle.taxi_base.specs.declared.rows.Span.{Span}
 use Rattle.taxi_base.specs.Airport.{segment_of}
-use Rattle.taxi_base.specs.Windows.{hold_of, holds_of}
+use Rattle.taxi_base.proofs.HoldLaws.{conflict-turned}
 use Rattle.window_store.specs.Spans.{Listed}
-use Rattle.window_store.specs.Conflicting.{spans_in_conflict}
-use Rattle.window_store.specs.Edits.{list_in, IsReleased}
+use Rattle.window_store.specs.Edits.{IsReleased}
 use Rattle.window_store.proofs.Changes.{next, changes-none, changes-more, changes-all}
+use Rattle.window_store.proofs.Staying.{none}
 use Rattle.window_store.proofs.edits.release_step.Goals as goal
 
-abbrev none : Segment
-none = record { 0 = 0 }
+abbrev no_segment : Segment
+no_segment = record { 0 = 0 }
 
 pub loop-segment-init : goal.loop-segment-init
-loop-segment-init g c = changes-none (IsReleased (hold_of c.args.term.horizon c.args.term.clearance c.args.step.now).span (λ s. spans_in_conflict c.args.conflicts.now.sets s (g.R.OtherHolds.holds c.args.remaining.now ++ holds_of c.args.term.horizon c.args.term.clearance c.args.later.now))) c.args.lists.now
+loop-segment-init g c = changes-none (IsReleased c.args.conflicts.now.sets c.args.term.horizon c.args.term.clearance (g.R.OtherHolds.holds c.args.remaining.now) c.args.steps.now c.args.place) c.args.lists.now
 
-pub release-requires-clause-some : goal.release-requires-clause-some
-release-requires-clause-some g c = rw c.span_of.ensures (omega (arith, c.requires.time, c.requires.in_time))
-
-pub release-requires-clause-stands : goal.release-requires-clause-stands
-release-requires-clause-stands g c =
-    let at = next (IsReleased (hold_of c.args.term.horizon c.args.term.clearance c.args.step.now).span (λ s. spans_in_conflict c.args.conflicts.now.sets s (g.R.OtherHolds.holds c.args.remaining.now ++ holds_of c.args.term.horizon c.args.term.clearance c.args.later.now))) c.args.conflicts.now.sets (segment_of c.args.step.now.arc) c.segments_of-segment-items.result.now c.loop-segment.segment-index c.args.conflicts.now.segments none
+pub release_stay-requires-clause-met : goal.release_stay-requires-clause-met
+release_stay-requires-clause-met g c =
+    let at = next (IsReleased c.args.conflicts.now.sets c.args.term.horizon c.args.term.clearance (g.R.OtherHolds.holds c.args.remaining.now) c.args.steps.now c.args.place) c.args.conflicts.now.sets (segment_of (get_or c.args.steps.now c.args.place none).arc) c.segments_of-segment-items.result.now c.loop-segment.segment-index c.args.conflicts.now.segments no_segment
     c.args.lists.now c.loop-segment.lists c.index-lists-segment.result c.segments_of-segment-items.ensures.all c.segments_of-segment-items.ensures.exist c.requires.segments
     c.loop-segment-test.true c.loop-segment.invariant in
-    rw (at.same, c.span_of.ensures) (c.requires.can _ at.exists at.met).stands
+    conflict-turned c.args.conflicts.now.sets (segment_of (get_or c.args.steps.now c.args.place none).arc) _ at.met
+
+pub release_stay-requires-clause-stands : goal.release_stay-requires-clause-stands
+release_stay-requires-clause-stands g c =
+    let at = next (IsReleased c.args.conflicts.now.sets c.args.term.horizon c.args.term.clearance (g.R.OtherHolds.holds c.args.remaining.now) c.args.steps.now c.args.place) c.args.conflicts.now.sets (segment_of (get_or c.args.steps.now c.args.place none).arc) c.segments_of-segment-items.result.now c.loop-segment.segment-index c.args.conflicts.now.segments no_segment
+    c.args.lists.now c.loop-segment.lists c.index-lists-segment.result c.segments_of-segment-items.ensures.all c.segments_of-segment-items.ensures.exist c.requires.segments
+    c.loop-segment-test.true c.loop-segment.invariant in
+    rw at.same (c.requires.stands _ at.exists at.met)
 
 pub loop-segment-preserved : goal.loop-segment-preserved
 loop-segment-preserved g c =
-    let at = next (IsReleased (hold_of c.args.term.horizon c.args.term.clearance c.args.step.now).span (λ s. spans_in_conflict c.args.conflicts.now.sets s (g.R.OtherHolds.holds c.args.remaining.now ++ holds_of c.args.term.horizon c.args.term.clearance c.args.later.now))) c.args.conflicts.now.sets (segment_of c.args.step.now.arc) c.segments_of-segment-items.result.now c.loop-segment.segment-index c.args.conflicts.now.segments none
+    let at = next (IsReleased c.args.conflicts.now.sets c.args.term.horizon c.args.term.clearance (g.R.OtherHolds.holds c.args.remaining.now) c.args.steps.now c.args.place) c.args.conflicts.now.sets (segment_of (get_or c.args.steps.now c.args.place none).arc) c.segments_of-segment-items.result.now c.loop-segment.segment-index c.args.conflicts.now.segments no_segment
     c.args.lists.now c.loop-segment.lists c.index-lists-segment.result c.segments_of-segment-items.ensures.all c.segments_of-segment-items.ensures.exist c.requires.segments
     c.loop-segment-test.true c.loop-segment.invariant in
-    let s : Segment = get_or c.segments_of-segment-items.result.now c.loop-segment.segment-index none in
-    let others : Segment → List Span = (λ s. spans_in_conflict c.args.conflicts.now.sets s (g.R.OtherHolds.holds c.args.remaining.now ++ holds_of c.args.term.horizon c.args.term.clearance c.args.later.now)) in
-    let released : IsReleased c.span_of.result others s (get_or c.loop-segment.lists s.0 c.index-lists-segment.result) c.release.new.self =
-    record { stands = c.release.ensures.stands; kept = c.release.ensures.kept; owned = record { ids = c.release.ensures.ids; nodes = c.release.ensures.nodes } } in
-    changes-more (IsReleased (hold_of c.args.term.horizon c.args.term.clearance c.args.step.now).span (λ s. spans_in_conflict c.args.conflicts.now.sets s (g.R.OtherHolds.holds c.args.remaining.now ++ holds_of c.args.term.horizon c.args.term.clearance c.args.later.now))) c.segments_of-segment-items.result.now c.loop-segment.segment-index none c.args.lists.now c.loop-segment.lists c.release.new.self
+    let s : Segment = get_or c.segments_of-segment-items.result.now c.loop-segment.segment-index no_segment in
+    changes-more (IsReleased c.args.conflicts.now.sets c.args.term.horizon c.args.term.clearance (g.R.OtherHolds.holds c.args.remaining.now) c.args.steps.now c.args.place) c.segments_of-segment-items.result.now c.loop-segment.segment-index no_segment c.args.lists.now c.loop-segment.lists c.release_stay.new.list
     c.segments_of-segment-items.ensures.all.rising c.loop-segment-test.true at.exists c.loop-segment.invariant
-    (subst (λ (span : Span). IsReleased span others s (list_in c.args.lists.now s) c.release.new.self) c.span_of.ensures
-    (subst (λ (l : Listed). IsReleased c.span_of.result others s l c.release.new.self) at.same released))
+    (subst (λ (l : Listed). IsReleased c.args.conflicts.now.sets c.args.term.horizon c.args.term.clearance (g.R.OtherHolds.holds c.args.remaining.now) c.args.steps.now c.args.place s l c.release_stay.new.list) at.same c.release_stay.ensures)
 
 pub returns : goal.returns
 returns g c =
-    changes-all (IsReleased (hold_of c.args.term.horizon c.args.term.clearance c.args.step.now).span (λ s. spans_in_conflict c.args.conflicts.now.sets s (g.R.OtherHolds.holds c.args.remaining.now ++ holds_of c.args.term.horizon c.args.term.clearance c.args.later.now))) c.args.conflicts.now.sets (segment_of c.args.step.now.arc) c.segments_of-segment-items.result.now c.loop-segment.segment-index c.args.lists.now c.loop-segment.lists
+    changes-all (IsReleased c.args.conflicts.now.sets c.args.term.horizon c.args.term.clearance (g.R.OtherHolds.holds c.args.remaining.now) c.args.steps.now c.args.place) c.args.conflicts.now.sets (segment_of (get_or c.args.steps.now c.args.place none).arc) c.segments_of-segment-items.result.now c.loop-segment.segment-index c.args.lists.now c.loop-segment.lists
     c.segments_of-segment-items.ensures.all c.loop-segment-test.false c.loop-segment.invariant

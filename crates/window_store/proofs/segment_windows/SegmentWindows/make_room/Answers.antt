@@ -1,5 +1,5 @@
 -- Each turn draws the next node, and the ids that are drawn are those from the first one on.
-use Rattle.std.proofs.Common.{ℕ, ◌≡◌, ◌+◌, ◌-◌, ◌<◌, ◌∷◌, ◌++◌, List, length, sym, ap, ◌∙◌, arith}
+use Rattle.std.proofs.Common.{ℕ, ◌-◌, ◌<◌, ◌∷◌, ◌++◌, List, length, sym, ap, ◌∙◌, arith}
 use Rattle.interval_list.specs.Intervals.{drawn}
 use Rattle.interval_list.proofs.Owning.{drawn-more}
 use Rattle.window_store.specs.Spans.{Listed, nodes}

@@ -1,4 +1,4 @@
-use Rattle.std.proofs.Common.{◌≡◌, ◌+◌, ◌-◌, ◌<◌, ◌≤◌, max, ◌++◌, length}
+use Rattle.std.proofs.Common.{◌≡◌, ◌+◌, ◌-◌, ◌<◌, ◌≤◌, max, ◌++◌}
 use Rattle.std.specs.Prelude.{All}
 use Rattle.interval_list.specs.Intervals.{owned, drawn}
 use Rattle.window_store.specs.Spans.{nodes}
