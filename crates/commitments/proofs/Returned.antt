@@ -1,5 +1,5 @@
 -- The steps of one holder are given back, some after the others: what is among the others still, what stays, and the room that is left.
-use Rattle.std.proofs.Common.{◌≡◌, ℕ, ◌+◌, ◌-◌, ◌≤◌, List, [], ◌++◌, map, take, drop, sym, ap, ◌∙◌, subst, arith}
+use Rattle.std.proofs.Common.{◌≡◌, ℕ, ◌+◌, ◌-◌, ◌<◌, ◌≤◌, List, [], ◌++◌, length, map, take, drop, sym, ap, ◌∙◌, subst, arith}
 use Rattle.std.specs.Prelude.{All, count_by, IsTrue}
 use Rattle.std.proofs.lemmas.List.{take-append-drop, map-append}
 use Rattle.std.proofs.Math.Seq.{take-add}
@@ -55,11 +55,11 @@ module _ (holder : Holder) (steps : List Step) (k next : ℕ) (later : k ≤ nex
   -- and are gone then with those before
   pub next-gone : (old now new : List HeldStep) → AreAsMany old (now ++ steps_with holder (take k steps)) → AreAsMany now (new ++ steps_with holder these)
       → AreAsMany old (new ++ steps_with holder (take next steps))
-  next-gone old now new gone next p =
+  next-gone old now new gone these-gone p =
       omega (
         arith,
         gone p,
-        next p,
+        these-gone p,
         count-append p now (steps_with holder (take k steps)),
         count-append p new (steps_with holder these),
         count-append p new (steps_with holder (take next steps)),

@@ -1,9 +1,9 @@
 -- What a run of steps makes of all lists, as one step more is gone through.
-use Rattle.std.proofs.Common.{◌≡◌, ℕ, ◌+◌, ◌^◌, ◌<◌, ◌≤◌, List, [], ◌∷◌, ◌++◌, length, get_or, take, drop, cond, inl, inr, IsTrue, IsFalse, refl, sym, ◌∙◌, ap, subst, arith}
+use Rattle.std.proofs.Common.{◌≡◌, ℕ, ◌+◌, ◌^◌, ◌<◌, ◌≤◌, List, [], ◌∷◌, ◌++◌, length, get_or, take, drop, inl, inr, IsTrue, IsFalse, refl, sym, ◌∙◌, ap, subst, arith}
 use Rattle.std.specs.Prelude.{Contains, All}
 use Rattle.std.proofs.lemmas.Bool.{cases_Bool, both_ways, false_from_ne_true}
-use Rattle.std.proofs.lemmas.List.{append-nil, append_assoc, map_more, drop_more, take_all, drop_all, length-take}
-use Rattle.std.proofs.lemmas.List.Sums.{sum_by-take-drop}
+use Rattle.std.proofs.lemmas.List.{append-nil, append_assoc, map-append, drop_more, take_all, drop_all, length-take}
+use Rattle.std.proofs.lemmas.List.Elements.{All-contains, Contains-push}
 use Rattle.taxi_base.specs.declared.numbers.Segment.{Segment}
 use Rattle.taxi_base.specs.declared.rows.Span.{Span}
 use Rattle.taxi_base.specs.declared.rows.Step.{Step}
@@ -11,14 +11,15 @@ use Rattle.taxi_base.specs.Airport.{conflict, segment_of}
 use Rattle.taxi_base.specs.Windows.{Hold, hold_of, holds_of}
 use Rattle.taxi_base.proofs.HoldLaws.{conflict-turned}
 use Rattle.interval_list.specs.declared.window.Window.{Window}
-use Rattle.window_store.specs.Spans.{Listed}
+use Rattle.window_store.specs.Spans.{Listed, StandsForSpans}
 use Rattle.window_store.specs.Store.{no_list}
 use Rattle.window_store.specs.Stands.{conflicting_steps, ListStandsFor, StandsFor, HasRoomFor}
 use Rattle.window_store.specs.Kept.{IsApartFrom, IsClearOf, KeepsWindows}
 use Rattle.window_store.specs.Conflicting.{spans_in_conflict}
-use Rattle.window_store.specs.Edits.{of_lists, list_in, ChangesConflicting, EachInConflict, KeepsOwned, StandsForDone, StandsForLeft, KeepsPlaced, CanHold, IsHeld, IsReleased, IsRaised, AllKeepOwned, AreHeld, AreReleased, AreRaised}
+use Rattle.window_store.specs.Edits.{of_lists, list_in, ChangesConflicting, EachInConflict, KeepsOwned, StandsForLeft, KeepsClear, CanHold, IsHeld, IsReleased, IsRaised, AllKeepOwned, AreHeld, AreReleased, AreRaised}
 use Rattle.window_store.specs.Stays.{done_by}
-use Rattle.window_store.proofs.Standing.{list-spans, list-without, list-with, conflicting-append, conflicting-steps, steps-push, conflicting-part, conflicting-le}
+use Rattle.window_store.proofs.Standing.{in_conflict, list-spans, spans-list, list-moved_back, list-without, list-with, conflicting-append, conflicting-steps, steps-push, conflicting-part, conflicting-le}
+use Rattle.window_store.proofs.Pieces.{All-front}
 use Rattle.window_store.proofs.Staying.{none, done-apart, done-past, windows-wide}
 
 -- ---- ids and nodes
@@ -38,12 +39,98 @@ AllKeepOwned-more old mid new owned as_many each = record {
 KeepsOwned-same : (old new : Listed) → new ≡ old → KeepsOwned old new
 KeepsOwned-same old new same = subst (λ (l : Listed). KeepsOwned old l) (sym same) (record { ids = λ id. refl; nodes = refl })
 
--- the windows that an edit of the lists in conflict with a step keeps
-module _ (sets : List (List Segment)) (Placed : Window → Span → Type 0) (Changed : Segment → Listed → Listed → Type 0) (holds : List Hold) (segment : Segment) (old mid new : List Listed) where
-  KeepsWindows-more : ((s : Segment) (a b : Listed) → Changed s a b → KeepsPlaced Placed sets holds s a b) → ((s : Segment) (w : Window) → s.0 < length mid → Contains (list_in mid s).intervals.windows w → w.from < w.until)
-      → length mid ≡ length old → KeepsWindows Placed sets holds (of_lists old) (of_lists mid) → ChangesConflicting sets segment Changed mid new
-      → KeepsWindows Placed sets holds (of_lists old) (of_lists new)
-  KeepsWindows-more keeps wide as_many before changes s w low there against =
+-- The windows that an edit of the lists in conflict keeps: those so placed against the step and against the steps before.
+module _ (sets : List (List Segment)) (Placed : Window → Span → Type 0) (Changed : Segment → Listed → Listed → Type 0) where
+  KeepsWindows-more : (holds : List Hold) (h : Hold) (old mid new : List Listed)
+      → ((s : Segment) (a b : Listed) (w : Window) → Changed s a b → Contains a.intervals.windows w → Placed w h.span → Contains b.intervals.windows w)
+      → length mid ≡ length old → KeepsWindows Placed sets holds (of_lists old) (of_lists mid) → ChangesConflicting sets h.segment Changed mid new
+      → KeepsWindows Placed sets (holds ++ h ∷ []) (of_lists old) (of_lists new)
+  KeepsWindows-more holds h old mid new keeps as_many before changes s w low there against =
+      let Against : Hold → Type 0 = λ g. IsTrue (conflict sets s g.segment) → Placed w g.span in
+      let first = before s w low there (All-front Against holds (h ∷ []) against) in
+      elim (cases_Bool (conflict sets h.segment s)) [
+        | inl met ↦ keeps s (list_in mid s) (list_in new s) w (changes.changed s (omega (arith, low, as_many)) met) first
+            (All-contains Against (holds ++ h ∷ []) h against (Contains-push holds h) (conflict-turned sets h.segment s met))
+        | inr apart ↦ subst (λ (l : Listed). Contains l.intervals.windows w) (sym (changes.others s (λ met. both_ways _ apart met))) first
+      ]
+
+-- ---- holding
+
+pub AreHeld-none : (horizon clearance : ℕ) (sets : List (List Segment)) (lists : List Listed) → AreHeld sets horizon clearance [] lists lists
+AreHeld-none horizon clearance sets lists = record {
+  stands = λ holds st. rw (append-nil holds) st;
+  kept = λ s w low there against. there;
+  owned = AllKeepOwned-none lists;
+}
+
+-- a step behind the others
+holds-more : (horizon clearance : ℕ) (holds : List Hold) (before : List Step) (step : Step) → holds ++ holds_of horizon clearance (before ++ step ∷ []) ≡ (holds ++ holds_of horizon clearance before) ++ hold_of horizon clearance step ∷ []
+holds-more horizon clearance holds before step =
+    ap (λ (more : List Hold). holds ++ more) (map-append (hold_of horizon clearance) before (step ∷ [])) ∙ sym (append_assoc holds (holds_of horizon clearance before) (hold_of horizon clearance step ∷ []))
+
+module _ (horizon clearance : ℕ) (sets : List (List Segment)) (before : List Step) (step : Step) (old mid new : List Listed) where
+  held-stands : AreHeld sets horizon clearance before old mid → ChangesConflicting sets (segment_of step.arc) (IsHeld (hold_of horizon clearance step).span) mid new
+      → (holds : List Hold) → StandsFor sets horizon holds (of_lists old) → StandsFor sets horizon (holds ++ holds_of horizon clearance (before ++ step ∷ [])) (of_lists new)
+  held-stands held changes holds st s low =
+      let h : Hold = hold_of horizon clearance step in
+      let all : List Hold = holds ++ holds_of horizon clearance before in
+      let exists : s.0 < length mid = omega (arith, low, changes.as_many) in
+      let first : ListStandsFor sets horizon all s (list_in mid s) = held.stands holds st s exists in
+      rw (holds-more horizon clearance holds before step) (elim (cases_Bool (conflict sets (segment_of step.arc) s)) [
+        | inl met ↦
+            let spans : StandsForSpans horizon (h.span ∷ spans_in_conflict sets s all) (list_in new s) =
+            (changes.changed s exists met).stands horizon (spans_in_conflict sets s all) (list-spans sets horizon all s (list_in mid s) first) in
+            let front : ListStandsFor sets horizon (h ∷ all) s (list_in new s) =
+            spans-list sets horizon (h ∷ all) s (list_in new s) (rw (in_conflict sets s h all (conflict-turned sets (segment_of step.arc) s met)) spans) in
+            list-moved_back sets s all h [] horizon (list_in new s) (rw (append-nil all) front)
+        | inr apart ↦
+            let other : IsFalse (conflict sets s h.segment) = false_from_ne_true _ (λ met. both_ways _ apart (conflict-turned sets s (segment_of step.arc) met)) in
+            let same : list_in new s ≡ list_in mid s = changes.others s (λ met. both_ways _ apart met) in
+            subst (λ (l : Listed). ListStandsFor sets horizon (all ++ h ∷ []) s l) (sym same)
+            (list-with sets s all h [] horizon (list_in mid s) other (rw (append-nil all) first))
+      ])
+
+  pub AreHeld-more : AreHeld sets horizon clearance before old mid → ChangesConflicting sets (segment_of step.arc) (IsHeld (hold_of horizon clearance step).span) mid new → AreHeld sets horizon clearance (before ++ step ∷ []) old new
+  AreHeld-more held changes = record {
+    stands = held-stands held changes;
+    kept = rw (map-append (hold_of horizon clearance) before (step ∷ [])) (KeepsWindows-more sets IsApartFrom (IsHeld (hold_of horizon clearance step).span) (holds_of horizon clearance before) (hold_of horizon clearance step) old mid new
+        (λ s a b w is there apart. is.kept w there apart) held.owned.as_many held.kept changes);
+    owned = AllKeepOwned-more old mid new held.owned changes.as_many (λ s low. elim (cases_Bool (conflict sets (segment_of step.arc) s)) [
+      | inl met ↦ (changes.changed s low met).owned
+      | inr apart ↦ KeepsOwned-same (list_in mid s) (list_in new s) (changes.others s (λ met. both_ways _ apart met))
+    ]);
+  }
+
+-- a list in conflict with the next step can hold it
+pub can_hold : (horizon clearance : ℕ) (sets : List (List Segment)) (steps : List Step) (k : ℕ) (d : Step) (old mid : List Listed) → (holds : List Hold) × StandsFor sets horizon holds (of_lists old)
+    → HasRoomFor sets steps (of_lists old) → AreHeld sets horizon clearance (take k steps) old mid → k < length steps → EachInConflict sets (segment_of (get_or steps k d).arc) CanHold mid
+can_hold horizon clearance sets steps k d old mid some room held low s exists met =
+    let holds = some.0 in
+    let in_old : s.0 < length old = omega (arith, exists, held.owned.as_many) in
+    let was : ListStandsFor sets horizon holds s (list_in old s) = some.1 s in_old in
+    let first : ListStandsFor sets horizon (holds ++ holds_of horizon clearance (take k steps)) s (list_in mid s) = held.stands holds some.1 s exists in
+    record {
+      stands = (horizon, spans_in_conflict sets s (holds ++ holds_of horizon clearance (take k steps)), list-spans sets horizon (holds ++ holds_of horizon clearance (take k steps)) s (list_in mid s) first);
+      room = omega (
+        arith,
+        was.number,
+        first.number,
+        conflicting-append sets s holds (holds_of horizon clearance (take k steps)),
+        conflicting-steps horizon clearance sets s (take k steps),
+        room s in_old,
+        (held.owned.each s in_old).nodes,
+        conflicting-part sets s steps k d low (conflict-turned sets (segment_of (get_or steps k d).arc) s met),
+      );
+    }
+
+-- ---- releasing
+
+-- the windows that a release of the lists in conflict with a step keeps
+module _ (sets : List (List Segment)) (Changed : Segment → Listed → Listed → Type 0) (holds : List Hold) (segment : Segment) (old mid new : List Listed) where
+  KeepsWindows-clear : ((s : Segment) (a b : Listed) → Changed s a b → KeepsClear sets holds s a b) → ((s : Segment) (w : Window) → s.0 < length mid → Contains (list_in mid s).intervals.windows w → w.from < w.until)
+      → length mid ≡ length old → KeepsWindows IsClearOf sets holds (of_lists old) (of_lists mid) → ChangesConflicting sets segment Changed mid new
+      → KeepsWindows IsClearOf sets holds (of_lists old) (of_lists new)
+  KeepsWindows-clear keeps wide as_many before changes s w low there against =
       let first = before s w low there against in
       let exists : s.0 < length mid = omega (arith, low, as_many) in
       elim (cases_Bool (conflict sets segment s)) [
@@ -61,87 +148,6 @@ module _ (sets : List (List Segment)) (Placed : Window → Span → Type 0) (Cha
 module _ (sets : List (List Segment)) (segment s : Segment) (apart : IsFalse (conflict sets segment s)) where
   turned-apart : IsFalse (conflict sets s segment)
   turned-apart = false_from_ne_true _ (λ met. both_ways _ apart (conflict-turned sets s segment met))
-
--- ---- holding
-
--- the first steps are held, and what goes on with them
-pub record HeldSoFar (sets : List (List Segment)) (horizon clearance : ℕ) (steps : List Step) (k : ℕ) (old new : List Listed) : Type 0 where
-  pub stands : (holds : List Hold) → StandsFor sets horizon holds (of_lists old) → (s : Segment) → s.0 < length new → StandsForDone sets horizon clearance steps k holds s (list_in new s)
-  pub kept : KeepsWindows IsApartFrom sets (holds_of horizon clearance steps) (of_lists old) (of_lists new)
-  pub owned : AllKeepOwned old new
-
-module _ (horizon clearance : ℕ) (sets : List (List Segment)) (steps : List Step) where
-  pub HeldSoFar-none : (lists : List Listed) → HeldSoFar sets horizon clearance steps 0 lists lists
-  HeldSoFar-none lists = record {
-    stands = λ holds st s low. rw (append-nil holds) (st s low);
-    kept = λ s w low there against. there;
-    owned = AllKeepOwned-none lists;
-  }
-
-  module _ (k : ℕ) (low : k < length steps) (old mid new : List Listed) (some : (holds : List Hold) × StandsFor sets horizon holds (of_lists old)) (held : HeldSoFar sets horizon clearance steps k old mid) where
-    abbrev this : Step
-    this = get_or steps k none
-
-    held-stands : ChangesConflicting sets (segment_of this.arc) (IsHeld sets horizon clearance steps k) mid new
-        → (holds : List Hold) → StandsFor sets horizon holds (of_lists old) → (s : Segment) → s.0 < length new → StandsForDone sets horizon clearance steps (k + 1) holds s (list_in new s)
-    held-stands changes holds st s exists =
-        let in_mid : s.0 < length mid = omega (arith, exists, changes.as_many) in
-        let first : StandsForDone sets horizon clearance steps k holds s (list_in mid s) = held.stands holds st s in_mid in
-        elim (cases_Bool (conflict sets (segment_of this.arc) s)) [
-          | inl met ↦ (changes.changed s in_mid met).stands holds first
-          | inr apart ↦
-              let other = turned-apart sets (segment_of this.arc) s apart in
-              let done = done-apart sets s steps k low other in
-              let all : List Hold = holds ++ holds_of horizon clearance (take k steps) in
-              let before : ListStandsFor sets horizon all s (list_in mid s) = subst (λ n. ListStandsFor sets horizon (holds ++ holds_of horizon clearance (take n steps)) s (list_in mid s)) done.0 first in
-              let more : ListStandsFor sets horizon (all ++ hold_of horizon clearance this ∷ []) s (list_in mid s) =
-              list-with sets s all (hold_of horizon clearance this) [] horizon (list_in mid s) other (rw (append-nil all) before) in
-              let joined : all ++ hold_of horizon clearance this ∷ [] ≡ holds ++ holds_of horizon clearance (take (k + 1) steps) =
-              append_assoc holds (holds_of horizon clearance (take k steps)) (hold_of horizon clearance this ∷ []) ∙ ap (λ (h : List Hold). holds ++ h) (sym (map_more (hold_of horizon clearance) steps k none low)) in
-              subst (λ n. ListStandsFor sets horizon (holds ++ holds_of horizon clearance (take n steps)) s (list_in new s)) (sym done.1)
-              (subst (λ (l : Listed). ListStandsFor sets horizon (holds ++ holds_of horizon clearance (take (k + 1) steps)) s l) (sym (changes.others s (λ met. both_ways _ apart met)))
-              (subst (λ (h : List Hold). ListStandsFor sets horizon h s (list_in mid s)) joined more))
-        ]
-
-    pub HeldSoFar-more : ChangesConflicting sets (segment_of this.arc) (IsHeld sets horizon clearance steps k) mid new → HeldSoFar sets horizon clearance steps (k + 1) old new
-    HeldSoFar-more changes = record {
-      stands = held-stands changes;
-      kept = KeepsWindows-more sets IsApartFrom (IsHeld sets horizon clearance steps k) (holds_of horizon clearance steps) (segment_of this.arc) old mid new (λ s a b is. is.kept)
-          (λ s w exists there. windows-wide sets horizon (some.0 ++ holds_of horizon clearance (take (done_by sets s steps k) steps)) s (list_in mid s) w (held.stands some.0 some.1 s exists) there) held.owned.as_many held.kept changes;
-      owned = AllKeepOwned-conflicting sets IsApartFrom (IsHeld sets horizon clearance steps k) (holds_of horizon clearance steps) (segment_of this.arc) old mid new (λ s a b is. is.owned) held.owned changes;
-    }
-
-    -- a list in conflict with the next step can hold it
-    pub can_hold : HasRoomFor sets steps (of_lists old) → EachInConflict sets (segment_of this.arc) (CanHold sets steps k) mid
-    can_hold room s exists met =
-        let holds = some.0 in
-        let n = done_by sets s steps k in
-        let in_old : s.0 < length old = omega (arith, exists, held.owned.as_many) in
-        let was : ListStandsFor sets horizon holds s (list_in old s) = some.1 s in_old in
-        let first : ListStandsFor sets horizon (holds ++ holds_of horizon clearance (take n steps)) s (list_in mid s) = held.stands holds some.1 s exists in
-        record {
-          stands = (horizon, spans_in_conflict sets s (holds ++ holds_of horizon clearance (take n steps)), list-spans sets horizon (holds ++ holds_of horizon clearance (take n steps)) s (list_in mid s) first);
-          room = omega (
-            arith,
-            was.number,
-            first.number,
-            conflicting-append sets s holds (holds_of horizon clearance (take n steps)),
-            conflicting-steps horizon clearance sets s (take n steps),
-            room s in_old,
-            (held.owned.each s in_old).nodes,
-            sum_by-take-drop (λ (t : Step). cond (conflict sets s (segment_of t.arc)) 1 0) steps n,
-          );
-        }
-
-  -- in the end all steps are held
-  pub AreHeld-all : (k : ℕ) (old new : List Listed) → length steps ≤ k → HeldSoFar sets horizon clearance steps k old new → AreHeld sets horizon clearance steps old new
-  AreHeld-all k old new past held = record {
-    stands = λ holds st s low. subst (λ (done : List Step). ListStandsFor sets horizon (holds ++ holds_of horizon clearance done) s (list_in new s)) (take_all (done_by sets s steps k) steps (omega (arith, past, done-past sets s steps k))) (held.stands holds st s low);
-    kept = held.kept;
-    owned = held.owned;
-  }
-
--- ---- releasing
 
 -- the first steps are held no longer, nor what goes on with them
 pub record ReleasedSoFar (sets : List (List Segment)) (horizon clearance : ℕ) (rest : List Hold) (steps : List Step) (k : ℕ) (old new : List Listed) : Type 0 where
@@ -185,9 +191,9 @@ module _ (horizon clearance : ℕ) (sets : List (List Segment)) (rest : List Hol
     pub ReleasedSoFar-more : ChangesConflicting sets (segment_of freed.arc) (IsReleased sets horizon clearance rest steps k) mid new → ReleasedSoFar sets horizon clearance rest steps (k + 1) old new
     ReleasedSoFar-more changes = record {
       stands = released-stands changes;
-      kept = KeepsWindows-more sets IsClearOf (IsReleased sets horizon clearance rest steps k) (holds_of horizon clearance steps) (segment_of freed.arc) old mid new (λ s a b is. is.kept)
+      kept = KeepsWindows-clear sets (IsReleased sets horizon clearance rest steps k) (holds_of horizon clearance steps) (segment_of freed.arc) old mid new (λ s a b is. is.kept)
           (λ s w exists there. windows-wide sets horizon (rest ++ holds_of horizon clearance (drop (done_by sets s steps k) steps)) s (list_in mid s) w (released.stands s exists) there) released.owned.as_many released.kept changes;
-      owned = AllKeepOwned-conflicting sets IsClearOf (IsReleased sets horizon clearance rest steps k) (holds_of horizon clearance steps) (segment_of freed.arc) old mid new (λ s a b is. is.owned) released.owned changes;
+      owned = AllKeepOwned-conflicting sets (IsReleased sets horizon clearance rest steps k) (holds_of horizon clearance steps) (segment_of freed.arc) old mid new (λ s a b is. is.owned) released.owned changes;
     }
 
   -- in the end none is held

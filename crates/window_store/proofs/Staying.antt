@@ -1,11 +1,9 @@
 -- Stays: what they hold together, and how many steps are done for a segment.
-use Rattle.std.proofs.Common.{◌≡◌, ℕ, zero, suc, ◌+◌, ◌<◌, ◌≤◌, Bool, true, false, ◌||◌, ◌&&◌, not, List, [], ◌∷◌, ◌++◌, length, take, drop, cond, inl, inr, IsTrue, IsFalse, refl, sym, ◌∙◌, ap, subst, arith}
+use Rattle.std.proofs.Common.{◌≡◌, ℕ, zero, suc, ◌+◌, ◌<◌, ◌≤◌, Bool, true, false, ◌||◌, ◌&&◌, not, List, [], ◌∷◌, ◌++◌, length, take, drop, inl, inr, IsTrue, IsFalse, refl, sym, ◌∙◌, ap, subst, arith}
 use Rattle.std.specs.Prelude.{All, Contains, max, min, nat_le, if◌then◌else◌}
 use Rattle.std.proofs.lemmas.Bool.{cases_Bool, cases_lt, leb-true}
 use Rattle.std.proofs.Math.Bool.{or-false}
-use Rattle.std.proofs.Math.Seq.{take-add}
-use Rattle.std.proofs.lemmas.List.{append-nil, append_assoc, map-append, map_more, at_drop_more, at_drop_all, drop_more, drop-drop, take-append-drop, length-append, length-map, length-take-le}
-use Rattle.std.proofs.lemmas.List.Sums.{sum_by-take-drop}
+use Rattle.std.proofs.lemmas.List.{map-append, map_more, at_drop_more, at_drop_all, drop_more, drop-drop, take-append-drop, length-append, length-map, length-take-le}
 use Rattle.std.proofs.lemmas.List.Elements.{All-head, All-tail, All-nil, All-cons, All-take, All-drop, All-map, All-contains, Contains-push}
 use Rattle.std.proofs.lemmas.List.Folds.{list_any-append}
 use Rattle.taxi_base.specs.declared.numbers.Segment.{Segment}
@@ -16,17 +14,17 @@ use Rattle.taxi_base.specs.Windows.{Hold, hold_of, holds_of, is_free, span_has, 
 use Rattle.taxi_base.proofs.WindowLaws.{span_has-from, span_has-before, span_has-after, AreWindows-member}
 use Rattle.taxi_base.proofs.ListLaws.{Contains-map}
 use Rattle.interval_list.specs.declared.window.Window.{Window}
-use Rattle.interval_list.specs.Intervals.{span, span_of, spans_of, KeepsUnmet, KeepsUntouched}
+use Rattle.interval_list.specs.Intervals.{span, span_of, spans_of, KeepsUntouched}
 use Rattle.window_store.specs.Spans.{Listed, StandsForSpans}
-use Rattle.window_store.specs.Stands.{conflicting_steps, ListStandsFor}
-use Rattle.window_store.specs.Kept.{IsApartFrom, IsClearOf, AgainstEach}
+use Rattle.window_store.specs.Stands.{ListStandsFor}
+use Rattle.window_store.specs.Kept.{IsClearOf, AgainstEach}
 use Rattle.window_store.specs.Conflicting.{spans_in_conflict}
 use Rattle.window_store.specs.declared.stays.Stay.{Stay}
 use Rattle.window_store.specs.Stays.{step_at, joins, begins_stay, holding_on, done_by, spans_held, HaveSecondsOf, JoinTo, IsStay}
-use Rattle.window_store.specs.Edits.{KeepsOwned, StandsForLeft, IsHeld, IsReleased}
+use Rattle.window_store.specs.Edits.{KeepsOwned, StandsForLeft, IsReleased}
 use Rattle.window_store.proofs.Pieces.{All-front}
 use Rattle.window_store.proofs.Spans.{same_spans}
-use Rattle.window_store.proofs.Standing.{in_conflict, in_conflict-append, length-in_conflict, list-spans, spans-list, conflicting-steps}
+use Rattle.window_store.proofs.Standing.{in_conflict, in_conflict-append, list-spans, spans-list}
 
 abbrev pub none : Step
 none = record { arc = record { 0 = 0 }; enter = 0; leave = 0 }
@@ -37,7 +35,6 @@ pub JoinTo-one : (s : Span) → s.from < s.until → JoinTo (s ∷ []) s
 JoinTo-one s some = record {
   some = some;
   seconds = λ t. or-false (span_has s t);
-  apart = λ w wide each. All-head (IsApartFrom w) s [] each;
   clear = λ w wide each. All-head (IsClearOf w) s [] each;
 }
 
@@ -62,12 +59,6 @@ module _ (spans : List Span) (whole s : Span) (join : JoinTo spans whole) (low :
   JoinTo-more = record {
     some = omega (arith, join.some);
     seconds = λ t. list_any-append (λ w. span_has w t) spans (s ∷ []) ∙ rw (join.seconds t) (ap (λ b. span_has whole t || b) (or-false (span_has s t)) ∙ either t);
-    apart = λ w wide each.
-        let last : IsApartFrom w s = All-contains (IsApartFrom w) (spans ++ s ∷ []) s each (Contains-push spans s) in
-        elim (join.apart w wide (All-front (IsApartFrom w) spans (s ∷ []) each)) [
-          | inl before ↦ inl before
-          | inr behind ↦ elim last [ inl early ↦ absurd (omega (arith, early, behind, wide, high)) | inr late ↦ inr (omega (arith, late, behind)) ]
-        ];
     clear = λ w wide each.
         let last : IsClearOf w s = All-contains (IsClearOf w) (spans ++ s ∷ []) s each (Contains-push spans s) in
         elim (join.clear w wide (All-front (IsClearOf w) spans (s ∷ []) each)) [
@@ -199,10 +190,6 @@ module _ (sets : List (List Segment)) (horizon clearance : ℕ) (s : Segment) wh
       in_conflict sets s (hold_of horizon clearance step) (holds_of horizon clearance own) (All-head (λ (t : Step). IsTrue (conflict sets s (segment_of t.arc))) step own met)
       ∙ ap (λ (spans : List Span). (hold_of horizon clearance step).span ∷ spans) (own-spans own (All-tail (λ (t : Step). IsTrue (conflict sets s (segment_of t.arc))) step own met))
 
-  pub own-number : (own : List Step) → All (λ step. IsTrue (conflict sets s (segment_of step.arc))) own → conflicting_steps sets s own ≡ length own
-  own-number own met =
-      omega (arith, conflicting-steps horizon clearance sets s own, length-in_conflict sets s (holds_of horizon clearance own), ap length (own-spans own met), length-map own (λ (step : Step). (hold_of horizon clearance step).span))
-
   module _ (own : List Step) (met : All (λ step. IsTrue (conflict sets s (segment_of step.arc))) own) (rest later : List Hold) where
     -- the spans of holds among which these are
     own-among : spans_in_conflict sets s (rest ++ (holds_of horizon clearance own ++ later)) ≡ spans_in_conflict sets s rest ++ (spans_held horizon clearance own ++ spans_in_conflict sets s later)
@@ -219,32 +206,23 @@ module _ (sets : List (List Segment)) (horizon clearance : ℕ) (s : Segment) wh
         subst (λ (spans : List Span). StandsForSpans horizon (ys ++ spans) l) (sym (in_conflict-append sets s rest later))
         (same_spans horizon (xs ++ (ys ++ zs)) (ys ++ (xs ++ zs)) l (covers-in_front xs ys zs) (length-in_front xs ys zs) all)
 
-    pub own-back : (l : Listed) → StandsForSpans horizon (spans_held horizon clearance own ++ spans_in_conflict sets s (rest ++ later)) l → ListStandsFor sets horizon (rest ++ (holds_of horizon clearance own ++ later)) s l
-    own-back l stands =
-        let xs = spans_in_conflict sets s rest in let ys = spans_held horizon clearance own in let zs = spans_in_conflict sets s later in
-        let all : StandsForSpans horizon (ys ++ (xs ++ zs)) l =
-        subst (λ (spans : List Span). StandsForSpans horizon (ys ++ spans) l) (in_conflict-append sets s rest later) stands in
-        spans-list sets horizon (rest ++ (holds_of horizon clearance own ++ later)) s l
-        (subst (λ (spans : List Span). StandsForSpans horizon spans l) (sym own-among)
-        (same_spans horizon (ys ++ (xs ++ zs)) (xs ++ (ys ++ zs)) l (λ t. sym (covers-in_front xs ys zs t)) (sym (length-in_front xs ys zs)) all))
-
-  -- a window placed so against what all steps hold is placed so against what some of them hold
-  module _ (Placed : Window → Span → Type 0) (w : Window) where
+  -- a window that is clear of what all steps hold is clear of what some of them hold
+  module _ (w : Window) where
     abbrev Against : Step → Type 0
-    Against step = IsTrue (conflict sets s (segment_of step.arc)) → Placed w (hold_of horizon clearance step).span
+    Against step = IsTrue (conflict sets s (segment_of step.arc)) → IsClearOf w (hold_of horizon clearance step).span
 
-    against-each : (steps : List Step) → AgainstEach Placed sets s (holds_of horizon clearance steps) w → All Against steps
+    against-each : (steps : List Step) → AgainstEach IsClearOf sets s (holds_of horizon clearance steps) w → All Against steps
     against-each [] against = All-nil Against
     against-each (step ∷ steps) against =
-        let PlacedHold : Hold → Type 0 = λ h. IsTrue (conflict sets s h.segment) → Placed w h.span in
-        All-cons Against step steps (All-head PlacedHold (hold_of horizon clearance step) (holds_of horizon clearance steps) against)
-        (against-each steps (All-tail PlacedHold (hold_of horizon clearance step) (holds_of horizon clearance steps) against))
+        let IsClearOfHold : Hold → Type 0 = λ h. IsTrue (conflict sets s h.segment) → IsClearOf w h.span in
+        All-cons Against step steps (All-head IsClearOfHold (hold_of horizon clearance step) (holds_of horizon clearance steps) against)
+        (against-each steps (All-tail IsClearOfHold (hold_of horizon clearance step) (holds_of horizon clearance steps) against))
 
-    pub against-own : (steps : List Step) (k n : ℕ) → AgainstEach Placed sets s (holds_of horizon clearance steps) w → All (λ step. IsTrue (conflict sets s (segment_of step.arc))) (take n (drop k steps))
-        → All (Placed w) (spans_held horizon clearance (take n (drop k steps)))
+    pub against-own : (steps : List Step) (k n : ℕ) → AgainstEach IsClearOf sets s (holds_of horizon clearance steps) w → All (λ step. IsTrue (conflict sets s (segment_of step.arc))) (take n (drop k steps))
+        → All (IsClearOf w) (spans_held horizon clearance (take n (drop k steps)))
     against-own steps k n against met =
         let some : All Against (take n (drop k steps)) = All-take Against n (drop k steps) (All-drop Against k steps (against-each steps against)) in
-        All-map (Placed w) (λ (step : Step). (hold_of horizon clearance step).span) (take n (drop k steps)) (λ i d low. some i d low (met i d low))
+        All-map (IsClearOf w) (λ (step : Step). (hold_of horizon clearance step).span) (take n (drop k steps)) (λ i d low. some i d low (met i d low))
 
 -- the windows of a list that stands for something are not empty
 pub windows-wide : (sets : List (List Segment)) (horizon : ℕ) (holds : List Hold) (s : Segment) (l : Listed) (w : Window) → ListStandsFor sets horizon holds s l → Contains l.intervals.windows w → w.from < w.until
@@ -258,13 +236,6 @@ module _ (sets : List (List Segment)) (horizon clearance : ℕ) (s : Segment) (s
   module _ (within : IsFalse (begins_stay sets s steps k)) (l : Listed) where
     same-owned : KeepsOwned l l
     same-owned = record { ids = λ id. refl; nodes = refl }
-
-    pub IsHeld-within : IsHeld sets horizon clearance steps k s l l
-    IsHeld-within = record {
-      stands = λ holds st. subst (λ n. ListStandsFor sets horizon (holds ++ holds_of horizon clearance (take n steps)) s l) (sym (done-within sets s steps k low met within)) st;
-      kept = λ w wide there against. there;
-      owned = same-owned;
-    }
 
     pub IsReleased-within : (rest : List Hold) → IsReleased sets horizon clearance rest steps k s l l
     IsReleased-within rest = record {
@@ -286,29 +257,6 @@ module _ (sets : List (List Segment)) (horizon clearance : ℕ) (s : Segment) (s
         let first : IsStay sets horizon clearance s (step_at steps k ∷ drop (k + 1) steps) stay = subst (λ (left : List Step). IsStay sets horizon clearance s left stay) (drop_more steps k none low) is in
         done-stay sets s steps k stay.steps met first.number
 
-    -- there is room for them
-    pub stay-number : stay.steps ≤ conflicting_steps sets s (drop (done_by sets s steps k) steps)
-    stay-number =
-        rw (done-begins sets s steps k low begins)
-        (omega (arith, own-number sets horizon clearance s own is.met, length-take-le stay.steps (drop k steps) is.few, sum_by-take-drop (λ (t : Step). cond (conflict sets s (segment_of t.arc)) 1 0) (drop k steps) stay.steps))
-
-    pub IsHeld-stay : (old new : Listed) → ((spans : List Span) → StandsForSpans horizon spans old → StandsForSpans horizon (spans_held horizon clearance own ++ spans) new)
-        → KeepsUnmet stay.span old.intervals.windows new.intervals.windows → KeepsOwned old new → IsHeld sets horizon clearance steps k s old new
-    IsHeld-stay old new stands kept owned = record {
-      stands = λ holds st.
-          let all : List Hold = holds ++ holds_of horizon clearance (take k steps) in
-          let first : ListStandsFor sets horizon all s old = subst (λ n. ListStandsFor sets horizon (holds ++ holds_of horizon clearance (take n steps)) s old) (done-begins sets s steps k low begins) st in
-          let more : StandsForSpans horizon (spans_held horizon clearance own ++ spans_in_conflict sets s (all ++ [])) new =
-          subst (λ (h : List Hold). StandsForSpans horizon (spans_held horizon clearance own ++ spans_in_conflict sets s h) new) (sym (append-nil all)) (stands (spans_in_conflict sets s all) (list-spans sets horizon all s old first)) in
-          let joined : all ++ (holds_of horizon clearance own ++ []) ≡ holds ++ holds_of horizon clearance (take (k + stay.steps) steps) =
-          ap (λ (h : List Hold). all ++ h) (append-nil (holds_of horizon clearance own)) ∙ append_assoc holds (holds_of horizon clearance (take k steps)) (holds_of horizon clearance own)
-          ∙ ap (λ (h : List Hold). holds ++ h) (sym (map-append (hold_of horizon clearance) (take k steps) own) ∙ ap (λ (done : List Step). holds_of horizon clearance done) (sym (take-add k stay.steps steps))) in
-          subst (λ n. ListStandsFor sets horizon (holds ++ holds_of horizon clearance (take n steps)) s new) (sym done-next)
-          (subst (λ (h : List Hold). ListStandsFor sets horizon h s new) joined (own-back sets horizon clearance s own is.met all [] new more));
-      kept = λ w wide there against. kept w there (is.joined.apart w wide (against-own sets horizon clearance s IsApartFrom w steps k stay.steps against is.met));
-      owned = owned;
-    }
-
     -- the list stands for the stay and for what is held besides
     pub stay-front : (rest : List Hold) (l : Listed) → StandsForLeft sets horizon clearance steps k rest s l
         → StandsForSpans horizon (spans_held horizon clearance own ++ spans_in_conflict sets s (rest ++ holds_of horizon clearance (drop stay.steps (drop k steps)))) l
@@ -329,6 +277,6 @@ module _ (sets : List (List Segment)) (horizon clearance : ℕ) (s : Segment) (s
           let after : drop stay.steps (drop k steps) ≡ drop (done_by sets s steps (k + 1)) steps = drop-drop stay.steps k steps ∙ ap (λ n. drop n steps) (sym done-next) in
           subst (λ (left : List Step). ListStandsFor sets horizon (rest ++ holds_of horizon clearance left) s new) after
           (spans-list sets horizon (rest ++ holds_of horizon clearance (drop stay.steps (drop k steps))) s new (stands (stay-front rest old st)));
-      kept = λ w wide there against. kept w there (is.joined.clear w wide (against-own sets horizon clearance s IsClearOf w steps k stay.steps against is.met));
+      kept = λ w wide there against. kept w there (is.joined.clear w wide (against-own sets horizon clearance s w steps k stay.steps against is.met));
       owned = owned;
     }

@@ -1,13 +1,13 @@
 -- What an edit makes of the lists in conflict with a segment, and what a run of steps makes of all lists. No public clause
 -- cites this module.
-use Rattle.std.specs.Prelude.{ℕ, ◌≡◌, ◌+◌, ◌<◌, ◌≤◌, max, List, ◌++◌, length, take, drop, sum_by, Contains, IsTrue}
+use Rattle.std.specs.Prelude.{ℕ, ◌≡◌, ◌+◌, ◌<◌, ◌≤◌, max, List, ◌++◌, length, ◌∷◌, take, drop, sum_by, Contains, IsTrue}
 use Rattle.taxi_base.specs.declared.numbers.Segment.{Segment}
 use Rattle.taxi_base.specs.declared.rows.Span.{Span}
 use Rattle.taxi_base.specs.declared.rows.Step.{Step}
 use Rattle.taxi_base.specs.Airport.{conflict}
 use Rattle.taxi_base.specs.Windows.{Hold, holds_of}
 use Rattle.interval_list.specs.declared.window.Window.{Window}
-use Rattle.interval_list.specs.Intervals.{OwnsSame}
+use Rattle.interval_list.specs.Intervals.{OwnsSame, KeepsUnmet}
 use Rattle.window_store.specs.Spans.{Listed, nodes, StandsForSpans}
 use Rattle.window_store.specs.Store.{Store, of_lists_and_ids, IsStore, list_at}
 use Rattle.window_store.specs.Stands.{ListStandsFor, StandsFor, conflicting_steps}
@@ -44,36 +44,31 @@ pub record KeepsOwned (old new : Listed) : Type 0 where
   pub ids : OwnsSame old.intervals new.intervals
   pub nodes : nodes new ≡ nodes old
 
--- it stands for what some holds and the steps that are done for the segment hold
-abbrev pub StandsForDone : List (List Segment) → ℕ → ℕ → List Step → ℕ → List Hold → Segment → Listed → Type 0
-StandsForDone sets horizon clearance steps k holds s l =
-    ListStandsFor sets horizon (holds ++ holds_of horizon clearance (take (done_by sets s steps k) steps)) s l
+-- there are nodes for one more span than those for which it stands
+pub record CanHold (segment : Segment) (l : Listed) : Type 0 where
+  pub stands : (horizon : ℕ) × (spans : List Span) × StandsForSpans horizon spans l
+  pub room : 2 + l.held ≤ nodes l
+
+-- one more span is held
+pub record IsHeld (span : Span) (segment : Segment) (old new : Listed) : Type 0 where
+  pub stands : (horizon : ℕ) (spans : List Span) → StandsForSpans horizon spans old → StandsForSpans horizon (span ∷ spans) new
+  pub kept : KeepsUnmet span old.intervals.windows new.intervals.windows
+  pub owned : KeepsOwned old new
 
 -- it stands for what some holds and the steps that are not done for the segment hold
 abbrev pub StandsForLeft : List (List Segment) → ℕ → ℕ → List Step → ℕ → List Hold → Segment → Listed → Type 0
 StandsForLeft sets horizon clearance steps k holds s l =
     ListStandsFor sets horizon (holds ++ holds_of horizon clearance (drop (done_by sets s steps k) steps)) s l
 
--- a window so placed against what the steps hold stands there still
-abbrev pub KeepsPlaced : (Window → Span → Type 0) → List (List Segment) → List Hold → Segment → Listed → Listed → Type 0
-KeepsPlaced Placed sets holds s old new =
-    (w : Window) → w.from < w.until → Contains old.intervals.windows w → AgainstEach Placed sets s holds w → Contains new.intervals.windows w
-
--- it stands for something, and there is room for what the steps hold that are not done
-pub record CanHold (sets : List (List Segment)) (steps : List Step) (k : ℕ) (s : Segment) (l : Listed) : Type 0 where
-  pub stands : (horizon : ℕ) × (spans : List Span) × StandsForSpans horizon spans l
-  pub room : 1 + l.held + conflicting_steps sets s (drop (done_by sets s steps k) steps) ≤ nodes l
-
--- the stay that begins at a step is held
-pub record IsHeld (sets : List (List Segment)) (horizon clearance : ℕ) (steps : List Step) (k : ℕ) (s : Segment) (old new : Listed) : Type 0 where
-  pub stands : (holds : List Hold) → StandsForDone sets horizon clearance steps k holds s old → StandsForDone sets horizon clearance steps (k + 1) holds s new
-  pub kept : KeepsPlaced IsApartFrom sets (holds_of horizon clearance steps) s old new
-  pub owned : KeepsOwned old new
+-- a window that is clear of what steps hold stands there still
+abbrev pub KeepsClear : List (List Segment) → List Hold → Segment → Listed → Listed → Type 0
+KeepsClear sets holds s old new =
+    (w : Window) → w.from < w.until → Contains old.intervals.windows w → AgainstEach IsClearOf sets s holds w → Contains new.intervals.windows w
 
 -- the stay that begins at a step is held no longer
 pub record IsReleased (sets : List (List Segment)) (horizon clearance : ℕ) (rest : List Hold) (steps : List Step) (k : ℕ) (s : Segment) (old new : Listed) : Type 0 where
   pub stands : StandsForLeft sets horizon clearance steps k rest s old → StandsForLeft sets horizon clearance steps (k + 1) rest s new
-  pub kept : KeepsPlaced IsClearOf sets (holds_of horizon clearance steps) s old new
+  pub kept : KeepsClear sets (holds_of horizon clearance steps) s old new
   pub owned : KeepsOwned old new
 
 -- the number is raised, and nothing else is changed

@@ -6,7 +6,7 @@ use Rattle.taxi_base.specs.declared.rows.Step.{Step}
 use Rattle.taxi_base.specs.Airport.{conflict, segment_of}
 use Rattle.taxi_base.specs.Windows.{hold_of, covers, span_has}
 use Rattle.interval_list.specs.declared.window.Window.{Window}
-use Rattle.window_store.specs.Kept.{IsApartFrom, IsClearOf}
+use Rattle.window_store.specs.Kept.{IsClearOf}
 use Rattle.window_store.specs.declared.stays.Stay.{Stay}
 
 abbrev pub step_at : List Step → ℕ → Step
@@ -40,11 +40,10 @@ spans_held horizon clearance steps = map (λ step. (hold_of horizon clearance st
 abbrev pub HaveSecondsOf : Span → List Span → Type 0
 HaveSecondsOf whole spans = (t : ℕ) → covers spans t ≡ span_has whole t
 
--- Spans join to a whole: they have its seconds, and what is apart from each or clear of each is so of the whole.
+-- Spans join to a whole: they have its seconds, and what is clear of each is clear of the whole.
 pub record JoinTo (spans : List Span) (whole : Span) : Type 0 where
   pub some : whole.from < whole.until
   pub seconds : HaveSecondsOf whole spans
-  pub apart : (w : Window) → w.from < w.until → All (IsApartFrom w) spans → IsApartFrom w whole
   pub clear : (w : Window) → w.from < w.until → All (IsClearOf w) spans → IsClearOf w whole
 
 -- the stay that the first of some steps begins at a segment

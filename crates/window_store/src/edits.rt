@@ -44,7 +44,7 @@ pub(crate) fn span_of(step: &Step, term: Term) -> Span
 
 // ---- holding
 
-/// Each list in conflict with a step is cut by what the step holds. What several steps hold of a segment without a gap is cut out at once.
+/// Each list in conflict with a step is cut by what the step holds.
 pub(crate) fn hold_steps(
     lists: &mut [SegmentWindows],
     conflicts: &Conflicts,
@@ -59,52 +59,21 @@ pub(crate) fn hold_steps(
     requires room { HasRoomFor conflicts.now.sets steps.now (of_lists lists.old) }
     ensures { AreHeld conflicts.now.sets term.horizon term.clearance steps.now lists.old lists.new }
 {
-    for place in 0..steps.len() {
-        hold_step(lists, conflicts, steps, place, term);
+    for step in steps {
+        hold_step(lists, conflicts, step, term);
     }
 }
 
-fn hold_step(
-    lists: &mut [SegmentWindows],
-    conflicts: &Conflicts,
-    steps: &[Step],
-    place: usize,
-    term: Term,
-)
+fn hold_step(lists: &mut [SegmentWindows], conflicts: &Conflicts, step: &Step, term: Term)
     requires segments { length lists.old ≡ conflicts.now.segments }
-    requires steps { AreOnSegments conflicts.now.segments steps.now }
-    requires place { place < length steps.now }
-    requires time { TakeTime steps.now }
-    requires in_time { AreInTime term.horizon steps.now }
-    requires can { EachInConflict conflicts.now.sets (segment_of (step_at steps.now place).arc) (CanHold conflicts.now.sets steps.now place) lists.old }
-    ensures { ChangesConflicting conflicts.now.sets (segment_of (step_at steps.now place).arc) (IsHeld conflicts.now.sets term.horizon term.clearance steps.now place) lists.old lists.new }
+    requires step { step.now.arc.0 / 2 < conflicts.now.segments }
+    requires time { step.now.enter < step.now.leave }
+    requires in_time { step.now.leave ≤ term.horizon }
+    requires can { EachInConflict conflicts.now.sets (segment_of step.now.arc) CanHold lists.old }
+    ensures { ChangesConflicting conflicts.now.sets (segment_of step.now.arc) (IsHeld (hold_of term.horizon term.clearance step.now).span) lists.old lists.new }
 {
-    for segment in segments_of(conflicts, &steps[place]) {
-        let list = &mut lists[segment.0 as usize];
-        hold_stay(list, conflicts, *segment, steps, place, term);
-    }
-}
-
-// A segment's list is cut by what the stay holds that begins at a step. Where none does that is done.
-fn hold_stay(
-    list: &mut SegmentWindows,
-    conflicts: &Conflicts,
-    segment: Segment,
-    steps: &[Step],
-    place: usize,
-    term: Term,
-)
-    requires exists { segment.0 < conflicts.now.segments }
-    requires place { place < length steps.now }
-    requires met { IsTrue (conflict conflicts.now.sets segment (segment_of (step_at steps.now place).arc)) }
-    requires time { TakeTime steps.now }
-    requires in_time { AreInTime term.horizon steps.now }
-    requires can { CanHold conflicts.now.sets steps.now place segment list.old }
-    ensures { IsHeld conflicts.now.sets term.horizon term.clearance steps.now place segment list.old list.new }
-{
-    if begins_stay(conflicts, segment, steps, place) {
-        let stay = stay_from(conflicts, segment, &steps[place..], term);
-        list.hold(stay.span, stay.steps);
+    for segment in segments_of(conflicts, step) {
+        lists[segment.0 as usize].hold(span_of(step, term));
     }
 }
 

@@ -139,20 +139,19 @@ impl SegmentWindows {
         self.held -= 1;
     }
 
-    /// Holds the segment for so many more spans, which have the seconds of one. It needs no memory.
-    pub(crate) fn hold(&mut self, span: Span, number: usize)
+    /// Holds the segment for one more span. It needs no memory.
+    pub(crate) fn hold(&mut self, span: Span)
         requires some { span.from < span.until }
-        requires number { 1 ≤ number }
         requires stands { (horizon : ℕ) × (spans : List Plain) × StandsForSpans horizon spans self.old }
-        requires room { 1 + self.old.held + number ≤ nodes self.old }
-        ensures stands { (horizon : ℕ) (own spans : List Plain) → HaveSecondsOf span own → length own ≡ number → StandsForSpans horizon spans self.old → StandsForSpans horizon (own ++ spans) self.new }
+        requires room { 2 + self.old.held ≤ nodes self.old }
+        ensures stands { (horizon : ℕ) (spans : List Plain) → StandsForSpans horizon spans self.old → StandsForSpans horizon (span ∷ spans) self.new }
         ensures kept { KeepsUnmet span self.old.intervals.windows self.new.intervals.windows }
         ensures ids { OwnsSame self.old.intervals self.new.intervals }
         ensures nodes { nodes self.new ≡ nodes self.old }
     {
         self.intervals.subtract(span.from, span.until);
         follow(&mut self.row, span, &self.intervals);
-        self.held += number;
+        self.held += 1;
     }
 
     /// No longer holds the segment for so many spans, which have the seconds of one, while others hold it for theirs. Only what no other

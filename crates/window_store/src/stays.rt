@@ -1,4 +1,4 @@
-//! Stays: steps that hold a segment one after the other without a gap. What they hold of it is taken and given back at once.
+//! Stays: steps that hold a segment one after the other without a gap. What they held of it is given back at once.
 ghost use Rattle.std.specs.Prelude.{◌≡◌, ◌<◌, length, IsTrue};
 ghost use Rattle.taxi_base.specs.Airport.{conflict, segment_of};
 ghost use Rattle.window_store.specs.Stands.{TakeTime, AreInTime};

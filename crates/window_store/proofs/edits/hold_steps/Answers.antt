@@ -1,16 +1,23 @@
-use Rattle.window_store.proofs.Runs.{HeldSoFar-none, HeldSoFar-more, can_hold, AreHeld-all}
+use Rattle.std.proofs.Common.{sym}
+use Rattle.std.proofs.lemmas.List.{take_more, take_all}
+use Rattle.taxi_base.specs.declared.rows.Step.{Step}
+use Rattle.window_store.proofs.Runs.{AreHeld-none, AreHeld-more, can_hold}
 use Rattle.window_store.proofs.edits.hold_steps.Goals as goal
 
-pub loop-place-init : goal.loop-place-init
-loop-place-init c = HeldSoFar-none c.args.term.horizon c.args.term.clearance c.args.conflicts.now.sets c.args.steps.now c.args.lists.now
+abbrev none : Step
+none = record { arc = record { 0 = 0 }; enter = 0; leave = 0 }
+
+pub loop-step-init : goal.loop-step-init
+loop-step-init c = AreHeld-none c.args.term.horizon c.args.term.clearance c.args.conflicts.now.sets c.args.lists.now
 
 pub hold_step-requires-clause-can : goal.hold_step-requires-clause-can
 hold_step-requires-clause-can c =
-    can_hold c.args.term.horizon c.args.term.clearance c.args.conflicts.now.sets c.args.steps.now c.loop-place.place c.loop-place-test.true c.args.lists.now c.loop-place.lists c.loop-place.lists c.requires.stands c.loop-place.invariant c.requires.room
+    can_hold c.args.term.horizon c.args.term.clearance c.args.conflicts.now.sets c.args.steps.now c.loop-step.step-index none c.args.lists.now c.loop-step.lists c.requires.stands c.requires.room c.loop-step.invariant c.loop-step-test.true
 
-pub loop-place-preserved : goal.loop-place-preserved
-loop-place-preserved c =
-    HeldSoFar-more c.args.term.horizon c.args.term.clearance c.args.conflicts.now.sets c.args.steps.now c.loop-place.place c.loop-place-test.true c.args.lists.now c.loop-place.lists c.hold_step.new.lists c.requires.stands c.loop-place.invariant c.hold_step.ensures
+pub loop-step-preserved : goal.loop-step-preserved
+loop-step-preserved c =
+    rw (take_more c.args.steps.now c.loop-step.step-index none c.loop-step-test.true)
+    (AreHeld-more c.args.term.horizon c.args.term.clearance c.args.conflicts.now.sets _ _ c.args.lists.now c.loop-step.lists c.hold_step.new.lists c.loop-step.invariant c.hold_step.ensures)
 
 pub returns : goal.returns
-returns c = AreHeld-all c.args.term.horizon c.args.term.clearance c.args.conflicts.now.sets c.args.steps.now c.loop-place.place c.args.lists.now c.loop-place.lists c.loop-place-test.false c.loop-place.invariant
+returns c = rw (sym (take_all c.loop-step.step-index c.args.steps.now c.loop-step-test.false)) c.loop-step.invariant

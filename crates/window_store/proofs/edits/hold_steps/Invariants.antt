@@ -1,5 +1,6 @@
-use Rattle.window_store.proofs.Runs.{HeldSoFar}
+use Rattle.std.proofs.Common.{take}
+use Rattle.window_store.specs.Edits.{AreHeld}
 use Rattle.window_store.proofs.edits.hold_steps.Given as goal
 
-abbrev pub invariant-loop-place : goal.invariant-loop-place
-invariant-loop-place l = HeldSoFar l.conflicts.sets l.term.horizon l.term.clearance l.steps l.place l.initial.lists l.lists
+abbrev pub invariant-loop-step : goal.invariant-loop-step
+invariant-loop-step l = AreHeld l.conflicts.sets l.term.horizon l.term.clearance (take l.step-index l.steps) l.initial.lists l.lists
