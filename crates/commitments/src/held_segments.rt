@@ -16,7 +16,7 @@ use taxi_base::{Memory, Name, Segment, Span, Step, Time};
 use window_store::{OtherHolds, WindowStore};
 
 // So many steps of a holder are taken out together.
-const AT_ONCE: usize = 32;
+const AT_ONCE: usize = 16;
 
 /// The free windows of each segment, and the steps that leave them, by segment.
 #[derive(Drop)]

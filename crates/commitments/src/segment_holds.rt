@@ -70,6 +70,9 @@ pub(crate) fn clearance_after(airport: &Airport, class: Option<Class>) -> Time
     class.map_or(0, |class| airport.clearance(class))
 }
 
+// A step among so many last ones is looked for among them.
+const NEAR_THE_END: usize = 8;
+
 // Room for so many steps at least.
 const LEAST_ROOM: usize = 16;
 
@@ -264,11 +267,23 @@ fn begun_before(steps: &[HeldStep], second: u64) -> usize
     ensures after { AllWithin (λ s. second ≤ s.step.enter) steps.now result (length steps.now) }
 {
     match steps.first() {
-        Some(first) if u64::from(first.step.enter) < second => begun_before_by_halves(
-            steps, second,
-        ),
+        Some(first) if u64::from(first.step.enter) < second => begun_before_some(steps, second),
         _ => 0,
     }
+}
+
+// The same where some do. Traffic comes in order of time, so mostly all do but a few at the end.
+fn begun_before_some(steps: &[HeldStep], second: u64) -> usize
+    requires { IsNonDecreasingBy (λ held. held.step.enter) steps.now }
+    ensures few { result ≤ length steps.now }
+    ensures before { AllWithin (λ s. s.step.enter < second) steps.now 0 result }
+    ensures after { AllWithin (λ s. second ≤ s.step.enter) steps.now result (length steps.now) }
+{
+    let near = steps.len().saturating_sub(NEAR_THE_END);
+    if near > 0 && u64::from(steps[near - 1].step.enter) < second {
+        return near + begun_before_by_halves(&steps[near..], second);
+    }
+    begun_before_by_halves(steps, second)
 }
 
 fn begun_before_by_halves(steps: &[HeldStep], second: u64) -> usize

@@ -3,7 +3,7 @@ use Rattle.std.proofs.Common.{◌≡◌, ℕ, zero, suc, ◌+◌, ◌<◌, ◌�
 use Rattle.std.specs.Prelude.{All, Contains, max, min, nat_le, if◌then◌else◌}
 use Rattle.std.proofs.lemmas.Bool.{cases_Bool, cases_lt, leb-true}
 use Rattle.std.proofs.Math.Bool.{or-false}
-use Rattle.std.proofs.lemmas.List.{map-append, map_more, at_drop_more, at_drop_all, drop_more, drop-drop, take-append-drop, length-append, length-map, length-take-le}
+use Rattle.std.proofs.lemmas.List.{map-append, map_more, at_drop_more, drop_more, drop-drop, take-append-drop, length-append, length-map, length-take-le}
 use Rattle.std.proofs.lemmas.List.Elements.{All-head, All-tail, All-nil, All-cons, All-take, All-drop, All-map, All-contains, Contains-push}
 use Rattle.std.proofs.lemmas.List.Folds.{list_any-append}
 use Rattle.taxi_base.specs.declared.numbers.Segment.{Segment}
@@ -30,13 +30,6 @@ abbrev pub none : Step
 none = record { arc = record { 0 = 0 }; enter = 0; leave = 0 }
 
 -- ---- spans that join
-
-pub JoinTo-one : (s : Span) → s.from < s.until → JoinTo (s ∷ []) s
-JoinTo-one s some = record {
-  some = some;
-  seconds = λ t. or-false (span_has s t);
-  clear = λ w wide each. All-head (IsClearOf w) s [] each;
-}
 
 module _ (spans : List Span) (whole s : Span) (join : JoinTo spans whole) (low : whole.from ≤ s.from) (high : s.from ≤ whole.until) (some : s.from < s.until) where
   abbrev longer : Span
@@ -94,9 +87,6 @@ module _ (sets : List (List Segment)) (s : Segment) (steps : List Step) where
   pub holding-next : (before : Step) (k : ℕ) → k < length steps
       → holding_on sets s before (drop k steps) ≡ (if meets k && joins before (step_at steps k) then suc (holding_on sets s (step_at steps k) (drop (k + 1) steps)) else 0)
   holding-next before k low = at_drop_more (holding_on sets s before) steps k none low
-
-  pub holding-end : (before : Step) (k : ℕ) → length steps ≤ k → holding_on sets s before (drop k steps) ≡ 0
-  holding-end before k past = at_drop_all (holding_on sets s before) steps k past
 
   done-behind : (k : ℕ) → done_by sets s steps (k + 1) ≡ (k + 1) + (if meets k then holding_on sets s (step_at steps k) (drop (k + 1) steps) else 0)
   done-behind k = let e : k + 1 ≡ suc k = omega arith in rw e refl
@@ -270,7 +260,7 @@ module _ (sets : List (List Segment)) (horizon clearance : ℕ) (s : Segment) (s
 
     pub IsReleased-stay : (rest : List Hold) (old new : Listed)
         → (StandsForSpans horizon (spans_held horizon clearance own ++ spans_in_conflict sets s (rest ++ holds_of horizon clearance (drop stay.steps (drop k steps)))) old
-            → StandsForSpans horizon (spans_in_conflict sets s (rest ++ holds_of horizon clearance (drop stay.steps (drop k steps)))) new)
+        → StandsForSpans horizon (spans_in_conflict sets s (rest ++ holds_of horizon clearance (drop stay.steps (drop k steps)))) new)
         → KeepsUntouched stay.span old.intervals.windows new.intervals.windows → KeepsOwned old new → IsReleased sets horizon clearance rest steps k s old new
     IsReleased-stay rest old new stands kept owned = record {
       stands = λ st.

@@ -34,12 +34,7 @@ pub(crate) fn begins_stay(
 }
 
 /// The stay that the first of some steps begins.
-pub(crate) fn stay_from(
-    conflicts: &Conflicts,
-    segment: Segment,
-    steps: &[Step],
-    term: Term,
-) -> Stay
+pub(crate) fn stay_from(conflicts: &Conflicts, segment: Segment, steps: &[Step], term: Term) -> Stay
     requires exists { segment.0 < conflicts.now.segments }
     requires some { 0 < length steps.now }
     requires met { IsTrue (conflict conflicts.now.sets segment (segment_of (step_at steps.now 0).arc)) }
