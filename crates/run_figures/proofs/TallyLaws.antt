@@ -6,12 +6,7 @@ use Rattle.std.proofs.lemmas.List.Elements.{All-map}
 use Rattle.std.proofs.lemmas.List.Sums.{sum_by_push, count_by-le-length}
 use Rattle.run_figures.specs.declared.counting.Count.{Count}
 use Rattle.run_figures.specs.Counts.{how_many, count_of, tallied}
-use Rattle.run_figures.specs.Tallies.{with_one, none_yet}
-
--- none of anything
-pub tallied-none : {X : Type 0} (word : X → List ℕ) (kinds : List (List ℕ)) → map none_yet kinds ≡ tallied word kinds []
-tallied-none word [] = refl
-tallied-none word (kind ∷ kinds) = ap (λ (cs : List Count). none_yet kind ∷ cs) (tallied-none word kinds)
+use Rattle.run_figures.specs.Tallies.{with_one}
 
 -- one more
 pub tallied-more : {X : Type 0} (word : X → List ℕ) (kinds : List (List ℕ)) (xs : List X) (x : X) → map (with_one (word x)) (tallied word kinds xs) ≡ tallied word kinds (xs ++ x ∷ [])
