@@ -27,6 +27,12 @@ pub struct Departure {
 /// The picked one of the walks in the store's windows that end so and leave the node latest, with the labels past its begin;
 /// or that there is no walk, with all labels. Each step keeps the class's clearance after it inside its window, but no longer than
 /// to the horizon. What an earlier search left in the room does not matter.
+///
+/// The store has a list of windows for each segment, and none is past the horizon. `Memory` comes where no room can be made.
+///
+/// Say that S2 leads from G to A and S1 from A to RW, each in 30 seconds, that the clearance is 10, and that S1 is held from 150 to
+/// 180. A departure that leaves its last step from 140 to 200 has to be past S1 by 140, for the clearance. So it is pushed back at
+/// 80: it is on S2 from 80 to 110, and on S1 from 110 to 140.
 pub fn depart(
     alloc: Global,
     room: &mut SearchRoom,

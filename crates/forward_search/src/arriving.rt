@@ -23,6 +23,12 @@ use window_store::WindowStore;
 /// The picked one of the walks in the store's windows that begin so and reach the node soonest, with the labels short of its
 /// end; or that there is no walk, with all labels. Each step keeps the class's clearance after it inside its window, but no longer
 /// than to the horizon. What an earlier search left in the room does not matter.
+///
+/// The store has a list of windows for each segment, and none is past the horizon. `Memory` comes where no room can be made.
+///
+/// Say that S1 leads from RW to A and S2 from A to G, each in 30 seconds, that the clearance is 10, and that S2 is held until
+/// 100. An arrival from RW to G that may begin from 0 to 60 waits on S1: it is on S1 from 0 to 100, and on S2 from 100 to 130.
+/// The one label short of 130 is that of S1, which can be left at 30.
 pub fn arrive(
     alloc: Global,
     room: &mut SearchRoom,

@@ -31,6 +31,12 @@ pub struct Onward<'a> {
 /// The picked one of the walks in the store's windows that go on so and reach the node soonest, with the steps done before it and
 /// the labels short of its end; or that there is no walk, with all labels. The step under way keeps its arc and its enter. What an
 /// earlier search left in the room does not matter.
+///
+/// The store is as for `arrive`, and has the windows that the others leave. Where the steps are a walk in them, what is told is the
+/// best that may still be taken.
+///
+/// Say that a flight goes from RW by S1 to A and by S2 to G, each in 30 seconds, that it entered S1 at 0, and that S2 is now held
+/// until 200. From 50 on it stays on S1 from 0 to 200, and is on S2 from 200 to 230.
 pub fn arrive_onward(
     alloc: Global,
     room: &mut SearchRoom,

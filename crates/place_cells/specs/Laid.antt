@@ -27,9 +27,13 @@ first_in first arc = slice_index_or first arc 0
 
 -- Blocks follow one another. A number is that of the spot whose place it has in the block of its arc.
 pub record AreNumbered (spots : List Spot) (first : List ℕ) : Type 0 where
+  -- an arc's block begins no sooner than those of the arcs before it
   pub rising : (a b : ℕ) → a ≤ b → b < length first → first_in first a ≤ first_in first b
+  -- it begins by the end of all spots
   pub inside : (a : ℕ) → a < length first → first_in first a ≤ length spots
+  -- the number at place j of the block of arc a is that of the spot of a and j
   pub block : (a j : ℕ) → suc a < length first → first_in first a + j < first_in first (suc a) → spot_in spots (first_in first a + j) ≡ record { arc = record { 0 = a }; window = j }
+  -- and the spot of a number says in which block it lies, and at which place
   pub own : (k : ℕ) → k < length spots
       → (suc (spot_in spots k).arc.0 < length first) × (first_in first (spot_in spots k).arc.0 + (spot_in spots k).window ≡ k) × (k < first_in first (suc (spot_in spots k).arc.0))
 

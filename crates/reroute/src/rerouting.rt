@@ -19,6 +19,13 @@ use taxi_base::{Found, Memory, Name, Node, Time};
 /// The best of the walks that the flight of a name may take from a time on among the others, to another node or to the one
 /// that it asked for; or that there is none. The flight keeps its old route, also after an error. What an earlier search left in
 /// the room does not matter.
+///
+/// The ledger fits the airport, no flight is lifted, and the flight does what it asked for. It is refused where none of the name is
+/// in force, where its route was given by hand, where it has ended, where it is a departure that has begun, or is to be led to
+/// another node. `Memory` comes where no room can be made.
+///
+/// Say that an arrival over S1 and S2, each in 30 seconds, was to wait on S1 from 0 to 100 for a flight that is cancelled now. From
+/// 20 on it is on S1 from 0 to 30, and on S2 from 30 to 60. From 50 on it leaves S1 at 50, and S2 at 80.
 pub fn again(
     alloc: Global,
     room: &mut SearchRoom,

@@ -79,7 +79,7 @@ fn cell_at(cells: &[ListedCell], cell: usize) -> ListedCell
     }
 }
 
-const TIMES: u32 = 2147483648;
+const TIMES: u32 = 2_147_483_648;
 
 /// Whether the cell is fit for a list of so many.
 fn is_fit(cell: &ListedCell, count: usize) -> bool

@@ -20,6 +20,10 @@ use window_store::WindowStore;
 /// name, with the route that is picked to it and the labels short of its end; or that no walk reaches any of them, with all
 /// labels. Each step keeps the class's clearance after it inside its window. A node that is named twice counts once. What an earlier
 /// search left in the room does not matter.
+///
+/// The store is as for `arrive`, and each node is the airport's. `Memory` comes where no room can be made.
+///
+/// Of stands G2, G1 and G3, reached at 120, 120 and 90, it is G3, and of G2 and G1 alone it is G1, whichever is named first.
 pub fn choose_arrival(
     alloc: Global,
     room: &mut SearchRoom,

@@ -20,6 +20,10 @@ use window_store::WindowStore;
 /// route that is picked to it alone, and past its begin the latest entries of the walks to any of the nodes; or that no walk
 /// reaches any of them, with all entries. Each step keeps the class's clearance after it inside its window. A node that is named
 /// twice counts once. What an earlier search left in the room does not matter.
+///
+/// The store is as for `depart`, and each node is the airport's. `Memory` comes where no room can be made.
+///
+/// Of runway nodes R1, R2 and R3, for which the stand can be left as late as 80, 95 and 95, it is R2.
 pub fn choose_departure(
     alloc: Global,
     room: &mut SearchRoom,
