@@ -47,20 +47,20 @@ pub(crate) fn write_row(
 {
     let (name, class, from, to) = (row.name, row.class, row.from, row.to);
     let (segment, tail, head) = (row.segment, row.tail, row.head);
-    let number = number_text(row.number);
     let enter = time_text(start, row.enter);
     let leave = time_text(start, row.leave);
     let until = time_text(start, row.until);
-    let least = number_text(row.least);
-    let wait = number_text(row.wait);
-    let slack = number_text(row.slack);
+    let mut number = Buffer::new();
+    let mut least = Buffer::new();
+    let mut wait = Buffer::new();
+    let mut slack = Buffer::new();
     records.write(&[
         name.bytes(),
         kind_word(row.kind),
         class_word(&class),
         from.bytes(),
         to.bytes(),
-        number.bytes(),
+        number.format(row.number).as_bytes(),
         segment.bytes(),
         direction_word(row.forward),
         tail.bytes(),
@@ -68,9 +68,9 @@ pub(crate) fn write_row(
         enter.bytes(),
         leave.bytes(),
         until.bytes(),
-        least.bytes(),
-        wait.bytes(),
-        slack.bytes(),
+        least.format(row.least).as_bytes(),
+        wait.format(row.wait).as_bytes(),
+        slack.format(row.slack).as_bytes(),
     ])
 }
 
