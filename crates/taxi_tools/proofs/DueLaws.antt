@@ -8,7 +8,7 @@ use Rattle.program_files.specs.declared.status.Status.TheVariants as status
 use Rattle.program_files.specs.Call.{Call}
 use Rattle.program_files.specs.Inputs.{airport_limit}
 use Rattle.program_files.proofs.DueLaws.{longer-due, judged-due, run-due, run-large}
-use Rattle.tool_words.specs.Verb.{Verb, Graph, Lint, Plan, Figures, Checkpoint, Json}
+use Rattle.tool_words.specs.Verb.{Verb, OfAirport, OfRun, Json}
 use Rattle.taxi_tools.specs.Outcomes.{IsDoneText}
 use Rattle.taxi_tools.specs.Reads.{IsRefused}
 use Rattle.taxi_tools.specs.Halts.{IsLargeText}
@@ -16,27 +16,18 @@ use Rattle.taxi_tools.specs.Due.{IsDueOf}
 use Rattle.taxi_tools.specs.Endings.{Ends}
 
 done-due : (files : Files) (asked : Verb) (text : List ℕ) → IsDoneText (Some files) asked text → IsDueOf files (Some asked) status.Done
-done-due files (Graph airport) text t = judged-due files airport (Ok t.airport) _ status.Done t.accepted refl
-done-due files (Lint airport) text t = judged-due files airport (Ok t.airport) _ status.Done t.accepted refl
-done-due files (Plan names start) text t = run-due files names t.airport t.commands (λ airport commands. status.Done ≡ status.Done) status.Done t.accepted refl
-done-due files (Figures names) text t = run-due files names t.airport t.commands (λ airport commands. status.Done ≡ status.Done) status.Done t.accepted refl
-done-due files (Checkpoint names) text t = run-due files names t.airport t.commands (λ airport commands. status.Done ≡ status.Done) status.Done t.accepted refl
+done-due files (OfAirport airport tool) text t = judged-due files airport (Ok t.airport) _ status.Done t.accepted refl
+done-due files (OfRun names tool) text t = run-due files names t.airport t.commands (λ airport commands. status.Done ≡ status.Done) status.Done t.accepted refl
 done-due files (Json names) text t = run-due files names t.airport t.commands (λ airport commands. status.Done ≡ status.Done) status.Done t.accepted refl
 
 refused-due : (files : Files) (asked : Verb) (fault : RecordFault) → IsRefused (Some files) asked fault → IsDueOf files (Some asked) status.AirportRefused
-refused-due files (Graph airport) fault judged = judged-due files airport (Err fault) _ status.AirportRefused judged refl
-refused-due files (Lint airport) fault judged = judged-due files airport (Err fault) _ status.AirportRefused judged refl
-refused-due files (Plan names start) fault judged = judged-due files names.airport (Err fault) _ status.AirportRefused judged refl
-refused-due files (Figures names) fault judged = judged-due files names.airport (Err fault) _ status.AirportRefused judged refl
-refused-due files (Checkpoint names) fault judged = judged-due files names.airport (Err fault) _ status.AirportRefused judged refl
+refused-due files (OfAirport airport tool) fault judged = judged-due files airport (Err fault) _ status.AirportRefused judged refl
+refused-due files (OfRun names tool) fault judged = judged-due files names.airport (Err fault) _ status.AirportRefused judged refl
 refused-due files (Json names) fault judged = judged-due files names.airport (Err fault) _ status.AirportRefused judged refl
 
 large-due : (files : Files) (asked : Verb) (text : List ℕ) → IsLargeText (Some files) asked text → IsDueOf files (Some asked) status.TooLarge
-large-due files (Graph airport) text longer = longer-due files airport airport_limit _ longer.0
-large-due files (Lint airport) text longer = longer-due files airport airport_limit _ longer.0
-large-due files (Plan names start) text large = run-large files names (λ airport commands. status.TooLarge ≡ status.Done) large.0
-large-due files (Figures names) text large = run-large files names (λ airport commands. status.TooLarge ≡ status.Done) large.0
-large-due files (Checkpoint names) text large = run-large files names (λ airport commands. status.TooLarge ≡ status.Done) large.0
+large-due files (OfAirport airport tool) text longer = longer-due files airport airport_limit _ longer.0
+large-due files (OfRun names tool) text large = run-large files names (λ airport commands. status.TooLarge ≡ status.Done) large.0
 large-due files (Json names) text (inl longer) = run-large files names (λ airport commands. status.TooLarge ≡ status.Done) (inl longer.0)
 large-due files (Json names) text (inr (file, is, more, t)) = run-large files names (λ airport commands. status.TooLarge ≡ status.Done) (inr (t.airport, t.accepted, (file, is, more)))
 

@@ -1,28 +1,31 @@
 -- How a call ends whose files are read whole before anything is written.
-use Rattle.std.proofs.Common.{◌≡◌, [], ◌∷◌, inl, inr, ℕ, List, Option, Some, None, Ok, Err, refl, sym, ◌∙◌, ap, subst}
-use Rattle.std.specs.Prelude.{⊤}
+use Rattle.std.proofs.Common.{◌≡◌, ◌≤◌, [], ◌∷◌, inl, inr, ℕ, List, Option, Some, None, Result, Ok, Err, IfOk, IfErr, refl, sym, ◌∙◌, ap}
+use Rattle.std.specs.Prelude.{⊤, MatchResult}
 use Rattle.taxi_io.specs.Counts.{Rose}
-use Rattle.taxi_io.specs.Files.{Files}
+use Rattle.taxi_io.specs.Files.{Files, BeganMore}
 use Rattle.taxi_io.specs.Written.{Output}
 use Rattle.taxi_io.specs.declared.trouble.Trouble.TheVariants as trouble
 use Rattle.taxi_io.proofs.Pieces.{grew-nothing, handed-nothing}
-use Rattle.airport_file.specs.Reading.{RecordFault}
+use Rattle.program_words.specs.Verb.{FileNames, Route}
 use Rattle.program_files.specs.declared.status.Status.{Status}
 use Rattle.program_files.specs.declared.status.Status.TheVariants.{Done, AirportRefused, ReadFault, Memory, TooLarge}
 use Rattle.program_files.specs.Call.{Call}
+use Rattle.program_files.specs.Inputs.{IsRunInOrder}
 use Rattle.program_files.specs.LastLine.{EndsWith}
 use Rattle.program_files.specs.Lines.{read_fault_line, too_large_line, refusal_line}
 use Rattle.program_files.proofs.EndingLaws.{last-ends_as}
 use Rattle.program_files.specs.declared.stop.Stop.{Stop}
 use Rattle.program_files.specs.declared.stop.Stop.TheVariants as stop
-use Rattle.program_files.specs.Stops.{StopsWith}
-use Rattle.tool_words.specs.declared.words.Verb.{Verb as LentVerb}
-use Rattle.tool_words.specs.LentWords.{asked_for, asked_as}
-use Rattle.tool_words.specs.Verb.{Verb, Graph, Lint, Plan, Figures, Checkpoint, Json, asked_by}
-use Rattle.taxi_tools.specs.Reads.{IsRefused, IsTooLarge, IsCauseFor, IsReadEnd}
+use Rattle.program_files.specs.Stops.{IsCause, IsCauseOfAirport, StopsWith}
+use Rattle.tool_words.specs.declared.words.AirportTool.{AirportTool}
+use Rattle.tool_words.specs.declared.words.RunTool.{RunTool}
+use Rattle.tool_words.specs.Verb.{Verb, OfAirport, OfRun, Json}
+use Rattle.taxi_tools.specs.Outcomes.{IsOfAirport, IsOfRun, IsDoneText}
+use Rattle.taxi_tools.specs.Reads.{IsRefused, IsTooLarge}
 use Rattle.taxi_tools.specs.Halts.{IsFaultText, IsLargeText}
 use Rattle.taxi_tools.specs.Endings.{IsDueText, Ends, IsInOnePiece}
 use Rattle.taxi_tools.specs.Handed.{IsHandedOver}
+use Rattle.taxi_tools.specs.CarriedOut.{IsCarriedOut}
 
 -- the verbs whose files are read whole before anything is written
 abbrev pub ReadsWhole : Verb → Type 0
@@ -31,60 +34,44 @@ ReadsWhole asked = ⊤
 
 -- ---- what stops the reading
 
-refused-is : (told : Option Files) (asked : Verb) (reads : ℕ × ℕ) (fault : RecordFault)
-    → IsCauseFor told asked reads (stop.Refused fault.at fault.why) → IsRefused told asked (record { at = fault.at; why = fault.why })
-refused-is told (Graph airport) reads fault cause = cause
-refused-is told (Lint airport) reads fault cause = cause
-refused-is told (Plan names start) reads fault cause = cause
-refused-is told (Figures names) reads fault cause = cause
-refused-is told (Checkpoint names) reads fault cause = cause
-refused-is told (Json names) reads fault cause = cause
+-- what is true where the reading is stopped
+abbrev pub IsCauseFor : Option Files → Verb → ℕ × ℕ → Stop → Type 0
+IsCauseFor told asked reads (stop.Refused at why) = IsRefused told asked (record { at = at; why = why })
+IsCauseFor told asked reads stop.ReadFault = Rose reads.0 reads.1
+IsCauseFor told asked reads stop.TooLarge = IsTooLarge told asked
+IsCauseFor told asked reads stop.Memory = ⊤
 
-fault-is : (told : Option Files) (asked : Verb) (reads : ℕ × ℕ) → IsCauseFor told asked reads stop.ReadFault → Rose reads.0 reads.1
-fault-is told (Graph airport) reads cause = cause
-fault-is told (Lint airport) reads cause = cause
-fault-is told (Plan names start) reads cause = cause
-fault-is told (Figures names) reads cause = cause
-fault-is told (Checkpoint names) reads cause = cause
-fault-is told (Json names) reads cause = cause
+airport-cause : (told : Option Files) (airport : List ℕ) (tool : AirportTool) (reads : ℕ × ℕ) (why : Stop) → IsCauseOfAirport told airport reads why → IsCauseFor told (OfAirport airport tool) reads why
+airport-cause told airport tool reads (stop.Refused at why) cause = cause
+airport-cause told airport tool reads stop.ReadFault cause = cause
+airport-cause told airport tool reads stop.TooLarge cause = cause
+airport-cause told airport tool reads stop.Memory cause = cause
+
+run-cause : (told : Option Files) (names : FileNames) (tool : RunTool) (reads : ℕ × ℕ) (why : Stop) → IsCause told (Route names) reads why → IsCauseFor told (OfRun names tool) reads why
+run-cause told names tool reads (stop.Refused at why) cause = cause
+run-cause told names tool reads stop.ReadFault cause = cause
+run-cause told names tool reads stop.TooLarge cause = cause
+run-cause told names tool reads stop.Memory cause = cause
 
 fault-text : (told : Option Files) (asked : Verb) → IsFaultText told asked read_fault_line
-fault-text told (Graph airport) = refl
-fault-text told (Lint airport) = refl
-fault-text told (Plan names start) = refl
-fault-text told (Figures names) = refl
-fault-text told (Checkpoint names) = refl
+fault-text told (OfAirport airport tool) = refl
+fault-text told (OfRun names tool) = refl
 fault-text told (Json names) = inl refl
 
-large-is : (told : Option Files) (asked : Verb) (reads : ℕ × ℕ) → IsCauseFor told asked reads stop.TooLarge → IsTooLarge told asked
-large-is told (Graph airport) reads cause = cause
-large-is told (Lint airport) reads cause = cause
-large-is told (Plan names start) reads cause = cause
-large-is told (Figures names) reads cause = cause
-large-is told (Checkpoint names) reads cause = cause
-large-is told (Json names) reads cause = cause
-
 large-text : (told : Option Files) (asked : Verb) → ReadsWhole asked → IsTooLarge told asked → IsLargeText told asked too_large_line
-large-text told (Graph airport) whole large = (large, refl)
-large-text told (Lint airport) whole large = (large, refl)
-large-text told (Plan names start) whole large = (large, refl)
-large-text told (Figures names) whole large = (large, refl)
-large-text told (Checkpoint names) whole large = (large, refl)
+large-text told (OfAirport airport tool) whole large = (large, refl)
+large-text told (OfRun names tool) whole large = (large, refl)
 large-text told (Json names) whole large = absurd whole
 
 stop-ends : (call : Call) (asked : Verb) (why : Stop) (ended : Status) → ReadsWhole asked → IsCauseFor call.files asked call.reads why → StopsWith why call.writes call.taken ended → Ends call (Some asked) ended
 stop-ends call asked (stop.Refused at why) ended reads_whole cause stops =
     last-ends_as (IsDueText call (Some asked)) call.writes call.taken AirportRefused (refusal_line (record { at = at; why = why })) _ ended
-    (record { at = at; why = why }, refused-is call.files asked call.reads (record { at = at; why = why }) cause, refl) refl stops (λ whole. whole)
+    (record { at = at; why = why }, cause, refl) refl stops (λ whole. whole)
 stop-ends call asked stop.ReadFault ended reads_whole cause stops =
-    last-ends_as (IsDueText call (Some asked)) call.writes call.taken ReadFault read_fault_line _ ended (fault-is call.files asked call.reads cause, fault-text call.files asked) refl stops (λ whole. whole)
+    last-ends_as (IsDueText call (Some asked)) call.writes call.taken ReadFault read_fault_line _ ended (cause, fault-text call.files asked) refl stops (λ whole. whole)
 stop-ends call asked stop.TooLarge ended reads_whole cause stops =
-    last-ends_as (IsDueText call (Some asked)) call.writes call.taken TooLarge too_large_line _ ended (large-text call.files asked reads_whole (large-is call.files asked call.reads cause)) refl stops (λ whole. whole)
+    last-ends_as (IsDueText call (Some asked)) call.writes call.taken TooLarge too_large_line _ ended (large-text call.files asked reads_whole cause) refl stops (λ whole. whole)
 stop-ends call asked stop.Memory ended reads_whole cause stops = rw stops.0 (inl (rw stops.1 (grew-nothing call.taken.0)))
-
-pub read-ends : (call : Call) (asked : Verb) (ended : Status) → ReadsWhole asked → IsReadEnd call asked ended → Ends call (Some asked) ended
-read-ends call asked ended reads_whole (inl (why, cause, stops)) = stop-ends call asked why ended reads_whole cause stops
-read-ends call asked ended reads_whole (inr (text, is, ends)) = last-ends_as (IsDueText call (Some asked)) call.writes call.taken Done text text ended is refl ends (λ whole. whole)
 
 -- ---- one piece
 
@@ -108,11 +95,8 @@ nothing-in_one call asked ended memory nothing = record {
 -- in whichever pieces the output is to be handed over
 pub nothing-handed : (call : Call) (asked : Option Verb) (ended : Status) → ended ≡ Memory → call.taken.1 ≡ call.taken.0 → IsHandedOver call asked ended
 nothing-handed call None ended memory nothing = nothing-in_one call None ended memory nothing
-nothing-handed call (Some (Graph airport)) ended memory nothing = nothing-in_one call (Some (Graph airport)) ended memory nothing
-nothing-handed call (Some (Lint airport)) ended memory nothing = nothing-in_one call (Some (Lint airport)) ended memory nothing
-nothing-handed call (Some (Plan names start)) ended memory nothing = nothing-in_one call (Some (Plan names start)) ended memory nothing
-nothing-handed call (Some (Figures names)) ended memory nothing = nothing-in_one call (Some (Figures names)) ended memory nothing
-nothing-handed call (Some (Checkpoint names)) ended memory nothing = nothing-in_one call (Some (Checkpoint names)) ended memory nothing
+nothing-handed call (Some (OfAirport airport tool)) ended memory nothing = nothing-in_one call (Some (OfAirport airport tool)) ended memory nothing
+nothing-handed call (Some (OfRun names tool)) ended memory nothing = nothing-in_one call (Some (OfRun names tool)) ended memory nothing
 nothing-handed call (Some (Json names)) ended memory nothing = record {
   texts = [] ∷ [];
   are = inl ([], refl);
@@ -127,27 +111,48 @@ stop-in_one call asked stop.TooLarge ended stops = written-in_one call asked Too
 stop-in_one call asked stop.Memory ended stops = nothing-in_one call asked ended stops.0 stops.1
 
 one-handed : (call : Call) (asked : Verb) (ended : Status) → ReadsWhole asked → IsInOnePiece call (Some asked) ended → IsHandedOver call (Some asked) ended
-one-handed call (Graph airport) ended reads_whole one = one
-one-handed call (Lint airport) ended reads_whole one = one
-one-handed call (Plan names start) ended reads_whole one = one
-one-handed call (Figures names) ended reads_whole one = one
-one-handed call (Checkpoint names) ended reads_whole one = one
+one-handed call (OfAirport airport tool) ended reads_whole one = one
+one-handed call (OfRun names tool) ended reads_whole one = one
 one-handed call (Json names) ended reads_whole one = absurd reads_whole
 
-pub read-in_one : (call : Call) (asked : Verb) (ended : Status) → IsReadEnd call asked ended → IsInOnePiece call (Some asked) ended
-read-in_one call asked ended (inl (why, cause, stops)) = stop-in_one call (Some asked) why ended stops
-read-in_one call asked ended (inr (text, is, ends)) = written-in_one call (Some asked) Done text ended ends (λ e. is)
+-- ---- a whole output, or what stopped it
 
--- ---- what the words ask for
+-- a text that is due is written, or the line that says why there is none: how the call ends, and in which pieces it handed over
+whole-ends : {Text : Type 0} (text : Text → List ℕ) (call : Call) (asked : Verb) (output : Result Text Stop) (ended : Status) → ReadsWhole asked
+    → IfOk output (λ t. IsDoneText call.files asked (text t)) → IfErr output (IsCauseFor call.files asked call.reads)
+    → MatchResult output (λ t. EndsWith (text t) Done call.writes call.taken ended) (λ why. StopsWith why call.writes call.taken ended)
+    → Ends call (Some asked) ended × IsHandedOver call (Some asked) ended
+whole-ends text call asked (Ok t) ended whole done cause ends = (
+  last-ends_as (IsDueText call (Some asked)) call.writes call.taken Done (text t) (text t) ended done refl ends (λ whole. whole),
+  one-handed call asked ended whole (written-in_one call (Some asked) Done (text t) ended ends (λ e. done)),
+)
+whole-ends text call asked (Err why) ended whole done cause stops = (
+  stop-ends call asked why ended whole cause stops,
+  one-handed call asked ended whole (stop-in_one call (Some asked) why ended stops),
+)
 
-pub asked-is : (words : List (List ℕ)) (lent : LentVerb) (asked : Verb) → asked_as (Some lent) ≡ asked_by words → asked_for lent ≡ asked → Some asked ≡ asked_by words
-asked-is words lent asked by same = ap (λ (a : Verb). Some a) (sym same) ∙ by
+pub airport-carried : {Text : Type 0} (text : Text → List ℕ) (call : Call) (airport : List ℕ) (tool : AirportTool) (tried : List (List ℕ) × List (List ℕ)) (output : Result Text Stop) (ended : Status)
+    → IfOk output (λ t. IsOfAirport call.files airport tool (text t)) → IfErr output (IsCauseOfAirport call.files airport call.reads)
+    → BeganMore tried.0 tried.1 (airport ∷ []) → call.reads.0 ≤ call.reads.1 → call.writes.0 ≤ call.writes.1
+    → MatchResult output (λ t. EndsWith (text t) Done call.writes call.taken ended) (λ why. StopsWith why call.writes call.taken ended)
+    → IsCarriedOut call (OfAirport airport tool) tried ended
+airport-carried text call airport tool tried output ended done cause order reads writes ends =
+    let both = whole-ends text call (OfAirport airport tool) output ended tt done (caused output cause) ends in
+    record { ends = both.0; handed = both.1; order = order; reads_later = reads; writes_later = writes }
+  where
+    caused : {T : Type 0} (output : Result T Stop) → IfErr output (IsCauseOfAirport call.files airport call.reads) → IfErr output (IsCauseFor call.files (OfAirport airport tool) call.reads)
+    caused (Ok t) cause = tt
+    caused (Err why) cause = airport-cause call.files airport tool call.reads why cause
 
-pub asked-ends : (call : Call) (words : List (List ℕ)) (lent : LentVerb) (asked : Verb) (ended : Status)
-    → asked_as (Some lent) ≡ asked_by words → asked_for lent ≡ asked → ReadsWhole asked → IsReadEnd call asked ended → Ends call (asked_by words) ended
-asked-ends call words lent asked ended by same reads_whole end = subst (λ (o : Option Verb). Ends call o ended) (asked-is words lent asked by same) (read-ends call asked ended reads_whole end)
-
-pub asked-in_one : (call : Call) (words : List (List ℕ)) (lent : LentVerb) (asked : Verb) (ended : Status)
-    → asked_as (Some lent) ≡ asked_by words → asked_for lent ≡ asked → ReadsWhole asked → IsReadEnd call asked ended → IsHandedOver call (asked_by words) ended
-asked-in_one call words lent asked ended by same reads_whole end =
-    subst (λ (o : Option Verb). IsHandedOver call o ended) (asked-is words lent asked by same) (one-handed call asked ended reads_whole (read-in_one call asked ended end))
+pub run-carried : {Text : Type 0} (text : Text → List ℕ) (call : Call) (names : FileNames) (tool : RunTool) (tried : List (List ℕ) × List (List ℕ)) (output : Result Text Stop) (ended : Status)
+    → IfOk output (λ t. IsOfRun call.files names tool (text t)) → IfErr output (IsCause call.files (Route names) call.reads)
+    → IsRunInOrder call.files names tried.0 tried.1 → call.reads.0 ≤ call.reads.1 → call.writes.0 ≤ call.writes.1
+    → MatchResult output (λ t. EndsWith (text t) Done call.writes call.taken ended) (λ why. StopsWith why call.writes call.taken ended)
+    → IsCarriedOut call (OfRun names tool) tried ended
+run-carried text call names tool tried output ended done cause order reads writes ends =
+    let both = whole-ends text call (OfRun names tool) output ended tt done (caused output cause) ends in
+    record { ends = both.0; handed = both.1; order = order; reads_later = reads; writes_later = writes }
+  where
+    caused : {T : Type 0} (output : Result T Stop) → IfErr output (IsCause call.files (Route names) call.reads) → IfErr output (IsCauseFor call.files (OfRun names tool) call.reads)
+    caused (Ok t) cause = tt
+    caused (Err why) cause = run-cause call.files names tool call.reads why cause

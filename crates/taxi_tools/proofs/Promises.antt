@@ -1,11 +1,15 @@
--- What a call promises where memory runs out before its words are known.
-use Rattle.std.proofs.Common.{◌≡◌, ◌≤◌, inl, inr, ℕ, List, Option, refl}
+-- What a call promises where memory runs out before its words are known, and where what they ask for is carried out.
+use Rattle.std.proofs.Common.{◌≡◌, ◌≤◌, inl, inr, ℕ, List, Option, Some, refl, subst}
 use Rattle.taxi_io.proofs.Pieces.{grew-nothing}
+use Rattle.program_files.specs.declared.status.Status.{Status}
 use Rattle.program_files.specs.declared.status.Status.TheVariants.{Memory}
 use Rattle.program_files.specs.Call.{Call}
 use Rattle.tool_words.specs.Verb.{Verb}
 use Rattle.taxi_tools.specs.Exit.{KeepsPromises}
+use Rattle.taxi_tools.specs.Order.{IsInOrder}
+use Rattle.taxi_tools.specs.CarriedOut.{IsCarriedOut}
 use Rattle.taxi_tools.proofs.EndingLaws.{nothing-handed}
+use Rattle.taxi_tools.proofs.DueLaws.{due-is}
 
 pub no-words : (call : Call) (asked : Option Verb) (tried : List (List ℕ)) (Unread : Type 0) → Unread → call.taken.1 ≡ call.taken.0
     → call.reads.0 ≤ call.reads.1 → call.writes.0 ≤ call.writes.1 → KeepsPromises call asked (tried, tried) Unread Memory
@@ -19,3 +23,21 @@ no-words call asked tried Unread unread nothing reads writes = record {
   reads_later = reads;
   writes_later = writes;
 }
+
+-- what words of a form ask for is carried out
+pub promised : (call : Call) (asked : Verb) (tried : List (List ℕ) × List (List ℕ)) (Unread : Type 0) (ended : Status) (words : Option Verb) → Some asked ≡ words
+    → IsCarriedOut call asked tried ended → KeepsPromises call words tried Unread ended × IsInOrder call.files words tried.0 tried.1
+promised call asked tried Unread ended words same carried =
+    subst (λ (o : Option Verb). KeepsPromises call o tried Unread ended × IsInOrder call.files o tried.0 tried.1) same (
+      record {
+        ends = carried.ends;
+        usage = λ none. absurd (cc none);
+        unread = λ none. absurd (cc none);
+        complete = λ files told no_read no_write. due-is call files (Some asked) ended told carried.ends no_read no_write;
+        handed = carried.handed;
+        order = inl carried.order;
+        reads_later = carried.reads_later;
+        writes_later = carried.writes_later;
+      },
+      carried.order,
+    )

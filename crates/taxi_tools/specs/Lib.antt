@@ -7,4 +7,5 @@ pub mod RunEnds
 pub mod Endings
 pub mod Due
 pub mod Order
+pub mod CarriedOut
 pub mod Exit

@@ -6,59 +6,51 @@ use Rattle.taxi_text.specs.Lines.{commands_of}
 use Rattle.taxi_io.specs.Files.{Files}
 use Rattle.airport_graph.specs.Graph.{graph_text}
 use Rattle.airport_lint.specs.Text.{IsAdviceText}
+use Rattle.certificate.specs.declared.block.Block.{Block}
 use Rattle.command_run.specs.Supplied.{IsSuppliedRun}
 use Rattle.plan_table.specs.Plan.{IsPlan}
 use Rattle.checkpoint_file.specs.Lines.{checkpoint_text}
 use Rattle.run_figures.specs.Figures.{IsFigures}
 use Rattle.program_words.specs.Verb.{FileNames}
 use Rattle.program_files.specs.Inputs.{IsJudged, AreAccepted}
-use Rattle.tool_words.specs.Verb.{Verb, Graph, Lint, Plan, Figures, Checkpoint, Json}
+use Rattle.tool_words.specs.declared.words.AirportTool.{AirportTool}
+use Rattle.tool_words.specs.declared.words.AirportTool.TheVariants.{Graph, Lint}
+use Rattle.tool_words.specs.declared.words.RunTool.{RunTool}
+use Rattle.tool_words.specs.declared.words.RunTool.TheVariants.{Plan, Figures, Checkpoint}
+use Rattle.tool_words.specs.Verb.{Verb, OfAirport, OfRun, Json}
 use Rattle.taxi_tools.specs.Objects.{AreObjects}
 
--- the graph of an airport that is accepted
-pub record IsGraphed (told : Option Files) (name text : List ℕ) : Type 0 where
+-- what a tool writes of an airport: the airport as a graph, or what is odd about it
+abbrev pub IsAirportText : Airport → AirportTool → List ℕ → Type 0
+IsAirportText airport Graph text = text ≡ graph_text airport
+IsAirportText airport Lint text = IsAdviceText airport text
+
+-- What a tool writes after a run with these blocks that leaves this in force: the plan of it, the figures of the run, or what is in force as a
+-- command file.
+abbrev pub IsTextAfter : Airport → List Block → State → RunTool → List ℕ → Type 0
+IsTextAfter airport blocks after (Plan start) text = IsPlan airport after start text
+IsTextAfter airport blocks after Figures text = IsFigures airport blocks after text
+IsTextAfter airport blocks after Checkpoint text = text ≡ checkpoint_text airport after
+
+-- what a tool writes of a run over all commands, in which memory ran out for none of them
+abbrev pub IsRunText : Airport → List (List ℕ) → RunTool → List ℕ → Type 0
+IsRunText airport commands tool text = (after : State) × (run : IsSuppliedRun airport commands after) × IsTextAfter airport run.blocks after tool text
+
+-- what a tool writes of an airport that is accepted
+pub record IsOfAirport (told : Option Files) (name : List ℕ) (tool : AirportTool) (text : List ℕ) : Type 0 where
   pub airport : Airport
   pub accepted : IsJudged told name (Ok airport)
-  pub whole : text ≡ graph_text airport
+  pub whole : IsAirportText airport tool text
 
--- what is odd about an airport that is accepted
-pub record IsLinted (told : Option Files) (name text : List ℕ) : Type 0 where
-  pub airport : Airport
-  pub accepted : IsJudged told name (Ok airport)
-  pub advice : IsAdviceText airport text
-
--- The plan of what is in force after all commands, at an airport that is accepted. Memory ran out for none of the commands.
-pub record IsPlanned (told : Option Files) (names : FileNames) (start : Option (List ℕ)) (text : List ℕ) : Type 0 where
+-- what a tool writes of the run over a command file, at an airport that is accepted
+pub record IsOfRun (told : Option Files) (names : FileNames) (tool : RunTool) (text : List ℕ) : Type 0 where
   pub airport : Airport
   pub commands : List ℕ
   pub accepted : AreAccepted told names airport commands
-  pub after : State
-  pub run : IsSuppliedRun airport (commands_of commands) after
-  pub plan : IsPlan airport after start text
-
--- The figures of the run over all commands, at an airport that is accepted. Memory ran out for none of the commands.
-pub record IsFigured (told : Option Files) (names : FileNames) (text : List ℕ) : Type 0 where
-  pub airport : Airport
-  pub commands : List ℕ
-  pub accepted : AreAccepted told names airport commands
-  pub after : State
-  pub run : IsSuppliedRun airport (commands_of commands) after
-  pub figures : IsFigures airport run.blocks after text
-
--- The checkpoint of what is in force after all commands, at an airport that is accepted. Memory ran out for none of the commands.
-pub record IsCheckpointed (told : Option Files) (names : FileNames) (text : List ℕ) : Type 0 where
-  pub airport : Airport
-  pub commands : List ℕ
-  pub accepted : AreAccepted told names airport commands
-  pub after : State
-  pub run : IsSuppliedRun airport (commands_of commands) after
-  pub whole : text ≡ checkpoint_text airport after
+  pub whole : IsRunText airport (commands_of commands) tool text
 
 -- the whole output, where all goes well
 abbrev pub IsDoneText : Option Files → Verb → List ℕ → Type 0
-IsDoneText told (Graph airport) text = IsGraphed told airport text
-IsDoneText told (Lint airport) text = IsLinted told airport text
-IsDoneText told (Plan names start) text = IsPlanned told names start text
-IsDoneText told (Figures names) text = IsFigured told names text
-IsDoneText told (Checkpoint names) text = IsCheckpointed told names text
+IsDoneText told (OfAirport airport tool) text = IsOfAirport told airport tool text
+IsDoneText told (OfRun names tool) text = IsOfRun told names tool text
 IsDoneText told (Json names) text = AreObjects told names text

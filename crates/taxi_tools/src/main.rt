@@ -10,14 +10,11 @@ ghost use Rattle.program_words.specs.Given.{words_given};
 ghost use Rattle.tool_words.specs.Verb.{IsNamed, asked_by};
 ghost use Rattle.taxi_tools.specs.Exit.{KeepsPromises};
 
-mod checkpoints;
-mod graphs;
-mod lints;
+mod airport_tools;
 mod object_teller;
 mod objects;
-mod plans;
 mod reply_counter;
-mod sums;
+mod run_tools;
 #[cfg(test)]
 mod tests;
 pub mod top;

@@ -3,14 +3,17 @@ ghost use Rattle.std.specs.Prelude.{◌≡◌, [], List, IfOk};
 ghost use Rattle.taxi_base.specs.State.{no_holder};
 ghost use Rattle.certificate.specs.declared.block.Block.{Block};
 ghost use Rattle.run_figures.specs.Counts.{AreCounts};
-ghost use Rattle.run_figures.specs.Figures.{IsFigures};
+ghost use Rattle.taxi_tools.specs.Outcomes.{IsTextAfter};
 
 use airport_file::Airport;
+use checkpoint_file::write_checkpoint;
 use command_run::{Keeper, answer_with_memory};
+use plan_table::write_plan;
 use run_figures::{ReplyCounts, write_figures};
 use std::alloc::Global;
 use taxi_base::Memory;
 use taxi_engine::Engine;
+use tool_words::RunTool;
 
 /// An engine, whose replies are counted.
 #[derive(Drop)]
@@ -25,22 +28,27 @@ impl ReplyCounter {
     pub(crate) fn new(alloc: Global, airport: Airport) -> Result<ReplyCounter, Memory>
         ensures airport { IfOk result (λ counter. counter.engine.airport ≡ airport) }
         ensures fresh { IfOk result (λ counter. counter.engine.state ≡ no_holder) }
-        ensures none { IfOk result (λ counter. AreCounts airport [] counter.counts) }
+        ensures none { IfOk result (λ counter. AreCounts counter.engine.airport [] counter.counts) }
     {
+        let counts = ReplyCounts::new(alloc)?;
         let engine = Engine::new(alloc, airport)?;
         Ok(ReplyCounter {
             alloc,
             engine,
-            counts: ReplyCounts::new(alloc)?,
+            counts,
         })
     }
 
-    /// The figures of the run so far.
-    pub(crate) fn figures(&self) -> Result<Vec<u8>, Memory>
-        ensures { (blocks : List Block) → AreCounts self.now.engine.airport blocks self.now.counts → IfOk result (λ text. IsFigures self.now.engine.airport blocks self.now.engine.state text.items) }
+    /// What a tool writes after the replies that are counted. The only error is that memory ran out.
+    pub(crate) fn text(&self, tool: &RunTool) -> Result<Vec<u8>, Memory>
+        ensures { (blocks : List Block) → AreCounts self.now.engine.airport blocks self.now.counts → IfOk result (λ text. IsTextAfter self.now.engine.airport blocks self.now.engine.state tool.now text.items) }
     {
-        let airport = self.engine.airport();
-        write_figures(self.alloc, airport, &self.counts, self.engine.ledger())
+        let (airport, ledger) = (self.engine.airport(), self.engine.ledger());
+        match tool {
+            RunTool::Plan { start } => write_plan(self.alloc, airport, ledger, start),
+            RunTool::Figures => write_figures(self.alloc, airport, &self.counts, ledger),
+            RunTool::Checkpoint => write_checkpoint(self.alloc, airport, ledger),
+        }
     }
 }
 

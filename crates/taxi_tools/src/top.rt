@@ -1,21 +1,22 @@
 //! The call that the program makes.
-ghost use Rattle.std.specs.Prelude.{◌≡◌, ◌⊎◌, ◌≤◌, ℕ, List, map, string_bytes, Some, None};
+ghost use Rattle.std.specs.Prelude.{◌≡◌, ◌⊎◌, ◌≤◌, ℕ, List, map, string_bytes, Some, None, MatchResult};
 ghost use Rattle.taxi_io.specs.Counts.{Rose};
 ghost use Rattle.taxi_io.specs.Files.{Files};
 ghost use Rattle.program_files.specs.Call.{call_of};
+ghost use Rattle.program_files.specs.LastLine.{EndsWith};
+ghost use Rattle.program_files.specs.Stops.{StopsWith};
 ghost use Rattle.tool_words.specs.Verb.{IsNamed, asked_by};
+ghost use Rattle.tool_words.specs.LentWords.{asked_for};
 ghost use Rattle.taxi_tools.specs.Due.{IsDueOf};
 ghost use Rattle.taxi_tools.specs.Endings.{Ends};
 ghost use Rattle.taxi_tools.specs.Handed.{IsHandedOver};
 ghost use Rattle.taxi_tools.specs.Order.{IsInOrder};
+ghost use Rattle.taxi_tools.specs.CarriedOut.{IsCarriedOut};
 
-use crate::checkpoints::checkpoint;
-use crate::graphs::graph;
-use crate::lints::lint;
+use crate::airport_tools::output_of_airport;
 use crate::objects::json;
-use crate::plans::plan;
-use crate::sums::figures;
-use program_files::{Status, write_last};
+use crate::run_tools::output_of_run;
+use program_files::{Status, Stop, write_last, write_stop};
 use std::alloc::Global;
 use taxi_io::{Shelf, Sink};
 use tool_words::{Verb, asked_by, usage_line};
@@ -50,22 +51,43 @@ pub fn tools<S: Shelf, K: Sink>(
     ensures writes_later { K.faults out.old ≤ K.faults out.new }
 {
     match asked_by(words) {
-        Some(Verb::Graph { airport }) => graph(alloc, airport, shelf, out),
-        Some(Verb::Lint { airport }) => lint(alloc, airport, shelf, out),
-        Some(
-            Verb::Plan {
-                airport,
-                commands,
-                start,
-            },
-        ) => plan(alloc, airport, commands, &start, shelf, out),
-        Some(Verb::Figures { airport, commands }) => {
-            figures(alloc, airport, commands, shelf, out)
-        }
-        Some(Verb::Checkpoint { airport, commands }) => {
-            checkpoint(alloc, airport, commands, shelf, out)
-        }
-        Some(Verb::Json { airport, commands }) => json(alloc, airport, commands, shelf, out),
+        Some(asked) => carry_out(alloc, &asked, shelf, out),
         None => write_last(out, usage_line(), Status::Usage),
+    }
+}
+
+// Does what is asked for.
+fn carry_out<S: Shelf, K: Sink>(
+    alloc: Global,
+    asked: &Verb<'_>,
+    shelf: &mut S,
+    out: &mut K,
+) -> Status
+    requires known { (name : List ℕ) → IsNamed (Some (asked_for asked.now)) name → S.knows shelf.old name }
+    ensures { IsCarriedOut (call_of S.files S.faults S.given K.faults K.written (shelf.old, shelf.new) (out.old, out.new)) (asked_for asked.now) (S.tried shelf.old, S.tried shelf.new) result }
+{
+    match asked {
+        Verb::OfAirport { airport, tool } => {
+            write_output(out, output_of_airport(alloc, shelf, airport, *tool))
+        }
+        Verb::OfRun {
+            airport,
+            commands,
+            tool,
+        } => write_output(out, output_of_run(alloc, shelf, airport, commands, tool)),
+        Verb::Json { airport, commands } => json(alloc, airport, commands, shelf, out),
+    }
+}
+
+// Writes a whole output as one piece, or the line that says why there is none.
+fn write_output<K: Sink>(out: &mut K, output: Result<Vec<u8>, Stop>) -> Status
+    ensures ends { MatchResult output
+        (λ text. EndsWith text.items Status.Done (K.faults out.old, K.faults out.new) (K.written out.old, K.written out.new) result)
+        (λ stop. StopsWith stop (K.faults out.old, K.faults out.new) (K.written out.old, K.written out.new) result) }
+    ensures later { K.faults out.old ≤ K.faults out.new }
+{
+    match output {
+        Ok(text) => write_last(out, text.as_slice(), Status::Done),
+        Err(stop) => write_stop(out, stop),
     }
 }

@@ -5,4 +5,4 @@ mod usage;
 mod words;
 
 pub use usage::usage_line;
-pub use words::{Verb, asked_by};
+pub use words::{AirportTool, RunTool, Verb, asked_by};

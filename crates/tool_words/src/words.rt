@@ -5,28 +5,39 @@ ghost use Rattle.tool_words.specs.LentWords.{asked_as};
 
 use civil_times::Start;
 
+/// What is asked of an airport alone.
+#[derive(Clone, Copy)]
+pub enum AirportTool {
+    /// The airport as a graph.
+    Graph,
+    /// What is odd about it.
+    Lint,
+}
+
+/// What is asked of a run whose files are read whole.
+#[derive(Drop)]
+pub enum RunTool {
+    /// The plan that it leaves; with civil times, where a start is given.
+    Plan { start: Option<Start> },
+    /// Its figures.
+    Figures,
+    /// What it leaves in force as a command file.
+    Checkpoint,
+}
+
 /// What words ask for, with the names of the files.
 #[derive(Drop)]
 pub enum Verb<'a> {
-    Graph {
+    OfAirport {
         airport: &'a str,
+        tool: AirportTool,
     },
-    Lint {
-        airport: &'a str,
-    },
-    Plan {
+    OfRun {
         airport: &'a str,
         commands: &'a str,
-        start: Option<Start>,
+        tool: RunTool,
     },
-    Figures {
-        airport: &'a str,
-        commands: &'a str,
-    },
-    Checkpoint {
-        airport: &'a str,
-        commands: &'a str,
-    },
+    /// Each reply of a run as a JSON object, as the lines of the commands come.
     Json {
         airport: &'a str,
         commands: &'a str,
@@ -55,27 +66,29 @@ pub fn asked_by(words: &[String]) -> Option<Verb<'_>>
 fn asked_of_one<'a>(verb: &str, airport: &'a str) -> Option<Verb<'a>>
     ensures { asked_as result ≡ asked_of_one verb.now airport.now }
 {
-    match verb {
-        "graph" => Some(Verb::Graph { airport }),
-        "lint" => Some(Verb::Lint { airport }),
-        _ => None,
-    }
+    let tool = match verb {
+        "graph" => AirportTool::Graph,
+        "lint" => AirportTool::Lint,
+        _ => return None,
+    };
+    Some(Verb::OfAirport { airport, tool })
 }
 
 fn asked_of_two<'a>(verb: &str, airport: &'a str, commands: &'a str) -> Option<Verb<'a>>
     ensures { asked_as result ≡ asked_of_two verb.now airport.now commands.now }
 {
-    match verb {
-        "plan" => Some(Verb::Plan {
-            airport,
-            commands,
-            start: None,
-        }),
-        "figures" => Some(Verb::Figures { airport, commands }),
-        "checkpoint" => Some(Verb::Checkpoint { airport, commands }),
-        "json" => Some(Verb::Json { airport, commands }),
-        _ => None,
-    }
+    let tool = match verb {
+        "plan" => RunTool::Plan { start: None },
+        "figures" => RunTool::Figures,
+        "checkpoint" => RunTool::Checkpoint,
+        "json" => return Some(Verb::Json { airport, commands }),
+        _ => return None,
+    };
+    Some(Verb::OfRun {
+        airport,
+        commands,
+        tool,
+    })
 }
 
 fn asked_of_three<'a>(
@@ -86,16 +99,17 @@ fn asked_of_three<'a>(
 ) -> Option<Verb<'a>>
     ensures { asked_as result ≡ asked_of_three verb.now airport.now commands.now third.now }
 {
-    if verb == "plan" {
-        let start = start_of(third)?;
-        Some(Verb::Plan {
-            airport,
-            commands,
-            start: Some(start),
-        })
-    } else {
-        None
-    }
+    let tool = match verb {
+        "plan" => RunTool::Plan {
+            start: Some(start_of(third)?),
+        },
+        _ => return None,
+    };
+    Some(Verb::OfRun {
+        airport,
+        commands,
+        tool,
+    })
 }
 
 // The start that a word names.
