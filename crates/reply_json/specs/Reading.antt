@@ -22,8 +22,8 @@ word_in _ = []
 
 -- the words under these keys, of those that the object has
 abbrev pub words_at : List (List ℕ) → Data → Words
-words_at [] object = []
-words_at (key ∷ keys) object = word_in (get key object) ++ words_at keys object
+words_at [] shown = []
+words_at (key ∷ keys) shown = word_in (get key shown) ++ words_at keys shown
 
 abbrev pub values_of : Items → List Data
 values_of no_items = []
@@ -35,27 +35,27 @@ values_in _ = []
 
 -- the values of the list under a key, and how many they are
 abbrev pub values_at : List ℕ → Data → List Data
-values_at key object = values_in (get key object)
+values_at key shown = values_in (get key shown)
 
 abbrev pub count_at : List ℕ → Data → List ℕ
-count_at key object = decimal (length (values_at key object))
+count_at key shown = decimal (length (values_at key shown))
 
 -- a line for each value of the list under a key: a word, and then the words under these keys
 abbrev pub rows_at : (list word : List ℕ) → List (List ℕ) → Data → List Words
-rows_at list word keys object = map (λ row. word ∷ words_at keys row) (values_at list object)
+rows_at list word keys shown = map (λ row. word ∷ words_at keys row) (values_at list shown)
 
 -- ---- lines
 
 abbrev pub labels_at : Data → List Words
-labels_at object = rows_at (codes "labels") (codes "label") (codes "arc" ∷ codes "from" ∷ codes "until" ∷ codes "value" ∷ []) object
+labels_at shown = rows_at (codes "labels") (codes "label") (codes "arc" ∷ codes "from" ∷ codes "until" ∷ codes "value" ∷ []) shown
 
 abbrev pub route_at : Data → List Words
-route_at object =
-    (codes "route" ∷ (words_at (codes "flight" ∷ codes "second" ∷ []) object ++ count_at (codes "steps") object ∷ count_at (codes "labels") object ∷ []))
-    ∷ (rows_at (codes "steps") (codes "step") (codes "arc" ∷ codes "enter" ∷ codes "leave" ∷ []) object ++ labels_at object)
+route_at shown =
+    (codes "route" ∷ (words_at (codes "flight" ∷ codes "second" ∷ []) shown ++ count_at (codes "steps") shown ∷ count_at (codes "labels") shown ∷ []))
+    ∷ (rows_at (codes "steps") (codes "step") (codes "arc" ∷ codes "enter" ∷ codes "leave" ∷ []) shown ++ labels_at shown)
 
 abbrev pub no_route_at : Data → List Words
-no_route_at object = (codes "no-route" ∷ count_at (codes "labels") object ∷ []) ∷ labels_at object
+no_route_at shown = (codes "no-route" ∷ count_at (codes "labels") shown ∷ []) ∷ labels_at shown
 
 -- the first word of a reply
 abbrev pub reply_of : Words → List ℕ
@@ -63,41 +63,41 @@ reply_of [] = []
 reply_of (word ∷ words) = word
 
 abbrev pub reply_at : Data → List ℕ
-reply_at object = reply_of (words_at (codes "reply" ∷ []) object)
+reply_at shown = reply_of (words_at (codes "reply" ∷ []) shown)
 
 -- the lines of an entry
 abbrev pub entry_at : Data → List Words
-entry_at object =
-    if bytes_eq (reply_at object) (codes "dropped") then (codes "dropped" ∷ words_at (codes "flight" ∷ []) object) ∷ []
-    else (codes "next" ∷ words_at (codes "flight" ∷ []) object) ∷ (if bytes_eq (reply_at object) (codes "route") then route_at object else no_route_at object)
+entry_at shown =
+    if bytes_eq (reply_at shown) (codes "dropped") then (codes "dropped" ∷ words_at (codes "flight" ∷ []) shown) ∷ []
+    else (codes "next" ∷ words_at (codes "flight" ∷ []) shown) ∷ (if bytes_eq (reply_at shown) (codes "route") then route_at shown else no_route_at shown)
 
 abbrev pub entries_at : Data → List Words
-entries_at object = flat_map entry_at (values_at (codes "entries") object)
+entries_at shown = flat_map entry_at (values_at (codes "entries") shown)
 
 -- a refusal has one line: the word that says why, and of these members those that it has
 abbrev pub refusal_at : Data → Words
-refusal_at object =
-    words_at (codes "why" ∷ codes "end" ∷ codes "start" ∷ codes "leave" ∷ codes "horizon" ∷ codes "step" ∷ codes "cause" ∷ codes "at" ∷ codes "by" ∷ []) object
+refusal_at shown =
+    words_at (codes "why" ∷ codes "end" ∷ codes "start" ∷ codes "leave" ∷ codes "horizon" ∷ codes "step" ∷ codes "cause" ∷ codes "at" ∷ codes "by" ∷ []) shown
 
 -- The lines of a block. The first begins with the word under "reply".
 abbrev pub block_at : Data → List Words
-block_at object =
-    if bytes_eq (reply_at object) (codes "refused") then (codes "refused" ∷ refusal_at object) ∷ []
-    else (if bytes_eq (reply_at object) (codes "filed") then (codes "filed" ∷ words_at (codes "flight" ∷ codes "start" ∷ codes "end" ∷ []) object) ∷ []
-    else (if bytes_eq (reply_at object) (codes "cancelled") then (codes "cancelled" ∷ words_at (codes "flight" ∷ []) object) ∷ []
-    else (if bytes_eq (reply_at object) (codes "route") then route_at object
-    else (if bytes_eq (reply_at object) (codes "no-route") then no_route_at object
-    else (if bytes_eq (reply_at object) (codes "windows") then (codes "windows" ∷ (words_at (codes "segment" ∷ []) object ++ count_at (codes "windows") object ∷ [])) ∷ rows_at (codes "windows") (codes "window") (codes "from" ∷ codes "until" ∷ []) object
-    else (if bytes_eq (reply_at object) (codes "occupancy") then (codes "occupancy" ∷ (words_at (codes "segment" ∷ []) object ++ count_at (codes "held") object ∷ [])) ∷ rows_at (codes "held") (codes "held") (codes "from" ∷ codes "until" ∷ codes "flight" ∷ codes "segment" ∷ []) object
-    else (if bytes_eq (reply_at object) (codes "timetable") then (codes "timetable" ∷ count_at (codes "flights") object ∷ []) ∷ rows_at (codes "flights") (codes "flight") (codes "flight" ∷ codes "kind" ∷ codes "class" ∷ codes "start" ∷ codes "end" ∷ []) object
-    else (if bytes_eq (reply_at object) (codes "batch") then (codes "batch" ∷ count_at (codes "entries") object ∷ words_at (codes "total" ∷ []) object) ∷ entries_at object
-    else (codes "late" ∷ (words_at (codes "flight" ∷ []) object ++ count_at (codes "entries") object ∷ [])) ∷ entries_at object))))))))
+block_at shown =
+    if bytes_eq (reply_at shown) (codes "refused") then (codes "refused" ∷ refusal_at shown) ∷ []
+    else (if bytes_eq (reply_at shown) (codes "filed") then (codes "filed" ∷ words_at (codes "flight" ∷ codes "start" ∷ codes "end" ∷ []) shown) ∷ []
+    else (if bytes_eq (reply_at shown) (codes "cancelled") then (codes "cancelled" ∷ words_at (codes "flight" ∷ []) shown) ∷ []
+    else (if bytes_eq (reply_at shown) (codes "route") then route_at shown
+    else (if bytes_eq (reply_at shown) (codes "no-route") then no_route_at shown
+    else (if bytes_eq (reply_at shown) (codes "windows") then (codes "windows" ∷ (words_at (codes "segment" ∷ []) shown ++ count_at (codes "windows") shown ∷ [])) ∷ rows_at (codes "windows") (codes "window") (codes "from" ∷ codes "until" ∷ []) shown
+    else (if bytes_eq (reply_at shown) (codes "occupancy") then (codes "occupancy" ∷ (words_at (codes "segment" ∷ []) shown ++ count_at (codes "held") shown ∷ [])) ∷ rows_at (codes "held") (codes "held") (codes "from" ∷ codes "until" ∷ codes "flight" ∷ codes "segment" ∷ []) shown
+    else (if bytes_eq (reply_at shown) (codes "timetable") then (codes "timetable" ∷ count_at (codes "flights") shown ∷ []) ∷ rows_at (codes "flights") (codes "flight") (codes "flight" ∷ codes "kind" ∷ codes "class" ∷ codes "start" ∷ codes "end" ∷ []) shown
+    else (if bytes_eq (reply_at shown) (codes "batch") then (codes "batch" ∷ count_at (codes "entries") shown ∷ words_at (codes "total" ∷ []) shown) ∷ entries_at shown
+    else (codes "late" ∷ (words_at (codes "flight" ∷ []) shown ++ count_at (codes "entries") shown ∷ [])) ∷ entries_at shown))))))))
 
 -- ---- texts
 
 -- the text of the block that an object tells of
 unfoldable pub block_text_of : Data → List ℕ
-block_text_of object = lines_text (block_at object)
+block_text_of shown = lines_text (block_at shown)
 
 -- the transcript that the objects of a run give
 abbrev pub transcript_of : List Data → List ℕ
@@ -107,6 +107,6 @@ transcript_of objects = flat_map block_text_of objects ++ done_line (length obje
 abbrev pub TellOf : Airport → List Data → List Block → Type 0
 TellOf airport [] [] = ⊤
 TellOf airport [] (block ∷ blocks) = ⊥
-TellOf airport (object ∷ objects) [] = ⊥
-TellOf airport (object ∷ objects) (block ∷ blocks) =
-    ((command : ℕ) × (line : ℕ) × (text : List ℕ) × (object ≡ command_object airport command line text block)) × TellOf airport objects blocks
+TellOf airport (shown ∷ objects) [] = ⊥
+TellOf airport (shown ∷ objects) (block ∷ blocks) =
+    ((command : ℕ) × (line : ℕ) × (text : List ℕ) × (shown ≡ command_object airport command line text block)) × TellOf airport objects blocks
