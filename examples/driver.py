@@ -3,6 +3,9 @@
 import subprocess
 import sys
 
+# How many numbers at the end of a block's first line say how many lines follow it.
+COUNTS = {"route": 2, "no-route": 1, "windows": 1, "occupancy": 1, "timetable": 1}
+
 
 class Router:
     """A router that runs beside this program and answers a command at a time."""
@@ -12,34 +15,30 @@ class Router:
         self.process = subprocess.Popen(words, stdin=subprocess.PIPE, stdout=subprocess.PIPE, text=True)
 
     def ask(self, command):
-        """The blocks of the answer: one, or for a batch one for each of its flights. A block is its lines, each a list of words."""
+        """The answer's blocks: one, or one for each flight of a `batch` or a `late`. A block is its lines, each a list of words."""
         self.process.stdin.write(command + "\n")
         self.process.stdin.flush()
         first = self.line()
-        if first[0] != "batch":
-            return [self.block(first)]
-        return [self.entry() for _ in range(int(first[1]))]
+        count = {"batch": 1, "late": 2}.get(first[0])
+        return [self.block(first)] if count is None else [self.entry() for _ in range(int(first[count]))]
 
     def entry(self):
-        """The block of the next flight of a batch."""
-        self.line()
-        return self.block(self.line())
+        """The block of the next flight of several. Where there is no route, its first line begins with the flight's name."""
+        named = self.line()
+        if named[0] == "dropped":
+            return [named]
+        first, *rest = self.block(self.line())
+        return [first if first[0] == "route" else named[1:] + first, *rest]
 
     def block(self, first):
-        return [first] + [self.line() for _ in range(lines_after(first))]
+        follow = sum(map(int, first[len(first) - COUNTS.get(first[0], 0) :]))
+        return [first] + [self.line() for _ in range(follow)]
 
     def line(self):
         line = self.process.stdout.readline()
         if not line:
             raise EOFError(f"the router ended with status {self.process.wait()}")
         return line.split()
-
-
-def lines_after(first):
-    """How many lines follow the first line of a block."""
-    counts = {"route": 2, "no-route": 1, "windows": 1, "occupancy": 1, "timetable": 1}
-    numbers = first[len(first) - counts.get(first[0], 0) :]
-    return sum(int(number) for number in numbers)
 
 
 router = Router(sys.argv[1], sys.argv[2])

@@ -22,16 +22,18 @@ class Router:
         return json.loads(line)
 
 
-def told(answer):
-    """What a controller is told of an answer."""
+def said(answer):
+    """What a controller is to know of an answer: a line for each of its flights."""
+    if "entries" in answer:
+        return [line for entry in answer["entries"] for line in said({"words": answer["words"], **entry})]
     if answer["reply"] == "route":
-        return f"{answer['flight']}: at {answer['second']} by {' '.join(step['arc'] for step in answer['steps'])}"
+        return [f"{answer['flight']}: at {answer['second']} by {' '.join(step['arc'] for step in answer['steps'])}"]
     if answer["reply"] == "refused":
-        return f"{answer['words'][0]}: refused, {answer.get('cause', answer['why'])}"
-    return answer["reply"]
+        return [f"{answer['words'][0]}: refused, {answer.get('cause', answer['why'])}"]
+    return [f"{answer['flight']}: {answer['reply']}" if "flight" in answer else answer["reply"]]
 
 
 router = Router(sys.argv[1], sys.argv[2])
 for line in map(str.strip, sys.stdin):
     if line and not line.startswith("#"):
-        print(told(router.ask(line)))
+        print(*said(router.ask(line)), sep="\n")

@@ -37,18 +37,24 @@ class Reply:
 
     @property
     def kind(self) -> str:
-        """`route`, `no-route`, `filed`, `cancelled`, `refused`, `windows`, `occupancy` or `timetable`."""
+        """The first word: `route`, `no-route`, `filed`, `cancelled`, `batch`, `late`, `refused`, `windows`, `occupancy` or `timetable`.
+        An entry may also be `dropped`."""
         return self.words[0]
 
     @property
     def flight(self) -> str | None:
-        """The flight or work party that is routed, filed or cancelled."""
-        return self.words[1] if self.kind in ("route", "filed", "cancelled") else None
+        """The flight or work party that is routed, filed, cancelled, late or dropped."""
+        return self.words[1] if self.kind in ("route", "filed", "cancelled", "late", "dropped") else None
 
     @property
     def second(self) -> int | None:
         """Of a route, when an arrival ends, or when a departure leaves its stand."""
         return int(self.words[2]) if self.kind == "route" else None
+
+    @property
+    def total(self) -> int | None:
+        """What the flights of a `batch` cost together."""
+        return int(self.words[2]) if self.kind == "batch" else None
 
     @property
     def why(self) -> str | None:
@@ -62,10 +68,26 @@ class Reply:
 
     @cached_property
     def steps(self) -> list[Step]:
-        """The steps of a route."""
-        return [Step(row[1], int(row[2]), int(row[3])) for row in self.rows if row[0] == "step"]
+        """The steps of a route. Those of a `batch` or a `late` are in its entries."""
+        return [Step(row[1], int(row[2]), int(row[3])) for row in self._rows_of("step")]
 
     @cached_property
     def labels(self) -> list[Label]:
-        """The table of a route, or of a `no-route`."""
-        return [Label(row[1], int(row[2]), int(row[3]), int(row[4])) for row in self.rows if row[0] == "label"]
+        """The table of a route, or of a `no-route`. Those of a `batch` or a `late` are in its entries."""
+        return [Label(row[1], int(row[2]), int(row[3]), int(row[4])) for row in self._rows_of("label")]
+
+    @cached_property
+    def entries(self) -> list[tuple[str, Reply]]:
+        """Each flight of a `batch` or a `late` in turn, with its reply: a route, a `no-route`, or `dropped FLIGHT`."""
+        found: list[tuple[str, bytes]] = []
+        if self.kind in ("batch", "late"):
+            for line in self.text.splitlines(keepends=True)[1:]:
+                word, flight = line.decode().split(" ", 1)
+                if word in ("next", "dropped"):
+                    found.append((flight.strip(), line if word == "dropped" else b""))
+                else:
+                    found[-1] = found[-1][0], found[-1][1] + line
+        return [(flight, Reply(text)) for flight, text in found]
+
+    def _rows_of(self, word: str) -> list[list[str]]:
+        return [row for row in self.rows if row[0] == word] if self.kind in ("route", "no-route") else []

@@ -1,9 +1,9 @@
-"""Tests of the module over the shared library that RUSBOQAN_LIBRARY names; skipped where there is none."""
+"""Tests of replies, and of engines over the shared library that RUSBOQAN_LIBRARY names. The latter are skipped where there is none."""
 
 import os
 import unittest
 
-from rusboqan import AirportRefused, Engine, Label, Step, version
+from rusboqan import AirportRefused, Engine, Label, Reply, Step, version
 
 AIRPORT = b"""taxi-airport,1
 horizon,3600
@@ -16,6 +16,23 @@ segment,B,J,S,both
 seconds,A,M,30
 seconds,B,M,20
 """
+
+
+class TestReply(unittest.TestCase):
+    def test_batch(self):
+        reply = Reply(b"batch 2 1000050\nnext F2\nno-route 1\nlabel A+ 0 100 30\nnext F1\nroute F1 150 2 0\nstep A+ 100 130\nstep B+ 130 150\n")
+        self.assertEqual((reply.kind, reply.total, reply.flight, reply.steps, reply.labels), ("batch", 1000050, None, [], []))
+        (one, none), (other, route) = reply.entries
+        self.assertEqual((one, none.kind, none.labels), ("F2", "no-route", [Label("A+", 0, 100, 30)]))
+        self.assertEqual((other, route.second, route.steps), ("F1", 150, [Step("A+", 100, 130), Step("B+", 130, 150)]))
+
+    def test_late(self):
+        reply = Reply(b"late F1 2\nnext F1\nroute F1 320 1 0\nstep A+ 100 320\ndropped X1\n")
+        self.assertEqual((reply.kind, reply.flight, reply.total), ("late", "F1", None))
+        self.assertEqual([(flight, entry.kind, entry.flight) for flight, entry in reply.entries], [("F1", "route", "F1"), ("X1", "dropped", "X1")])
+
+    def test_no_entries(self):
+        self.assertEqual(Reply(b"windows A 1\nwindow 0 100\n").entries, [])
 
 
 @unittest.skipUnless("RUSBOQAN_LIBRARY" in os.environ, "RUSBOQAN_LIBRARY names no library")

@@ -11,7 +11,8 @@ use crate::members::judge_conflict;
 use crate::{AirportFault, NotTaken, Plan, Version};
 use std::alloc::Global;
 
-const COUNT: NotTaken = NotTaken::Fault(AirportFault::FieldCount);
+// What a record of any other number of fields is refused for.
+const WRONG_COUNT: NotTaken = NotTaken::Fault(AirportFault::FieldCount);
 
 /// Judges a record after the first by its fields, in a file of this version, and adds what it gives to the plan.
 #[tactic(auto, unfolding(crate::specs::Rules::judge))]
@@ -64,7 +65,7 @@ fn judge_horizon_row(plan: &mut Plan, fields: &[&[u8]]) -> Result<(), NotTaken>
 {
     match fields {
         [number] => judge_horizon(plan, number),
-        _ => Err(COUNT),
+        _ => Err(WRONG_COUNT),
     }
 }
 
@@ -73,7 +74,7 @@ fn judge_node_row(plan: &mut Plan, fields: &[&[u8]]) -> Result<(), NotTaken>
 {
     match fields {
         [name, kind] => judge_node(plan, name, kind),
-        _ => Err(COUNT),
+        _ => Err(WRONG_COUNT),
     }
 }
 
@@ -82,7 +83,7 @@ fn judge_class_row(plan: &mut Plan, fields: &[&[u8]]) -> Result<(), NotTaken>
 {
     match fields {
         [name] => judge_class(plan, name),
-        _ => Err(COUNT),
+        _ => Err(WRONG_COUNT),
     }
 }
 
@@ -91,7 +92,7 @@ fn judge_segment_row(plan: &mut Plan, fields: &[&[u8]]) -> Result<(), NotTaken>
 {
     match fields {
         [name, from, to, direction] => judge_segment(plan, name, from, to, direction),
-        _ => Err(COUNT),
+        _ => Err(WRONG_COUNT),
     }
 }
 
@@ -100,7 +101,7 @@ fn judge_seconds_row(plan: &mut Plan, fields: &[&[u8]]) -> Result<(), NotTaken>
 {
     match fields {
         [segment, class, number] => judge_seconds(plan, segment, class, number),
-        _ => Err(COUNT),
+        _ => Err(WRONG_COUNT),
     }
 }
 
@@ -109,7 +110,7 @@ fn judge_clearance_row(plan: &mut Plan, fields: &[&[u8]]) -> Result<(), NotTaken
 {
     match fields {
         [class, number] => judge_clearance(plan, class, number),
-        _ => Err(COUNT),
+        _ => Err(WRONG_COUNT),
     }
 }
 
@@ -118,7 +119,7 @@ fn judge_forbid_row(plan: &mut Plan, fields: &[&[u8]]) -> Result<(), NotTaken>
 {
     match fields {
         [x, y] => judge_forbid(plan, x, y),
-        _ => Err(COUNT),
+        _ => Err(WRONG_COUNT),
     }
 }
 
@@ -128,6 +129,6 @@ fn judge_conflict_row(alloc: Global, plan: &mut Plan, fields: &[&[u8]]) -> Resul
     if 2 <= fields.len() && fields.len() <= 16 {
         judge_conflict(alloc, plan, fields)
     } else {
-        Err(COUNT)
+        Err(WRONG_COUNT)
     }
 }

@@ -1,5 +1,5 @@
 -- The numbered cells are what a departure's search is asked.
-use Rattle.std.proofs.Common.{◌≡◌, ℕ, zero, suc, ◌+◌, ◌++◌, take, ◌^◌, ◌<◌, ◌&&◌, Bool, true, false, List, [], ◌∷◌, inl, inr, length, get_or, IsTrue, Some, None, cond, sym, ◌∙◌, ap, subst, arith}
+use Rattle.std.proofs.Common.{◌≡◌, ℕ, zero, suc, ◌+◌, ◌++◌, take, ◌^◌, ◌<◌, ◌&&◌, Bool, true, List, [], ◌∷◌, inl, inr, length, get_or, IsTrue, Some, cond, sym, ◌∙◌, ap, subst, arith}
 use Rattle.std.proofs.lemmas.Bool.{and_parts, cond-true}
 use Rattle.std.specs.Prelude.{Contains}
 use Rattle.std.proofs.lemmas.List.{append-nil, append_assoc, get_or_default}
@@ -21,7 +21,7 @@ use Rattle.place_cells.specs.Ground.{Ground, cells_of, run_of_arc, IsSound, arc_
 use Rattle.place_cells.proofs.RunLaws.{usable_parts, in_run_of_arc, run_inside}
 use Rattle.place_cells.proofs.TurnLaws.{entering_arcs-all, some-exists}
 use Rattle.place_cells.proofs.GroundLaws.{turn_parts, turns_inside, in_next_run, in_previous_run, previous_below, run_parts, takes, small_seconds, small_from, small_last, arc_below, cells_in_part}
-use Rattle.backward_search.specs.Departures.{Ending, finish_at, last_arcs, departure_problem}
+use Rattle.backward_search.specs.Departures.{Ending, last_arcs, departure_problem}
 
 -- ---- the finishes
 

@@ -10,10 +10,10 @@ use Rattle.taxi_base.specs.declared.answers.Refusal.TheVariants as refusal
 use Rattle.taxi_base.specs.Airport.{Airport, IsWellFormed}
 use Rattle.taxi_text.specs.Fields.{name_of}
 use Rattle.airport_file.specs.Words.{segment_word}
-use Rattle.certificate.specs.declared.block.Block.{Block}
-use Rattle.certificate.specs.declared.block.Block.TheVariants.{Refused, Filed, Cancelled, Route, NoRoute, Windows, Occupancy, Timetable, Batch, Late}
-use Rattle.certificate.specs.Texts.{line_text, window_words, held_words, flight_words, refusal_words, block_text}
-use Rattle.certificate.specs.Printable.{IsShort, IsName, IsPrintable}
+use Rattle.replies.specs.declared.block.Block.{Block}
+use Rattle.replies.specs.declared.block.Block.TheVariants.{Refused, Filed, Cancelled, Route, NoRoute, Windows, Occupancy, Timetable, Batch, Late}
+use Rattle.replies.specs.Texts.{line_text, window_words, held_words, flight_words, refusal_words, block_text}
+use Rattle.replies.specs.Printable.{IsShort, IsName, IsPrintable}
 use Rattle.block_reader.specs.Fields.{number_of}
 use Rattle.block_reader.specs.Reading.{word_then, word_last}
 use Rattle.block_reader.specs.Blocks.{refused_at, filed_at, cancelled_at, found_at, windows_at, occupancy_at, timetable_at, block_at}

@@ -6,12 +6,12 @@ use Rattle.std.proofs.lemmas.List.Elements.{recursion_from_All, All-from_recursi
 use Rattle.taxi_base.specs.Airport.{Airport, IsWellFormed}
 use Rattle.taxi_text.specs.Fields.{name_of}
 use Rattle.taxi_text.specs.Commands.{is_batch_count}
-use Rattle.certificate.specs.declared.block.Block.{Block}
-use Rattle.certificate.specs.declared.block.Block.TheVariants.{Batch, Late}
-use Rattle.certificate.specs.declared.entries.Entry.{Entry}
-use Rattle.certificate.specs.Texts.{lines_text, entry_lines, block_text}
-use Rattle.certificate.specs.Printable.{IsCount, IsName, IsTold, is_told, IsPrintableEntry, IsPrintable}
-use Rattle.certificate.proofs.ToldEntries.{told-all}
+use Rattle.replies.specs.declared.block.Block.{Block}
+use Rattle.replies.specs.declared.block.Block.TheVariants.{Batch, Late}
+use Rattle.replies.specs.declared.entries.Entry.{Entry}
+use Rattle.replies.specs.Texts.{lines_text, entry_lines, block_text}
+use Rattle.replies.specs.Printable.{IsCount, IsName, IsTold, is_told, IsPrintableEntry, IsPrintable}
+use Rattle.replies.proofs.ToldEntries.{told-all}
 use Rattle.block_reader.specs.Fields.{some_count_of, batch_count_of, total_of}
 use Rattle.block_reader.specs.Reading.{word_then, word_last, rows_at}
 use Rattle.block_reader.specs.Blocks.{batch_of, entry_at, batch_at, late_at}

@@ -6,12 +6,12 @@ use Rattle.taxi_base.specs.declared.rows.Step.{Step}
 use Rattle.taxi_base.specs.declared.rows.LabelRow.{LabelRow}
 use Rattle.taxi_base.specs.Airport.{Airport, IsWellFormed}
 use Rattle.taxi_text.specs.Fields.{name_of}
-use Rattle.certificate.specs.declared.block.Block.{Block}
-use Rattle.certificate.specs.declared.block.Block.TheVariants.{Refused, Filed, Cancelled, Route, NoRoute, Windows, Occupancy, Timetable, Batch, Late}
-use Rattle.certificate.specs.declared.entries.Entry.{Entry}
-use Rattle.certificate.specs.declared.entries.Entry.TheVariants as entry
-use Rattle.certificate.specs.Texts.{lines_text, entry_lines, block_text}
-use Rattle.certificate.specs.Printable.{IsName, IsPrintableEntry, IsPrintable}
+use Rattle.replies.specs.declared.block.Block.{Block}
+use Rattle.replies.specs.declared.block.Block.TheVariants.{Refused, Filed, Cancelled, Route, NoRoute, Windows, Occupancy, Timetable, Batch, Late}
+use Rattle.replies.specs.declared.entries.Entry.{Entry}
+use Rattle.replies.specs.declared.entries.Entry.TheVariants as entry
+use Rattle.replies.specs.Texts.{lines_text, entry_lines, block_text}
+use Rattle.replies.specs.Printable.{IsName, IsPrintableEntry, IsPrintable}
 use Rattle.block_reader.specs.Reading.{word_last}
 use Rattle.block_reader.specs.Blocks.{found_at, entry_of, told_at, entry_at}
 use Rattle.block_reader.proofs.Spellings.{some-both, some-map, Takes, IsSpelling, last-spelling, after-takes, made-takes, either-takes}

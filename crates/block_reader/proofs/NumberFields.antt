@@ -8,7 +8,7 @@ use Rattle.std.proofs.lemmas.Bool.Decides.{nat_tests}
 use Rattle.std.proofs.lemmas.List.{length-take, get_or-take, take-take, get_or_at, get_or_append_left, get_or_past}
 use Rattle.std.proofs.lemmas.Str.Parse.{digits_value_short}
 use Rattle.block_reader.specs.Fields.{is_decimal, number_of}
-use Rattle.block_reader.specs.Fronts.{IsSeparator, worth, worth_of_four, worth_of_five, front_number}
+use Rattle.block_reader.specs.Fronts.{IsSeparator, worth, worth_of_four, worth_of_five, worth_of_six, front_number}
 use Rattle.block_reader.specs.Reading.{word_at, field_at}
 use Rattle.block_reader.proofs.Pieces.{word-found, word-takes}
 use Rattle.block_reader.proofs.Decimals.{numerals, is_decimal-parts, IsReadSoFar, not_all_digits, next_digit}
@@ -109,14 +109,14 @@ module _ (last : ℕ) (bytes : List ℕ) (place number : ℕ) (few : place < 8) 
         ahead = before-more last bytes place before (grind (arith, high, separates.1));
       }
 
--- ---- four digits or five, read at once
+-- ---- four digits, five or six, read at once
 
-is_digit : (b : Bool) (value : ℕ) → cond b value 100000 < 100000 → (b ≡ true) × (cond b value 100000 ≡ value)
+is_digit : (b : Bool) (value : ℕ) → cond b value 1000000 < 1000000 → (b ≡ true) × (cond b value 1000000 ≡ value)
 is_digit true value small = (refl, refl)
 is_digit false value small = absurd (omega (arith, small))
 
 -- what is worth little is a digit
-worth-digit : (byte : ℕ) → worth byte < 100000 → (is_ascii_digit byte ≡ true) × (worth byte ≡ byte - 48)
+worth-digit : (byte : ℕ) → worth byte < 1000000 → (is_ascii_digit byte ≡ true) × (worth byte ≡ byte - 48)
 unfolding worth
 worth-digit byte small = is_digit (is_ascii_digit byte) (byte - 48) small
 
@@ -124,9 +124,14 @@ pub front-four : (last number : ℕ) (front : List ℕ) → get_or front 4 0 ≡
 unfolding front_number
 front-four last number front here is = rw (eq-eqb _ _ here, is) refl
 
-pub front-five : (last number : ℕ) (front : List ℕ) → get_or front 4 0 ≢ last → number ≡ worth_of_five front → ◌≡◌ {A = ℕ × ℕ} (number, 5) (front_number last front)
+pub front-five : (last number : ℕ) (front : List ℕ) → get_or front 4 0 ≢ last → get_or front 5 0 ≡ last → number ≡ worth_of_five front → ◌≡◌ {A = ℕ × ℕ} (number, 5) (front_number last front)
 unfolding front_number
-front-five last number front other is = rw (false_from_ne_true _ (λ e. other (eqb-true _ _ e)), is) refl
+front-five last number front other here is = rw (false_from_ne_true _ (λ e. other (eqb-true _ _ e)), eq-eqb _ _ here, is) refl
+
+pub front-six : (last number : ℕ) (front : List ℕ) → get_or front 4 0 ≢ last → get_or front 5 0 ≢ last → number ≡ worth_of_six front → ◌≡◌ {A = ℕ × ℕ} (number, 6) (front_number last front)
+unfolding front_number
+front-six last number front other next is =
+    rw (false_from_ne_true _ (λ e. other (eqb-true _ _ e)), false_from_ne_true _ (λ e. next (eqb-true _ _ e)), is) refl
 
 module _ (last : ℕ) (bytes : List ℕ) (separates : IsSeparator last) where
   -- the first so many bytes are digits, of this value
@@ -134,7 +139,7 @@ module _ (last : ℕ) (bytes : List ℕ) (separates : IsSeparator last) where
     before : IsBefore last bytes count
     read : IsReadSoFar bytes count number
 
-  digit-more : (place number : ℕ) → place < 8 → IsDigits place number → worth (get_or bytes place 0) < 100000 → IsDigits (place + 1) (number * 10 + worth (get_or bytes place 0))
+  digit-more : (place number : ℕ) → place < 8 → IsDigits place number → worth (get_or bytes place 0) < 1000000 → IsDigits (place + 1) (number * 10 + worth (get_or bytes place 0))
   digit-more place number few so_far small =
       let digit = worth-digit (get_or bytes place 0) small in
       let more = number-more last bytes place number few separates so_far.before so_far.read digit.0 in
@@ -143,7 +148,7 @@ module _ (last : ℕ) (bytes : List ℕ) (separates : IsSeparator last) where
         read = subst (λ d. IsReadSoFar bytes (place + 1) (number * 10 + d)) (sym digit.1) more.goes_on;
       }
 
-  four-digits : worth_of_four bytes < 100000 → IsDigits 4 (worth_of_four bytes)
+  four-digits : worth_of_four bytes < 1000000 → IsDigits 4 (worth_of_four bytes)
   four-digits small =
       let none : IsDigits 0 0 = record { before = λ k few. absurd (omega (arith, few)); read = (refl, refl) } in
       let one = digit-more 0 _ (omega arith) none (omega (arith, small)) in
@@ -152,19 +157,22 @@ module _ (last : ℕ) (bytes : List ℕ) (separates : IsSeparator last) where
       let four = digit-more 3 _ (omega arith) three (omega (arith, small)) in
       subst (λ n. IsDigits 4 n) (omega arith) four
 
-  five-digits : worth_of_five bytes < 100000 → IsDigits 5 (worth_of_five bytes)
+  five-digits : worth_of_five bytes < 1000000 → IsDigits 5 (worth_of_five bytes)
   five-digits small = digit-more 4 _ (omega arith) (four-digits (omega (arith, small))) (omega (arith, small))
+
+  six-digits : worth_of_six bytes < 1000000 → IsDigits 6 (worth_of_six bytes)
+  six-digits small = digit-more 5 _ (omega arith) (five-digits (omega (arith, small))) (omega (arith, small))
 
   -- a number of so many digits before the last byte
   digits-end : (count number : ℕ) → count < 8 → 0 < count → IsDigits count number → get_or bytes 0 0 ≢ 48 → get_or bytes count 0 ≡ last → field_at number_of last bytes ≡ Some (number, drop (count + 1) bytes)
   digits-end count number few some digits led here = (number-ends last bytes count number few separates digits.before digits.read here some (inr led)).found
 
-  pub front-number : (front : List ℕ) (number end : ℕ) → front ≡ take 6 bytes → ◌≡◌ {A = ℕ × ℕ} (number, end) (front_number last front) → get_or front 0 0 ≢ 48 → number < 100000 → get_or front end 0 ≡ last
+  pub front-number : (front : List ℕ) (number end : ℕ) → front ≡ take 7 bytes → ◌≡◌ {A = ℕ × ℕ} (number, end) (front_number last front) → get_or front 0 0 ≢ 48 → number < 1000000 → get_or front end 0 ≡ last
       → field_at number_of last bytes ≡ Some (number, drop (end + 1) bytes)
   unfolding front_number
-  front-number front number end is found led small here = go (get_or front 4 0 == last) refl found where
-    same : (k : ℕ) → k < 6 → get_or front k 0 ≡ get_or bytes k 0
-    same k low = ap (λ l. get_or l k 0) is ∙ get_or-take 6 bytes k 0 low
+  front-number front number end is found led small here = go (get_or front 4 0 == last) (get_or front 5 0 == last) refl refl found where
+    same : (k : ℕ) → k < 7 → get_or front k 0 ≡ get_or bytes k 0
+    same k low = ap (λ l. get_or l k 0) is ∙ get_or-take 7 bytes k 0 low
 
     four : worth_of_four front ≡ worth_of_four bytes
     four = omega (arith, ap worth (same 0 (omega arith)), ap worth (same 1 (omega arith)), ap worth (same 2 (omega arith)), ap worth (same 3 (omega arith)))
@@ -172,15 +180,28 @@ module _ (last : ℕ) (bytes : List ℕ) (separates : IsSeparator last) where
     five : worth_of_five front ≡ worth_of_five bytes
     five = omega (arith, four, ap worth (same 4 (omega arith)))
 
+    six : worth_of_six front ≡ worth_of_six bytes
+    six = omega (arith, five, ap worth (same 5 (omega arith)))
+
     is_led : get_or bytes 0 0 ≢ 48
     is_led = λ e. led (same 0 (omega arith) ∙ e)
 
-    go : (b : Bool) → (get_or front 4 0 == last) ≡ b → ◌≡◌ {A = ℕ × ℕ} (number, end) (cond b (worth_of_four front, 4) (worth_of_five front, 5)) → field_at number_of last bytes ≡ Some (number, drop (end + 1) bytes)
-    go true at e =
+    goal : Type 0
+    goal = field_at number_of last bytes ≡ Some (number, drop (end + 1) bytes)
+
+    -- so many digits, and the last byte behind them
+    ended : (count value : ℕ) → count < 7 → 0 < count → IsDigits count value → number ≡ value → end ≡ count → goal
+    ended count value few some digits is_value long =
+        rw (is_value, long) (digits-end count value (omega (arith, few)) some digits is_led (sym (same count few) ∙ rw long at here))
+
+    go : (a b : Bool) → (get_or front 4 0 == last) ≡ a → (get_or front 5 0 == last) ≡ b
+        → ◌≡◌ {A = ℕ × ℕ} (number, end) (cond a (worth_of_four front, 4) (cond b (worth_of_five front, 5) (worth_of_six front, 6))) → goal
+    go true b at next e =
         let value : number ≡ worth_of_four bytes = ap (λ (p : ℕ × ℕ). p.0) e ∙ four in
-        let long : end ≡ 4 = ap (λ (p : ℕ × ℕ). p.1) e in
-        rw (value, long) (digits-end 4 (worth_of_four bytes) (omega arith) (omega arith) (four-digits (omega (arith, value, small))) is_led (sym (same 4 (omega arith)) ∙ eqb-true _ _ at))
-    go false at e =
+        ended 4 _ (omega arith) (omega arith) (four-digits (omega (arith, value, small))) value (ap (λ (p : ℕ × ℕ). p.1) e)
+    go false true at next e =
         let value : number ≡ worth_of_five bytes = ap (λ (p : ℕ × ℕ). p.0) e ∙ five in
-        let long : end ≡ 5 = ap (λ (p : ℕ × ℕ). p.1) e in
-        rw (value, long) (digits-end 5 (worth_of_five bytes) (omega arith) (omega arith) (five-digits (omega (arith, value, small))) is_led (sym (same 5 (omega arith)) ∙ rw long at here))
+        ended 5 _ (omega arith) (omega arith) (five-digits (omega (arith, value, small))) value (ap (λ (p : ℕ × ℕ). p.1) e)
+    go false false at next e =
+        let value : number ≡ worth_of_six bytes = ap (λ (p : ℕ × ℕ). p.0) e ∙ six in
+        ended 6 _ (omega arith) (omega arith) (six-digits (omega (arith, value, small))) value (ap (λ (p : ℕ × ℕ). p.1) e)

@@ -16,8 +16,8 @@ use Rattle.taxi_text.specs.Fields.{name_of, arc_word, arc_word_of, sign_of}
 use Rattle.taxi_text.proofs.ArcWords.{arc_word-again, arc_word-only}
 use Rattle.airport_file.specs.Words.{class_word, segment_word, word_of_arc}
 use Rattle.airport_file.proofs.NamedPlaces.{word-at, word-found}
-use Rattle.certificate.specs.Printable.{HasArc, HasSegment, HasClass}
-use Rattle.certificate.proofs.FiledLaws.{and_then-some}
+use Rattle.replies.specs.Printable.{HasArc, HasSegment, HasClass}
+use Rattle.replies.proofs.FiledLaws.{and_then-some}
 use Rattle.block_reader.specs.Fields.{class_of_word, segment_of_word, arc_of_word}
 use Rattle.block_reader.proofs.Pieces.{IsPlain}
 use Rattle.block_reader.proofs.Spellings.{some-both, some-map, IsWord}

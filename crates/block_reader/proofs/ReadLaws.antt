@@ -2,9 +2,9 @@
 use Rattle.std.proofs.Common.{◌≡◌, ◌∙◌, ◌+◌, ◌-◌, ◌≤◌, ℕ, List, ◌++◌, length, length-append, Option, Some, None, sym, ap, arith}
 use Rattle.std.proofs.lemmas.Option.{none-some}
 use Rattle.taxi_base.specs.Airport.{Airport, IsWellFormed}
-use Rattle.certificate.specs.declared.block.Block.{Block}
-use Rattle.certificate.specs.Texts.{block_text}
-use Rattle.certificate.specs.Printable.{IsPrintable}
+use Rattle.replies.specs.declared.block.Block.{Block}
+use Rattle.replies.specs.Texts.{block_text}
+use Rattle.replies.specs.Printable.{IsPrintable}
 use Rattle.block_reader.specs.Blocks.{block_at}
 use Rattle.block_reader.specs.Read.{BeginsWith}
 use Rattle.block_reader.proofs.BlockLaws.{block-again, block-takes}

@@ -7,8 +7,8 @@ use Rattle.taxi_base.specs.declared.answers.StepFault.{StepFault}
 use Rattle.taxi_base.specs.declared.answers.Refusal.{Refusal}
 use Rattle.taxi_base.specs.declared.answers.Refusal.TheVariants as refusal
 use Rattle.taxi_text.specs.Fields.{name_of}
-use Rattle.certificate.specs.Texts.{line_text, cause_words, refusal_words}
-use Rattle.certificate.specs.Printable.{IsShort, IsName, IsPrintableCause, IsPrintableFault, IsPrintableRefusal}
+use Rattle.replies.specs.Texts.{line_text, cause_words, refusal_words}
+use Rattle.replies.specs.Printable.{IsShort, IsName, IsPrintableCause, IsPrintableFault, IsPrintableRefusal}
 use Rattle.block_reader.specs.Fields.{number_of}
 use Rattle.block_reader.specs.Reading.{word_at, word_then, word_last}
 use Rattle.block_reader.specs.Blocks.{plain_cause_of, cause_at, fault_at, plain_refusal_of, refusal_at}

@@ -5,10 +5,10 @@ use Rattle.std.proofs.lemmas.List.Elements.{recursion_from_All, All-from_recursi
 use Rattle.taxi_base.specs.declared.rows.Step.{Step}
 use Rattle.taxi_base.specs.declared.rows.LabelRow.{LabelRow}
 use Rattle.taxi_base.specs.Airport.{Airport, IsWellFormed}
-use Rattle.certificate.specs.declared.block.Block.{Block}
-use Rattle.certificate.specs.declared.block.Block.TheVariants.{Route, NoRoute}
-use Rattle.certificate.specs.Texts.{line_text, lines_text, step_words, label_words, block_text}
-use Rattle.certificate.specs.Printable.{IsShort, IsCount, IsName, IsPrintableStep, IsPrintableLabel, IsPrintable}
+use Rattle.replies.specs.declared.block.Block.{Block}
+use Rattle.replies.specs.declared.block.Block.TheVariants.{Route, NoRoute}
+use Rattle.replies.specs.Texts.{line_text, lines_text, step_words, label_words, block_text}
+use Rattle.replies.specs.Printable.{IsShort, IsCount, IsName, IsPrintableStep, IsPrintableLabel, IsPrintable}
 use Rattle.block_reader.specs.Reading.{rows_at}
 use Rattle.block_reader.specs.Blocks.{step_at, label_at, route_head_at, route_at, no_route_at, found_at}
 use Rattle.block_reader.proofs.Spellings.{some-both, some-map, Takes, IsSpelling, last-spelling, then-spelling, after-takes, either-takes, rows-again, rows-takes}

@@ -8,9 +8,9 @@ use Rattle.taxi_base.specs.declared.rows.LabelRow.{LabelRow}
 use Rattle.taxi_base.specs.declared.rows.FlightRow.{FlightRow}
 use Rattle.taxi_base.specs.Airport.{Airport, IsWellFormed}
 use Rattle.airport_file.specs.Words.{segment_word}
-use Rattle.certificate.specs.declared.block.Block.{Block}
-use Rattle.certificate.specs.Texts.{line_text, lines_text, step_words, label_words, window_words, held_words, flight_words}
-use Rattle.certificate.specs.Printable.{IsShort, IsCount, IsName, HasSegment, HasClass, IsPrintableStep, IsPrintableLabel, IsPrintableWindow, IsPrintableHeld, IsPrintableFlight}
+use Rattle.replies.specs.declared.block.Block.{Block}
+use Rattle.replies.specs.Texts.{line_text, lines_text, step_words, label_words, window_words, held_words, flight_words}
+use Rattle.replies.specs.Printable.{IsShort, IsCount, IsName, HasSegment, HasClass, IsPrintableStep, IsPrintableLabel, IsPrintableWindow, IsPrintableHeld, IsPrintableFlight}
 use Rattle.block_reader.specs.Fields.{count_of, segment_of_word}
 use Rattle.block_reader.specs.Reading.{word_then, word_last, rows_at}
 use Rattle.block_reader.specs.Blocks.{step_at, label_at, window_at, held_at, flight_at, counted_at, of_segment_at}

@@ -12,8 +12,8 @@ use Rattle.taxi_base.specs.declared.rows.FlightKind.TheVariants as kind
 use Rattle.taxi_base.specs.Words.{is_name, is_name_byte}
 use Rattle.taxi_text.specs.Commands.{is_batch_count}
 use Rattle.taxi_text.specs.Fields.{name_of}
-use Rattle.certificate.specs.Texts.{kind_word}
-use Rattle.certificate.specs.Printable.{IsShort, IsCount, IsName}
+use Rattle.replies.specs.Texts.{kind_word}
+use Rattle.replies.specs.Printable.{IsShort, IsCount, IsName}
 use Rattle.block_reader.specs.Fields.{number_of, count_of, some_count_of, batch_count_of, total_of, step_number_of, kind_of}
 use Rattle.block_reader.proofs.Pieces.{IsPlain}
 use Rattle.block_reader.proofs.Decimals.{numerals, decimal-again, decimal-only}

@@ -23,10 +23,10 @@ unfolding worth
 worth_at byte low = worth_from byte 0 byte WORTHS tt (omega arith) low
 
 -- no byte is worth more than one that is no digit
-most : (b : Bool) (value : ℕ) → value ≤ 100000 → cond b value 100000 ≤ 100000
+most : (b : Bool) (value : ℕ) → value ≤ 1000000 → cond b value 1000000 ≤ 1000000
 most true value low = low
 most false value low = omega arith
 
-pub worth_most : (byte : ℕ) → byte < 256 → worth byte ≤ 100000
+pub worth_most : (byte : ℕ) → byte < 256 → worth byte ≤ 1000000
 unfolding worth
 worth_most byte low = most (is_ascii_digit byte) (byte - 48) (omega (arith, low))

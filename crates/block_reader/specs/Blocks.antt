@@ -15,11 +15,11 @@ use Rattle.taxi_base.specs.declared.answers.Refusal.TheVariants as refusal
 use Rattle.taxi_base.specs.Airport.{Airport}
 use Rattle.taxi_text.specs.Commands.{◌>>=◌}
 use Rattle.taxi_text.specs.Fields.{name_of}
-use Rattle.certificate.specs.declared.block.Block.{Block}
-use Rattle.certificate.specs.declared.block.Block.TheVariants.{Refused, Filed, Cancelled, Route, NoRoute, Windows, Occupancy, Timetable, Batch, Late}
-use Rattle.certificate.specs.declared.entries.Entry.{Entry}
-use Rattle.certificate.specs.declared.entries.Entry.TheVariants as entry
-use Rattle.certificate.specs.Printable.{is_told}
+use Rattle.replies.specs.declared.block.Block.{Block}
+use Rattle.replies.specs.declared.block.Block.TheVariants.{Refused, Filed, Cancelled, Route, NoRoute, Windows, Occupancy, Timetable, Batch, Late}
+use Rattle.replies.specs.declared.entries.Entry.{Entry}
+use Rattle.replies.specs.declared.entries.Entry.TheVariants as entry
+use Rattle.replies.specs.Printable.{is_told}
 use Rattle.block_reader.specs.Fields.{number_of, count_of, some_count_of, batch_count_of, total_of, step_number_of, kind_of, class_of_word, segment_of_word, arc_of_word}
 use Rattle.block_reader.specs.Reading.{after, word_then, word_last, made, either, rows_at}
 

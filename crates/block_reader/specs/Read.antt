@@ -1,9 +1,9 @@
 -- What a reader of blocks answers.
 use Rattle.std.specs.Prelude.{ℕ, ◌≡◌, List, ◌++◌, length, Result, Ok, Err, ⊤}
 use Rattle.taxi_base.specs.Airport.{Airport}
-use Rattle.certificate.specs.declared.block.Block.{Block}
-use Rattle.certificate.specs.Texts.{block_text}
-use Rattle.certificate.specs.Printable.{IsPrintable}
+use Rattle.replies.specs.declared.block.Block.{Block}
+use Rattle.replies.specs.Texts.{block_text}
+use Rattle.replies.specs.Printable.{IsPrintable}
 use Rattle.block_reader.specs.declared.refused.BlockRefused.{BlockRefused}
 use Rattle.block_reader.specs.declared.refused.BlockRefused.TheVariants.{NotABlock, Memory}
 

@@ -9,7 +9,7 @@ use crate::fields::{batch_count_field, behind, name_field, some_count_field, tot
 use crate::found::read_found;
 use crate::refused::BlockRefused;
 use airport_file::Airport;
-use certificate::{Block, Entries, Entry, are_told};
+use replies::{Block, Entries, Entry, are_told};
 use std::alloc::Global;
 use taxi_base::Name;
 

@@ -11,11 +11,11 @@ use taxi_base::{Class, FlightKind, Name, Segment, Time};
 // How many digits a number has at most.
 const MOST_DIGITS: usize = 7;
 
-// What a byte that is no digit is worth: more than five digits can write.
-const NO: u32 = 100_000;
+// What a byte that is no digit is worth: more than six digits can write.
+const NO: u64 = 1_000_000;
 
 // What each byte is worth as a digit.
-static WORTHS: [u32; 256] = [
+static WORTHS: [u64; 256] = [
     NO, NO, NO, NO, NO, NO, NO, NO, NO, NO, NO, NO, NO, NO, NO, NO, NO, NO, NO, NO, NO, NO, NO, NO,
     NO, NO, NO, NO, NO, NO, NO, NO, NO, NO, NO, NO, NO, NO, NO, NO, NO, NO, NO, NO, NO, NO, NO, NO,
     0, 1, 2, 3, 4, 5, 6, 7, 8, 9, NO, NO, NO, NO, NO, NO, NO, NO, NO, NO, NO, NO, NO, NO, NO, NO,
@@ -161,41 +161,46 @@ pub(crate) fn start_field(bytes: &[u8]) -> Option<(Time, &[u8])>
     second_field(b' ', bytes)
 }
 
-/// A number before a blank or a line feed. Most seconds of a day have four or five digits, which take no loop.
+/// A number before a blank or a line feed. Most seconds of a day have four or five digits, and most of a week six. They take no loop.
 #[inline(always)]
 pub(crate) fn second_field(last: u8, bytes: &[u8]) -> Option<(Time, &[u8])>
     requires { IsSeparator last }
     ensures { Finds (λ x. (x.0, x.1.now)) result (field_at number_of last bytes.now) }
 {
-    if let Some(front) = bytes.first_chunk::<6>() {
+    if let Some(front) = bytes.first_chunk::<7>() {
         let (number, end) = front_number(last, front);
         if front[0] != b'0' && number < NO && front[end] == last {
-            return Some((number, &bytes[end + 1..]));
+            return Some((number as Time, &bytes[end + 1..]));
         }
     }
     number_field(last, bytes)
 }
 
-// What the first four bytes are worth together where the last byte is behind them, else the first five, and how many they are.
+// What the first four bytes are worth together where the last byte is behind them, else the first five if it is behind those,
+// else the first six, and how many they are.
 #[inline(always)]
-fn front_number(last: u8, front: &[u8; 6]) -> (u32, usize)
+fn front_number(last: u8, front: &[u8; 7]) -> (u64, usize)
     ensures number { result ≡ front_number last front.now }
-    ensures few { result.1 < 6 }
+    ensures few { result.1 < 7 }
 {
     let four = worth(front[0]) * 1_000
         + worth(front[1]) * 100
         + worth(front[2]) * 10
         + worth(front[3]);
     if front[4] == last {
-        (four, 4)
+        return (four, 4);
+    }
+    let five = four * 10 + worth(front[4]);
+    if front[5] == last {
+        (five, 5)
     } else {
-        (four * 10 + worth(front[4]), 5)
+        (five * 10 + worth(front[5]), 6)
     }
 }
 
 // What a byte is worth as a digit.
 #[inline(always)]
-fn worth(byte: u8) -> u32
+fn worth(byte: u8) -> u64
     ensures value { result ≡ worth byte }
     ensures small { result ≤ NO }
 {

@@ -6,7 +6,7 @@ use crate::fields::{behind, count_field, name_field, number_field, some_count_fi
 use crate::refused::BlockRefused;
 use crate::rows::read_rows;
 use airport_file::Airport;
-use certificate::Block;
+use replies::Block;
 use std::alloc::Global;
 use taxi_base::{LabelRow, Name, Step, Time};
 

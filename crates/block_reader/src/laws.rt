@@ -1,9 +1,9 @@
 //! What the grammar of blocks promises, as laws that are proved of it. The functions do nothing: their clauses are the laws.
 ghost use Rattle.std.specs.Prelude.{◌≡◌, ◌<◌, ◌^◌, ℕ, List, ◌++◌, Some, decimal};
 ghost use Rattle.taxi_base.specs.Airport.{Airport, IsWellFormed};
-ghost use Rattle.certificate.specs.declared.block.Block.{Block};
-ghost use Rattle.certificate.specs.Texts.{block_text};
-ghost use Rattle.certificate.specs.Printable.{IsPrintable};
+ghost use Rattle.replies.specs.declared.block.Block.{Block};
+ghost use Rattle.replies.specs.Texts.{block_text};
+ghost use Rattle.replies.specs.Printable.{IsPrintable};
 ghost use Rattle.block_reader.specs.Fields.{number_of, count_of};
 ghost use Rattle.block_reader.specs.Blocks.{block_at};
 ghost use Rattle.block_reader.specs.Read.{BeginsWith};

@@ -1,6 +1,6 @@
 //! Whole blocks.
 ghost use Rattle.block_reader.specs.Reading.{word_then, word_last, Finds, IsRead};
-ghost use Rattle.certificate.specs.declared.block.Block.{Block as Plain};
+ghost use Rattle.replies.specs.declared.block.Block.{Block as Plain};
 ghost use Rattle.block_reader.specs.Read.{BeginsWith, IsBlockRead, Reads};
 ghost use Rattle.block_reader.specs.Fields.{count_of, segment_of_word};
 ghost use Rattle.block_reader.specs.Blocks.{refused_at, filed_at, cancelled_at, windows_at, occupancy_at, timetable_at, block_at};
@@ -12,7 +12,7 @@ use crate::refusal::read_refusal;
 use crate::refused::BlockRefused;
 use crate::rows::read_rows;
 use airport_file::Airport;
-use certificate::Block;
+use replies::Block;
 use std::alloc::Global;
 use taxi_base::{FlightRow, HeldRow, Segment, Span};
 

@@ -13,9 +13,9 @@ use Rattle.taxi_base.proofs.StateLaws.{IsSound-with_route}
 use Rattle.taxi_base.proofs.FlightNames.{find-named}
 use Rattle.taxi_base.proofs.NameLaws.{none_left}
 use Rattle.taxi_base.proofs.WalkLaws.{IsFeasibleWalk-steps}
-use Rattle.certificate.specs.Sought.{Sought, sought_again}
-use Rattle.certificate.proofs.FlightLaws.{flight_named-there}
-use Rattle.certificate.proofs.FoundLaws.{step-enter}
+use Rattle.replies.specs.Sought.{Sought, sought_again}
+use Rattle.replies.proofs.FlightLaws.{flight_named-there}
+use Rattle.replies.proofs.FoundLaws.{step-enter}
 use Rattle.held_spans.specs.declared.spans.HeldSpans.{HeldSpans}
 use Rattle.held_spans.specs.Spans.{AreSpansOf, holds_in_lists}
 use Rattle.due_refusals.proofs.HeldLaws.{same-conditions, more-with}

@@ -12,11 +12,11 @@ use Rattle.taxi_base.specs.State.{State, flight_named, conditions_of, IsSound}
 use Rattle.taxi_base.specs.Again.{retargeted}
 use Rattle.taxi_base.proofs.AgainLaws.{frozen-meets}
 use Rattle.taxi_text.specs.declared.command.Command.TheVariants as command
-use Rattle.certificate.specs.Sought.{IsWalkOnFor, sought_again, sought_of}
-use Rattle.certificate.specs.Refusals.{is_filed, is_departure, refused_if, first_of, not_routed, not_arrival, already_done, already_moving, first_refusal}
-use Rattle.certificate.proofs.RefusalLaws.{none-first, none-others}
+use Rattle.replies.specs.Sought.{IsWalkOnFor, sought_again, sought_of}
+use Rattle.replies.specs.Refusals.{is_filed, is_departure, refused_if, first_of, not_routed, not_arrival, already_done, already_moving, first_refusal}
+use Rattle.replies.proofs.RefusalLaws.{none-first, none-others}
 use Rattle.std.proofs.lemmas.List.Elements.{All-contains}
-use Rattle.certificate.proofs.FlightLaws.{flight_named-there}
+use Rattle.replies.proofs.FlightLaws.{flight_named-there}
 use Rattle.check_walks.specs.Told.{CanBeSought}
 use Rattle.certificate_check.specs.Desk.{CanGoOn}
 

@@ -16,13 +16,13 @@ use Rattle.taxi_base.proofs.ListLaws.{Contains-cons_cases}
 use Rattle.taxi_text.specs.declared.command.BatchRequest.{BatchRequest}
 use Rattle.taxi_text.specs.declared.command.BatchRequest.TheVariants as requested
 use Rattle.taxi_text.specs.declared.command.Command.TheVariants as command
-use Rattle.certificate.specs.declared.entries.Entry.{Entry}
-use Rattle.certificate.specs.declared.wish.Wish.{Wish}
-use Rattle.certificate.specs.Asked.{asked_in, IsAskedInGrammar}
-use Rattle.certificate.specs.Refusals.{first_refusal}
-use Rattle.certificate.specs.Batches.{names_of, wish_named, wish_of, wishes_of}
+use Rattle.replies.specs.declared.entries.Entry.{Entry}
+use Rattle.replies.specs.declared.wish.Wish.{Wish}
+use Rattle.replies.specs.Asked.{asked_in, IsAskedInGrammar}
+use Rattle.replies.specs.Refusals.{first_refusal}
+use Rattle.replies.specs.Batches.{names_of, wish_named, wish_of, wishes_of}
 use Rattle.check_walks.specs.Told.{CanBeSought}
-use Rattle.certificate.proofs.BatchNames.{wish-is, wishes-all, batch-free}
+use Rattle.replies.proofs.BatchNames.{wish-is, wishes-all, batch-free}
 use Rattle.certificate_check.proofs.EachNamed.{Differ, differ-moved, unmap-all, unmap-pairs}
 
 -- ---- the entries

@@ -9,12 +9,12 @@ use Rattle.std.proofs.lemmas.List.{length-map}
 use Rattle.std.proofs.lemmas.List.Elements.{All-head, All-tail, All-cons, All-nil}
 use Rattle.std.proofs.lemmas.List.Sorted.{length_permutation}
 use Rattle.taxi_base.proofs.ListLaws.{Contains-first, Contains-rest, Contains-cons_cases}
-use Rattle.certificate.specs.declared.entries.Entry.{Entry}
-use Rattle.certificate.specs.declared.entries.Entry.TheVariants as entry
-use Rattle.certificate.specs.declared.wish.Wish.{Wish}
-use Rattle.certificate.specs.Printable.{IsTold}
-use Rattle.certificate.specs.Batches.{names_of, cost_among, total_of}
-use Rattle.certificate_check.specs.Batch.{is_told, TellsOfEach}
+use Rattle.replies.specs.declared.entries.Entry.{Entry}
+use Rattle.replies.specs.declared.wish.Wish.{Wish}
+use Rattle.replies.specs.Printable.{is_told}
+use Rattle.replies.specs.Batches.{names_of, cost_among, total_of}
+use Rattle.replies.proofs.ToldEntries.{told-all}
+use Rattle.certificate_check.specs.Batch.{TellsOfEach}
 use Rattle.certificate_check.proofs.EachNamed.{Differ, each-named, each-there}
 
 -- the entry at a place is the first of those from there on
@@ -32,18 +32,6 @@ total-next wishes entries i low told is = rw add-one (total-drop wishes entries 
 
 abbrev names_told : List (List ℕ × Entry) → List (List ℕ)
 names_told entries = map (λ told. told.0) entries
-
-pub told-all : (entries : List (List ℕ × Entry)) → IsTrue (list_all is_told entries) ↔ All IsTold entries
-told-all [] = (λ _. All-nil IsTold, λ _. refl)
-told-all ((name, entry.Route second steps labels) ∷ entries) = (
-  λ e. All-cons IsTold _ entries tt ((told-all entries).0 e),
-  λ all. (told-all entries).1 (All-tail IsTold _ entries all),
-)
-told-all ((name, entry.NoRoute labels) ∷ entries) = (
-  λ e. All-cons IsTold _ entries tt ((told-all entries).0 e),
-  λ all. (told-all entries).1 (All-tail IsTold _ entries all),
-)
-told-all ((name, entry.Dropped) ∷ entries) = (λ e. absurd (cc e), λ all. absurd (All-head IsTold _ entries all))
 
 pub any-contains : (name : List ℕ) (entries : List (List ℕ × Entry)) → IsTrue (list_any (λ told. bytes_eq told.0 name) entries) ↔ Contains (names_told entries) name
 any-contains name [] = (λ e. absurd (cc e), λ h. absurd (let low : h.0 < 0 = h.1 in omega arith))

@@ -5,16 +5,16 @@ use Rattle.taxi_base.specs.Airport.{Airport}
 use Rattle.taxi_base.specs.State.{State}
 use Rattle.taxi_text.specs.declared.command.BatchRequest.{BatchRequest}
 use Rattle.taxi_text.specs.declared.command.Command.TheVariants as command
-use Rattle.certificate.specs.declared.entries.Entry.{Entry}
-use Rattle.certificate.specs.declared.wish.Wish.{Wish}
-use Rattle.certificate.specs.declared.block.Block.{Block}
-use Rattle.certificate.specs.declared.block.Block.TheVariants.{Batch}
-use Rattle.certificate.specs.declared.rule.Rule.{Rule}
-use Rattle.certificate.specs.declared.rule.Rule.TheVariants as rule
-use Rattle.certificate.specs.Refusals.{first_refusal}
-use Rattle.certificate.specs.Batches.{wishes_of}
-use Rattle.certificate.specs.Turns.{Turn, turns_for, after_turns}
-use Rattle.certificate.specs.Passes.{KeepsTurn, BreaksFirst}
+use Rattle.replies.specs.declared.entries.Entry.{Entry}
+use Rattle.replies.specs.declared.wish.Wish.{Wish}
+use Rattle.replies.specs.declared.block.Block.{Block}
+use Rattle.replies.specs.declared.block.Block.TheVariants.{Batch}
+use Rattle.replies.specs.declared.rule.Rule.{Rule}
+use Rattle.replies.specs.declared.rule.Rule.TheVariants as rule
+use Rattle.replies.specs.Refusals.{first_refusal}
+use Rattle.replies.specs.Batches.{wishes_of}
+use Rattle.replies.specs.Turns.{Turn, turns_for, after_turns}
+use Rattle.replies.specs.Passes.{KeepsTurn, BreaksFirst}
 use Rattle.transcripts.specs.declared.refused.CheckRefused.{CheckRefused}
 use Rattle.transcripts.specs.declared.refused.CheckRefused.TheVariants.{Wrong, Memory}
 use Rattle.certificate_check.specs.Judged.{IsDueForm, KeepsFor, BreaksFor, IsJudged}

@@ -4,12 +4,12 @@ use Rattle.std.specs.Prelude.{Result, Ok, Err}
 use Rattle.taxi_base.specs.Airport.{Airport}
 use Rattle.taxi_base.specs.State.{State}
 use Rattle.taxi_base.proofs.NamedLists.{find-named}
-use Rattle.certificate.specs.declared.entries.Entry.{Entry}
-use Rattle.certificate.specs.declared.wish.Wish.{Wish}
-use Rattle.certificate.specs.declared.block.Block.{Block}
-use Rattle.certificate.specs.Batches.{wish_named}
-use Rattle.certificate.specs.Sought.{Sought, sought_wish}
-use Rattle.certificate.specs.Turns.{told_of, after_turns}
+use Rattle.replies.specs.declared.entries.Entry.{Entry}
+use Rattle.replies.specs.declared.wish.Wish.{Wish}
+use Rattle.replies.specs.declared.block.Block.{Block}
+use Rattle.replies.specs.Batches.{wish_named}
+use Rattle.replies.specs.Sought.{Sought, sought_wish}
+use Rattle.replies.specs.Turns.{told_of, after_turns}
 use Rattle.transcripts.specs.declared.refused.CheckRefused.{CheckRefused}
 use Rattle.transcripts.specs.declared.refused.CheckRefused.TheVariants.{Wrong, Memory}
 use Rattle.certificate_check.specs.Judged.{IsToldOf}

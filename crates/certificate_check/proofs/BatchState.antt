@@ -7,13 +7,13 @@ use Rattle.taxi_base.specs.declared.answers.Party.{Party}
 use Rattle.taxi_base.specs.Airport.{Airport}
 use Rattle.taxi_base.specs.State.{State, has_holder, holder_count, flight_named, party_named, flights_without, without}
 use Rattle.taxi_base.proofs.NameLaws.{length-put_in}
-use Rattle.certificate.specs.declared.wish.Wish.{Wish}
-use Rattle.certificate.specs.declared.block.Block.{Block}
-use Rattle.certificate.specs.declared.block.Block.TheVariants.{Route}
-use Rattle.certificate.specs.Batches.{wish_named, names_of}
-use Rattle.certificate.specs.Routed.{routed_flight}
-use Rattle.certificate.specs.Sought.{sought_wish}
-use Rattle.certificate.specs.Turns.{after_told}
+use Rattle.replies.specs.declared.wish.Wish.{Wish}
+use Rattle.replies.specs.declared.block.Block.{Block}
+use Rattle.replies.specs.declared.block.Block.TheVariants.{Route}
+use Rattle.replies.specs.Batches.{wish_named, names_of}
+use Rattle.replies.specs.Routed.{routed_flight}
+use Rattle.replies.specs.Sought.{sought_wish}
+use Rattle.replies.specs.Turns.{after_told}
 use Rattle.checked_state.proofs.PlaceLaws.{left-none}
 use Rattle.certificate_check.specs.Batch.{without_all}
 use Rattle.certificate_check.proofs.EachNamed.{unmap-all}

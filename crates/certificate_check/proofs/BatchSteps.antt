@@ -1,5 +1,5 @@
 -- The entries of a batch, checked one after the other: what holds of the first, and what of the later ones after it.
-use Rattle.std.proofs.Common.{◌≡◌, ◌∙◌, ℕ, ◌+◌, ◌≤◌, false, List, [], ◌∷◌, Some, IsFalse, refl, sym, ap, subst, arith}
+use Rattle.std.proofs.Common.{◌≡◌, ◌∙◌, ℕ, false, List, [], ◌∷◌, Some, IsFalse, refl, sym, ap, subst, arith}
 use Rattle.std.specs.Prelude.{All, bytes_eq, is_none, IsSome}
 use Rattle.std.proofs.lemmas.List.Elements.{All-head, All-tail, All-cons, All-nil}
 use Rattle.taxi_base.specs.Airport.{Airport}
@@ -7,15 +7,15 @@ use Rattle.taxi_base.specs.State.{State, has_holder, holder_count}
 use Rattle.taxi_base.proofs.ListLaws.{AllPairs-first, AllPairs-rest}
 use Rattle.taxi_base.proofs.NameLaws.{differ-turned}
 use Rattle.taxi_base.proofs.NamedLists.{find-named}
-use Rattle.certificate.specs.declared.entries.Entry.{Entry}
-use Rattle.certificate.specs.declared.entries.Entry.TheVariants as entry
-use Rattle.certificate.specs.declared.wish.Wish.{Wish}
-use Rattle.certificate.specs.declared.block.Block.{Block}
-use Rattle.certificate.specs.declared.block.Block.TheVariants.{Route, NoRoute}
-use Rattle.certificate.specs.Printable.{IsTold}
-use Rattle.certificate.specs.Batches.{wish_named}
-use Rattle.certificate.specs.Sought.{sought_wish}
-use Rattle.certificate.specs.Turns.{told_of, after_told}
+use Rattle.replies.specs.declared.entries.Entry.{Entry}
+use Rattle.replies.specs.declared.entries.Entry.TheVariants as entry
+use Rattle.replies.specs.declared.wish.Wish.{Wish}
+use Rattle.replies.specs.declared.block.Block.{Block}
+use Rattle.replies.specs.declared.block.Block.TheVariants.{Route, NoRoute}
+use Rattle.replies.specs.Printable.{IsTold}
+use Rattle.replies.specs.Batches.{wish_named}
+use Rattle.replies.specs.Sought.{sought_wish}
+use Rattle.replies.specs.Turns.{told_of, after_told}
 use Rattle.certificate_check.specs.Batch.{without_all, CanBeChecked}
 use Rattle.certificate_check.proofs.BatchState.{after-holder, after-count, after-others}
 
@@ -33,9 +33,6 @@ module _ (wishes : List Wish) (state : State) (name : List ℕ) (e : Entry) (res
 
   pub first-new : IsFalse (has_holder name state)
   first-new = All-head (λ told. IsFalse (has_holder told.0 state)) (name, e) rest can.new
-
-  pub first-fits : holder_count state + 1 ≤ 4096
-  first-fits = omega (arith, can.fit)
 
   module _ (airport : Airport) (wish : Wish) (found : wish_named name wishes ≡ Some wish) (block : Block) (new : State) (is : new ≡ after_told (sought_wish airport state wish) block) where
     own : wish.name ≡ name

@@ -5,17 +5,17 @@ use Rattle.taxi_base.specs.Airport.{Airport}
 use Rattle.taxi_base.specs.State.{State}
 use Rattle.taxi_text.specs.declared.command.BatchRequest.{BatchRequest}
 use Rattle.taxi_text.specs.declared.command.Command.TheVariants as command
-use Rattle.certificate.specs.declared.entries.Entry.{Entry}
-use Rattle.certificate.specs.declared.entries.Entry.TheVariants as entry
-use Rattle.certificate.specs.declared.wish.Wish.{Wish}
-use Rattle.certificate.specs.declared.block.Block.{Block}
-use Rattle.certificate.specs.declared.block.Block.TheVariants.{Route, NoRoute, Batch}
-use Rattle.certificate.specs.declared.rule.Rule.{Rule}
-use Rattle.certificate.specs.declared.rule.Rule.TheVariants as rule
-use Rattle.certificate.specs.Batches.{wish_named, wishes_of}
-use Rattle.certificate.specs.Sought.{Sought, sought_wish}
-use Rattle.certificate.specs.Turns.{told_of, sought_for, tellings_of, in_turns, turns_for, after_turns}
-use Rattle.certificate.specs.Passes.{IsFormOf, KeepsSought, IsFirstOf}
+use Rattle.replies.specs.declared.entries.Entry.{Entry}
+use Rattle.replies.specs.declared.entries.Entry.TheVariants as entry
+use Rattle.replies.specs.declared.wish.Wish.{Wish}
+use Rattle.replies.specs.declared.block.Block.{Block}
+use Rattle.replies.specs.declared.block.Block.TheVariants.{Route, NoRoute, Batch}
+use Rattle.replies.specs.declared.rule.Rule.{Rule}
+use Rattle.replies.specs.declared.rule.Rule.TheVariants as rule
+use Rattle.replies.specs.Batches.{wish_named, wishes_of}
+use Rattle.replies.specs.Sought.{Sought, sought_wish}
+use Rattle.replies.specs.Turns.{told_of, sought_for, tellings_of, in_turns, turns_for, after_turns}
+use Rattle.replies.specs.Passes.{IsFormOf, KeepsSought, IsFirstOf}
 use Rattle.transcripts.specs.declared.refused.CheckRefused.{CheckRefused}
 use Rattle.transcripts.specs.declared.refused.CheckRefused.TheVariants.{Wrong, Memory}
 use Rattle.certificate_check.specs.Judged.{IsToldOf, KeepsTold}

@@ -10,10 +10,10 @@ use Rattle.taxi_base.specs.Walks.{Conditions, Meets, ReachesNode}
 use Rattle.taxi_base.specs.State.{State, with_flight}
 use Rattle.taxi_base.specs.Again.{retargeted}
 use Rattle.taxi_base.proofs.WalkLaws.{at-last}
-use Rattle.certificate.specs.Asked.{Choice, arrival_any, departure_any, nodes_of, request_for, nodes_named}
-use Rattle.certificate.specs.CarriedOut.{routed_flight}
-use Rattle.certificate.specs.Sought.{MeetsOneOf, node_reached, sought_any, sought_choice}
-use Rattle.certificate.proofs.ChoiceNames.{nodes_named-are, one-met, met-reaches, reached-is}
+use Rattle.replies.specs.Asked.{Choice, arrival_any, departure_any, nodes_of, request_for, nodes_named}
+use Rattle.replies.specs.CarriedOut.{routed_flight}
+use Rattle.replies.specs.Sought.{MeetsOneOf, node_reached, sought_any, sought_choice}
+use Rattle.replies.proofs.ChoiceNames.{nodes_named-are, one-met, met-reaches, reached-is}
 use Rattle.check_walks.specs.Choice.{IsAmong}
 
 -- what asks for the first of the nodes asks for one of them

@@ -17,11 +17,11 @@ use Rattle.taxi_base.proofs.NamedLists.{find-named}
 use Rattle.taxi_base.proofs.WalkLaws.{IsFeasibleWalk-steps}
 use Rattle.taxi_base.proofs.WindowLaws.{AreWindows-same}
 use Rattle.taxi_text.specs.declared.command.Command.TheVariants as command
-use Rattle.certificate.specs.declared.block.Block.{Block}
-use Rattle.certificate.specs.declared.block.Block.TheVariants.{Windows}
-use Rattle.certificate.specs.CarriedOut.{windows_among}
-use Rattle.certificate.proofs.FlightLaws.{find-there, flight_named-there, flight_named-name}
-use Rattle.certificate.proofs.WindowsTold.{windows_among-are}
+use Rattle.replies.specs.declared.block.Block.{Block}
+use Rattle.replies.specs.declared.block.Block.TheVariants.{Windows}
+use Rattle.replies.specs.CarriedOut.{windows_among}
+use Rattle.replies.proofs.FlightLaws.{find-there, flight_named-there, flight_named-name}
+use Rattle.replies.proofs.WindowsTold.{windows_among-are}
 use Rattle.certificate_check.specs.Judged.{passed_if, IsAfterFor, IsJudged}
 use Rattle.certificate_check.proofs.JudgedLaws.{done-judged, undone-judged}
 

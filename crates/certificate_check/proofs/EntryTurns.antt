@@ -3,14 +3,14 @@ use Rattle.std.proofs.Common.{◌≡◌, ℕ, List, [], ◌∷◌, Some, None, i
 use Rattle.std.specs.Prelude.{Option, Result, Ok, Err}
 use Rattle.std.proofs.lemmas.List.Elements.{All-cons}
 use Rattle.taxi_base.specs.State.{State}
-use Rattle.certificate.specs.declared.entries.Entry.{Entry}
-use Rattle.certificate.specs.declared.entries.Entry.TheVariants as entry
-use Rattle.certificate.specs.declared.block.Block.{Block}
-use Rattle.certificate.specs.declared.rule.Rule.{Rule}
-use Rattle.certificate.specs.declared.rule.Rule.TheVariants as rule
-use Rattle.certificate.specs.Sought.{Sought}
-use Rattle.certificate.specs.Turns.{Turn, told_of, after_told, after_turns}
-use Rattle.certificate.specs.Passes.{KeepsSought, KeepsTurn, IsFirstOf, BreaksFirst}
+use Rattle.replies.specs.declared.entries.Entry.{Entry}
+use Rattle.replies.specs.declared.entries.Entry.TheVariants as entry
+use Rattle.replies.specs.declared.block.Block.{Block}
+use Rattle.replies.specs.declared.rule.Rule.{Rule}
+use Rattle.replies.specs.declared.rule.Rule.TheVariants as rule
+use Rattle.replies.specs.Sought.{Sought}
+use Rattle.replies.specs.Turns.{Turn, told_of, after_told, after_turns}
+use Rattle.replies.specs.Passes.{KeepsSought, KeepsTurn, IsFirstOf, BreaksFirst}
 use Rattle.transcripts.specs.declared.refused.CheckRefused.{CheckRefused}
 use Rattle.transcripts.specs.declared.refused.CheckRefused.TheVariants.{Wrong, Memory}
 use Rattle.certificate_check.specs.Entries.{turns_by, AreChecked}

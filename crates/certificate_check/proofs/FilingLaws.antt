@@ -10,13 +10,13 @@ use Rattle.taxi_base.proofs.FaultLaws.{route_fault-None}
 use Rattle.taxi_text.specs.declared.command.Filed.{Filed}
 use Rattle.taxi_text.specs.declared.command.Command.TheVariants as command
 use Rattle.taxi_text.specs.Commands.{is_step_count}
-use Rattle.certificate.specs.declared.block.Block.{Block}
-use Rattle.certificate.specs.declared.block.Block.TheVariants as told
-use Rattle.certificate.specs.CarriedOut.{filed_flight, IsFiled}
-use Rattle.certificate.specs.Replies.{refused, IsDueTo}
-use Rattle.certificate.proofs.FiledLaws.{filed_steps-arcs, filed_steps-joined}
-use Rattle.certificate.proofs.RefusalLaws.{HasRoom, none-fails, file-has_room, file-does_not_fail}
-use Rattle.certificate.specs.CarriedOut.{IsOf}
+use Rattle.replies.specs.declared.block.Block.{Block}
+use Rattle.replies.specs.declared.block.Block.TheVariants as told
+use Rattle.replies.specs.CarriedOut.{filed_flight, IsFiled}
+use Rattle.replies.specs.Replies.{refused, IsDueTo}
+use Rattle.replies.proofs.FiledLaws.{filed_steps-arcs, filed_steps-joined}
+use Rattle.replies.proofs.RefusalLaws.{HasRoom, none-fails, file-has_room, file-does_not_fail}
+use Rattle.replies.specs.CarriedOut.{IsOf}
 use Rattle.due_refusals.specs.Filing.{IsAccepted}
 use Rattle.due_refusals.proofs.FiledLaws.{few-made}
 use Rattle.certificate_check.specs.Judged.{IsAfterFor, IsJudged}

@@ -8,7 +8,7 @@ use Rattle.taxi_base.specs.declared.answers.Request.TheVariants as request
 use Rattle.taxi_base.specs.Airport.{Airport}
 use Rattle.taxi_base.specs.State.{flight_named, flights_with, flights_without}
 use Rattle.taxi_base.proofs.NameLaws.{All-put_in}
-use Rattle.certificate.proofs.FlightLaws.{flight_named-there}
+use Rattle.replies.proofs.FlightLaws.{flight_named-there}
 use Rattle.check_walks.specs.Told.{CanBeSought}
 use Rattle.certificate_check.specs.Desk.{CanGoOn}
 

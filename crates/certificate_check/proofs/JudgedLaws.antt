@@ -1,32 +1,27 @@
 -- How a block is judged as the answer to a command, from what was found out about it.
-use Rattle.std.proofs.Common.{◌≡◌, ◌∙◌, ℕ, Bool, true, false, true≢false, List, [], ◌∷◌, Option, Some, None, inl, refl, sym, subst, arith}
+use Rattle.std.proofs.Common.{◌≡◌, ◌∙◌, ℕ, Bool, true, false, List, [], ◌∷◌, Option, Some, None, inl, refl, sym, subst, arith}
 use Rattle.std.specs.Prelude.{All, Result, Ok, Err, bytes_eq, flat_map, ⊤}
 use Rattle.std.specs.Cmp.Lexicographic.{bytes_decides}
 use Rattle.std.proofs.lemmas.List.Elements.{All-cons, All-nil}
-use Rattle.taxi_base.specs.declared.answers.Refusal.{Refusal}
 use Rattle.taxi_base.specs.Airport.{Airport}
 use Rattle.taxi_base.specs.State.{State}
 use Rattle.taxi_text.specs.declared.command.Command.{Command}
 use Rattle.taxi_text.specs.declared.command.Command.TheVariants as command
-use Rattle.certificate.specs.declared.block.Block.{Block}
-use Rattle.certificate.specs.declared.block.Block.TheVariants.{Refused, Filed, Cancelled, Route, NoRoute, Windows, Occupancy, Timetable, Batch, Late}
-use Rattle.certificate.specs.declared.rule.Rule.{Rule}
-use Rattle.certificate.specs.declared.rule.Rule.TheVariants as rule
-use Rattle.certificate.specs.Refusals.{first_refusal}
-use Rattle.certificate.specs.CarriedOut.{IsCarriedOut}
-use Rattle.certificate.specs.Sought.{Sought, sought_of}
-use Rattle.certificate.specs.declared.entries.Entry.{Entry}
-use Rattle.certificate.specs.declared.entries.Entry.TheVariants as entry
-use Rattle.certificate.specs.Turns.{Turn, after_told, tellings_of, in_turns, begins_for, turns_for, sought_for}
-use Rattle.certificate.specs.Passes.{IsFormOf, IsAsAskedAlone, IsAsAsked, KeepsSought, KeepsTurn, IsFirstOf, BreaksFirst}
-use Rattle.certificate.proofs.TurnLaws.{IsAlone, asked-alone}
+use Rattle.replies.specs.declared.block.Block.{Block}
+use Rattle.replies.specs.declared.block.Block.TheVariants.{Refused, Filed, Cancelled, Route, NoRoute, Windows, Occupancy, Timetable, Batch, Late}
+use Rattle.replies.specs.declared.rule.Rule.{Rule}
+use Rattle.replies.specs.declared.rule.Rule.TheVariants as rule
+use Rattle.replies.specs.Refusals.{first_refusal}
+use Rattle.replies.specs.CarriedOut.{IsCarriedOut}
+use Rattle.replies.specs.Sought.{Sought, sought_of}
+use Rattle.replies.specs.declared.entries.Entry.{Entry}
+use Rattle.replies.specs.declared.entries.Entry.TheVariants as entry
+use Rattle.replies.specs.Turns.{Turn, after_told, tellings_of, in_turns, begins_for, turns_for, sought_for}
+use Rattle.replies.specs.Passes.{IsFormOf, IsAsAskedAlone, IsAsAsked, KeepsSought, KeepsTurn, IsFirstOf, BreaksFirst}
+use Rattle.replies.proofs.TurnLaws.{IsAlone, asked-alone}
 use Rattle.transcripts.specs.declared.refused.CheckRefused.{CheckRefused}
 use Rattle.transcripts.specs.declared.refused.CheckRefused.TheVariants.{Wrong, Memory}
 use Rattle.certificate_check.specs.Judged.{passed_if, answer_of, IsAnsweredBy, KeepsTold, IsToldOf, IsDueForm, KeepsFor, BreaksFor, IsAfterFor, IsJudged}
-
--- the first rule is broken
-pub reply-first : (IsKept : Rule → Type 0) → (IsKept rule.Reply → ⊥) → IsFirstOf IsKept (Some rule.Reply)
-reply-first IsKept broken = (broken, λ other low. absurd (omega (arith, low)))
 
 -- ---- what is answered
 
@@ -34,18 +29,9 @@ pub form-ok : (kept : Bool) (done : Unit) → passed_if kept ≡ Ok done → kep
 form-ok true done e = refl
 form-ok false done e = absurd (cc e)
 
-pub form-err : (kept : Bool) (why : CheckRefused) → passed_if kept ≡ Err why → (kept ≡ false) × (why ≡ Wrong rule.Reply)
-form-err true why e = absurd (cc e)
-form-err false why e = (refl, cc (sym e))
-
 -- the same where names are compared
 pub name-ok : (kept : Bool) (a b : List ℕ) → kept ≡ bytes_eq a b → (done : Unit) → passed_if kept ≡ Ok done → a ≡ b
 name-ok kept a b is done e = (bytes_decides a b).0 (sym is ∙ form-ok kept done e)
-
-pub name-err : (kept : Bool) (a b : List ℕ) → kept ≡ bytes_eq a b → (why : CheckRefused) → passed_if kept ≡ Err why → (a ≡ b → ⊥) × (why ≡ Wrong rule.Reply)
-name-err kept a b is why e =
-    let fails = form-err kept why e in
-    ((λ same. true≢false (sym ((bytes_decides a b).1 same) ∙ sym is ∙ fails.0)), fails.1)
 
 -- no rule is broken
 pub answer-ok : (broken : Option Rule) (done : Unit) → answer_of broken ≡ Ok done → broken ≡ None
@@ -90,9 +76,6 @@ module _ (s : Sought) (block : Block) where
   pub told-of : IsFormOf s block → (broken : Option Rule) → IsFirstOf (λ r. KeepsSought r s block) broken → IsFirstOf (KeepsTold s block) broken
   told-of form None all = λ r. told-kept form r (all r)
   told-of form (Some broken) first = (told-broken broken first.0, λ r low. told-kept form r (first.1 r low))
-
-  pub not-told : (state : State) → (IsFormOf s block → ⊥) → IsToldOf s block state (Err (Wrong rule.Reply)) state
-  not-told state other = (reply-first (KeepsTold s block) other, refl)
 
   -- what is found after the form is told, where the state stays, and is the one that is told
   pub told-found : IsFormOf s block → (old new : State) (r : Result Unit CheckRefused) → IsAnsweredBy (λ r. KeepsSought r s block) r → new ≡ old → ((done : Unit) → r ≡ Ok done → old ≡ after_told s block) → IsToldOf s block old r new
@@ -160,30 +143,7 @@ module _ (airport : Airport) (state : State) where
   begins-alone (command.Late name time until) alone block = absurd alone
   begins-alone c alone block = refl
 
-  begins-refused : (c : Command) (why : Refusal) → begins_for airport state c (Refused why) ≡ state
-  begins-refused (command.Late name time until) why = refl
-  begins-refused c why = refl
-
 module _ (airport : Airport) (state : State) (command : Command) (block : Block) where
-  -- ---- a refusal is due
-
-  module _ (why : Refusal) (due : first_refusal airport state command ≡ Some why) where
-    refused-keeps : block ≡ Refused why → (r : Rule) → KeepsFor airport state command block r
-    refused-keeps is r = subst (λ b. KeepsFor airport state command b r) (sym is) (kept r) where
-      kept : (r : Rule) → KeepsFor airport state command (Refused why) r
-      kept rule.Reply = rw due refl
-      kept rule.Walk = All-nil _
-      kept rule.Rows = All-nil _
-      kept rule.Start = All-nil _
-      kept rule.Step = All-nil _
-      kept rule.Target = All-nil _
-
-    pub refused-judged : block ≡ Refused why → IsJudged airport command block state (Ok tt) state
-    refused-judged is = (refused-keeps is, subst (λ b. IsAfterFor airport state command b state) (sym is) (sym (begins-refused airport state command why)))
-
-    pub other-judged : (block ≡ Refused why → ⊥) → IsJudged airport command block state (Err (Wrong rule.Reply)) state
-    other-judged other = ((λ form. other (rw due at form)), refl)
-
   module _ (none : first_refusal airport state command ≡ None) where
     -- ---- a command that seeks no walk
 

@@ -1,5 +1,5 @@
 -- The form of a late flight's block: its first entry, those in the way in order, and who is dropped.
-use Rattle.std.proofs.Common.{◌≡◌, ◌↔◌, ◌∙◌, ℕ, ◌-◌, ◌≤◌, List, [], ◌∷◌, length, map, take, drop, get_or, Some, None, IsTrue, refl, sym, ap, subst, arith}
+use Rattle.std.proofs.Common.{◌≡◌, ◌↔◌, ◌∙◌, ℕ, ◌-◌, ◌≤◌, List, [], ◌∷◌, length, map, take, drop, get_or, None, IsTrue, refl, sym, ap, subst, arith}
 use Rattle.std.specs.Prelude.{All, Contains}
 use Rattle.std.specs.List.{list_all}
 use Rattle.std.proofs.lemmas.Bool.{and_parts, and_from, not_from_false, not-true}
@@ -9,11 +9,10 @@ use Rattle.taxi_base.specs.Airport.{Airport}
 use Rattle.taxi_base.specs.State.{State, IsFeasibleState}
 use Rattle.taxi_base.specs.Late.{Delay, Meeting, IsInTheWay}
 use Rattle.taxi_base.proofs.ListLaws.{Contains-map, map-Contains}
-use Rattle.certificate.specs.declared.entries.Entry.{Entry}
-use Rattle.certificate.specs.declared.entries.Entry.TheVariants as entry
-use Rattle.certificate.specs.declared.block.Block.{Block}
-use Rattle.certificate.specs.declared.block.Block.TheVariants.{Late}
-use Rattle.certificate.specs.Repairs.{delay_of, IsDroppedAsDue, TellsRepair}
+use Rattle.replies.specs.declared.entries.Entry.{Entry}
+use Rattle.replies.specs.declared.entries.Entry.TheVariants as entry
+use Rattle.replies.specs.declared.block.Block.{Block}
+use Rattle.replies.specs.Repairs.{delay_of, IsDroppedAsDue, TellsRepair}
 use Rattle.certificate_check.specs.Late.{AreInOrder, AreAllNamed, IsToldFirst, drops_as_due, TellInTurn}
 use Rattle.certificate_check.proofs.LateWay.{way-one}
 
@@ -115,16 +114,3 @@ module _ (airport : Airport) (state : State) (name : List ℕ) (time until : ℕ
   -- of no flight that is on a step
   pub nobody-tells : delay_of state name time until ≡ None → (block : Block) → TellsRepair airport state name time until block → ⊥
   nobody-tells none block tells = cc (sym none ∙ tells.known)
-
-  -- of another flight
-  pub other-tells : (flight : List ℕ) (entries : List (List ℕ × Entry)) → TellsRepair airport state name time until (Late flight entries) → flight ≡ name
-  other-tells flight entries tells = cc tells.block_is
-
-  pub tells-turn : (flight : List ℕ) (entries : List (List ℕ × Entry)) (delay : Delay) → delay_of state name time until ≡ Some delay → TellsRepair airport state name time until (Late flight entries)
-      → TellInTurn airport state delay entries
-  tells-turn flight entries delay known tells =
-      let same_delay : tells.delay ≡ delay = cc (sym tells.known ∙ known) in
-      let same_entries : tells.entries ≡ entries = cc (sym tells.block_is) in
-      subst (λ d. TellInTurn airport state d entries) same_delay
-      (subst (λ es. TellInTurn airport state tells.delay es) same_entries
-      (record { meetings = tells.meetings; in_the_way = tells.in_the_way; in_turn = tells.in_turn; dropped = tells.dropped }))

@@ -6,16 +6,16 @@ use Rattle.taxi_base.specs.State.{State}
 use Rattle.taxi_base.specs.Late.{Delay, base_state}
 use Rattle.taxi_text.specs.declared.command.Command.{Command}
 use Rattle.taxi_text.specs.declared.command.Command.TheVariants as command
-use Rattle.certificate.specs.declared.entries.Entry.{Entry}
-use Rattle.certificate.specs.declared.entries.Entry.TheVariants as entry
-use Rattle.certificate.specs.declared.block.Block.{Block}
-use Rattle.certificate.specs.declared.block.Block.TheVariants.{Route, NoRoute, Late}
-use Rattle.certificate.specs.declared.rule.Rule.{Rule}
-use Rattle.certificate.specs.declared.rule.Rule.TheVariants as rule
-use Rattle.certificate.specs.Refusals.{first_refusal}
-use Rattle.certificate.specs.Repairs.{delay_of, sought_at_turn, TellsRepair}
-use Rattle.certificate.specs.Turns.{Turn, sought_for, tellings_of, in_turns, begins_for, turns_for, after_turns}
-use Rattle.certificate.specs.Passes.{KeepsTurn, BreaksFirst}
+use Rattle.replies.specs.declared.entries.Entry.{Entry}
+use Rattle.replies.specs.declared.entries.Entry.TheVariants as entry
+use Rattle.replies.specs.declared.block.Block.{Block}
+use Rattle.replies.specs.declared.block.Block.TheVariants.{Route, NoRoute, Late}
+use Rattle.replies.specs.declared.rule.Rule.{Rule}
+use Rattle.replies.specs.declared.rule.Rule.TheVariants as rule
+use Rattle.replies.specs.Refusals.{first_refusal}
+use Rattle.replies.specs.Repairs.{delay_of, sought_at_turn, TellsRepair}
+use Rattle.replies.specs.Turns.{Turn, sought_for, tellings_of, in_turns, begins_for, turns_for, after_turns}
+use Rattle.replies.specs.Passes.{KeepsTurn, BreaksFirst}
 use Rattle.transcripts.specs.declared.refused.CheckRefused.{CheckRefused}
 use Rattle.transcripts.specs.declared.refused.CheckRefused.TheVariants.{Wrong, Memory}
 use Rattle.certificate_check.specs.Judged.{IsDueForm, KeepsFor, BreaksFor, IsJudged}

@@ -12,7 +12,7 @@ use Rattle.taxi_base.specs.Late.{Delay, Meeting, prolonged_hold, IsInTheWay, mee
 use Rattle.taxi_base.proofs.ListLaws.{AllPairs-first, AllPairs-rest}
 use Rattle.taxi_base.proofs.NameLaws.{name_precedes-trans}
 use Rattle.taxi_base.proofs.LateLaws.{first-common, common-meets}
-use Rattle.certificate.specs.declared.entries.Entry.{Entry}
+use Rattle.replies.specs.declared.entries.Entry.{Entry}
 use Rattle.certificate_check.proofs.LateWay.{or-none}
 use Rattle.certificate_check.specs.declared.late_order.Met.{Met}
 use Rattle.certificate_check.specs.Late.{meeting_in, IsInWayFrom, ComesAfter, AreInOrder, AreAllNamed}

@@ -12,7 +12,7 @@ use Rattle.taxi_base.specs.Late.{Delay, is_late, steps_kept}
 use Rattle.taxi_base.proofs.AgainLaws.{begun-parts}
 use Rattle.taxi_base.proofs.ListLaws.{Contains-first}
 use Rattle.taxi_base.proofs.WalkLaws.{IsFeasibleWalk-steps}
-use Rattle.certificate.specs.Repairs.{delay_of}
+use Rattle.replies.specs.Repairs.{delay_of}
 use Rattle.check_walks.proofs.StepLaws.{walk-some}
 use Rattle.certificate_check.specs.Late.{IsOnSteps, leave_kept}
 use Rattle.certificate_check.proofs.DeskLaws.{flight-walk, flight-arcs}

@@ -20,12 +20,12 @@ use Rattle.taxi_base.proofs.NameLaws.{All-put_in}
 use Rattle.taxi_base.proofs.NamedLists.{absent-left}
 use Rattle.segment_graph.specs.declared.links.Side.TheVariants.{Tail}
 use Rattle.segment_graph.proofs.Ends.{end_in-exists}
-use Rattle.certificate.specs.Repairs.{way_sought, floor_sought, is_dropped}
-use Rattle.certificate.specs.Refusals.{is_filed}
-use Rattle.certificate.specs.declared.block.Block.{Block}
-use Rattle.certificate.specs.declared.rule.Rule.{Rule}
-use Rattle.certificate.specs.Sought.{UnderWay, Sought, DoesAsAsked, IsWalkFor}
-use Rattle.certificate.specs.Passes.{KeepsSought, IsFirstOf}
+use Rattle.replies.specs.Repairs.{way_sought, floor_sought, is_dropped}
+use Rattle.replies.specs.Refusals.{is_filed}
+use Rattle.replies.specs.declared.block.Block.{Block}
+use Rattle.replies.specs.declared.rule.Rule.{Rule}
+use Rattle.replies.specs.Sought.{UnderWay, Sought, DoesAsAsked, IsWalkFor}
+use Rattle.replies.specs.Passes.{KeepsSought, IsFirstOf}
 use Rattle.transcripts.specs.declared.refused.CheckRefused.{CheckRefused}
 use Rattle.transcripts.specs.declared.refused.CheckRefused.TheVariants.{Wrong, Memory}
 use Rattle.held_spans.specs.declared.spans.HeldSpans.{HeldSpans}
@@ -142,10 +142,6 @@ turn-arcs airport state turn steps is =
 pub turn-err : (s : Sought) (block : Block) (new : State) (broken : Option Rule) (why : CheckRefused) → answer_of broken ≡ Err why → IsFirstOf (λ r. KeepsSought r s block) broken → IsTurnChecked s block (Err why) new
 turn-err s block new broken (Wrong rule) is first = answered-by (λ r. KeepsSought r s block) broken (Err (Wrong rule)) is first
 turn-err s block new broken Memory is first = tt
-
--- with another route, without it on the way
-pub with-turn : (state left new : State) (name : List ℕ) (x : Flight) → left ≡ without name state → new ≡ with_flight x left → new ≡ with_flight x (without name state)
-with-turn state left new name x out put = put ∙ ap (with_flight x) out
 
 -- where there is no route a flight that keeps no step is out, and another stays on the steps that it keeps
 pub stayed-out : (turn : AtTurn) (state left : State) → left ≡ without turn.name state → length turn.kept ≡ 0 → left ≡ after_turn state (flight_in turn) turn.kept (found.NoRoute [])

@@ -5,14 +5,14 @@ use Rattle.taxi_base.specs.declared.answers.Flight.{Flight}
 use Rattle.taxi_base.specs.Airport.{Airport}
 use Rattle.taxi_base.specs.State.{State, flight_named}
 use Rattle.taxi_base.specs.Late.{Delay}
-use Rattle.certificate.specs.declared.entries.Entry.{Entry}
-use Rattle.certificate.specs.declared.entries.Entry.TheVariants as entry
-use Rattle.certificate.specs.declared.block.Block.{Block}
-use Rattle.certificate.specs.declared.block.Block.TheVariants.{Route, NoRoute}
-use Rattle.certificate.specs.Refusals.{is_filed}
-use Rattle.certificate.specs.Repairs.{IsDroppedAsDue, is_dropped, sought_at_turn}
-use Rattle.certificate.specs.Sought.{Sought}
-use Rattle.certificate.specs.Turns.{told_of, after_turns}
+use Rattle.replies.specs.declared.entries.Entry.{Entry}
+use Rattle.replies.specs.declared.entries.Entry.TheVariants as entry
+use Rattle.replies.specs.declared.block.Block.{Block}
+use Rattle.replies.specs.declared.block.Block.TheVariants.{Route, NoRoute}
+use Rattle.replies.specs.Refusals.{is_filed}
+use Rattle.replies.specs.Repairs.{sought_at_turn}
+use Rattle.replies.specs.Sought.{Sought}
+use Rattle.replies.specs.Turns.{told_of, after_turns}
 use Rattle.transcripts.specs.declared.refused.CheckRefused.{CheckRefused}
 use Rattle.transcripts.specs.declared.refused.CheckRefused.TheVariants.{Wrong, Memory}
 use Rattle.certificate_check.specs.Entries.{AreChecked}
@@ -20,28 +20,10 @@ use Rattle.certificate_check.specs.Late.{turn_in, sought_in, IsTurnChecked, IsEn
 use Rattle.certificate_check.proofs.EntryTurns.{kept-on, breaks-here, after-on}
 
 module _ (airport : Airport) (before : State) (delay : Delay) where
-  -- what the flight of a name seeks
-  pub turn-there : (name : List ℕ) (x : Flight) (now : State) → flight_named name before.flights ≡ Some x → IsFalse (is_filed x.request)
-      → sought_at_turn airport delay before name now ≡ Some (sought_in airport now (turn_in airport delay x))
-  turn-there name x now found routed = rw (found, routed) refl
-
   -- of an entry that tells of a search
   pub route-checked : (name : List ℕ) (x : Flight) (now : State) → flight_named name before.flights ≡ Some x → IsFalse (is_filed x.request) → (block : Block) (r : Result Unit CheckRefused) (new : State)
       → IsTurnChecked (sought_in airport now (turn_in airport delay x)) block r new → MatchOption (sought_at_turn airport delay before name now) ⊥ (λ s. IsTurnChecked s block r new)
   route-checked name x now found routed block r new checked = rw (found, routed) checked
-
-  memory-checked : (name : List ℕ) (now : State) → IsFalse (is_dropped before name) → (block : Block) (new : State)
-      → MatchOption (sought_at_turn airport delay before name now) ⊥ (λ s. IsTurnChecked s block (Err Memory) new)
-  memory-checked name now routed block new = go (flight_named name before.flights) refl where
-    go : (o : Option Flight) → flight_named name before.flights ≡ o → MatchOption (sought_at_turn airport delay before name now) ⊥ (λ s. IsTurnChecked s block (Err Memory) new)
-    go None none = absurd (cc (rw none at routed))
-    go (Some x) found = let other = rw found at routed in rw (found, other) tt
-
-  -- where memory runs out nothing is owed
-  pub entry-memory : (name : List ℕ) (e : Entry) (now new : State) → IsDroppedAsDue before (name, e) → (block : Block) → told_of (name, e) ≡ block ∷ [] → IsEntryChecked airport before delay (name, e) now (Err Memory) new
-  entry-memory name (entry.Route second steps labels) now new due block is = memory-checked name now due (Route name second steps labels) new
-  entry-memory name (entry.NoRoute labels) now new due block is = memory-checked name now due (NoRoute labels) new
-  entry-memory name entry.Dropped now new due block is = absurd (cc is)
 
   module _ (start now : State) (all rest : List (List ℕ × Entry)) (name : List ℕ) (e : Entry) where
     abbrev pub SoFar : Type 0

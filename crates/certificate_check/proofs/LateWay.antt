@@ -1,9 +1,9 @@
 -- The first second that a hold has in common with others, and from when on a holder is in the way.
-use Rattle.std.proofs.Common.{◌≡◌, ◌∙◌, ℕ, ◌+◌, ◌<◌, ◌≤◌, min, max, Bool, true, false, ◌||◌, List, [], ◌∷◌, ◌++◌, length, take, get_or, Option, Some, None, is_some, IsTrue, IsFalse, inl, inr, refl, sym, ap, subst, arith}
+use Rattle.std.proofs.Common.{◌≡◌, ◌∙◌, ℕ, ◌+◌, ◌<◌, ◌≤◌, min, Bool, true, false, ◌||◌, List, [], ◌∷◌, ◌++◌, length, take, get_or, Option, Some, None, is_some, IsTrue, IsFalse, inl, inr, refl, sym, ap, subst, arith}
 use Rattle.std.specs.Prelude.{Contains, All, bytes_eq}
 use Rattle.std.specs.List.{list_any}
 use Rattle.std.specs.Cmp.Lexicographic.{bytes_decides}
-use Rattle.std.proofs.lemmas.Bool.{cases_lt, and_parts, and_from, or_from, or_left, or_right, false_from_ne_true, both_ways}
+use Rattle.std.proofs.lemmas.Bool.{cases_lt, and_parts, or_from, or_left, or_right, false_from_ne_true, both_ways}
 use Rattle.std.proofs.lemmas.Option.{none-some}
 use Rattle.std.proofs.lemmas.List.{take_more, map-append}
 use Rattle.std.proofs.lemmas.List.Elements.{All-contains}
@@ -17,7 +17,7 @@ use Rattle.taxi_base.specs.declared.rows.Step.{Step}
 use Rattle.taxi_base.specs.Windows.{Hold, hold_of, holds_of, span_has, clash, blocks}
 use Rattle.taxi_base.specs.State.{State, flight_named, party_named, flight_holds, party_hold, IsFeasibleState}
 use Rattle.taxi_base.specs.Late.{Delay, Meeting, prolonged_hold, IsFirstCommon, IsInTheWay, is_late}
-use Rattle.taxi_base.proofs.ListLaws.{Contains-first, list_any-true, list_any-member}
+use Rattle.taxi_base.proofs.ListLaws.{list_any-true, list_any-member}
 use Rattle.taxi_base.proofs.HoldLaws.{clash-from}
 use Rattle.taxi_base.proofs.WindowLaws.{span_has-from, span_has-true}
 use Rattle.taxi_base.proofs.OtherHolds.{named-there, there-named, named-once}
@@ -87,33 +87,6 @@ module _ (airport : Airport) (hold : Hold) where
   ]
 
   -- ---- of one other hold
-
-  module _ (other : Hold) where
-    other-has : (t : ℕ) → IsTrue (at (other ∷ []) t) → IsTrue (conflict airport.conflicts hold.segment other.segment) × IsTrue (span_has other.span t)
-    other-has t here =
-        and_parts (conflict airport.conflicts hold.segment other.segment) (span_has other.span t)
-        (sym (or-none (blocks airport.conflicts hold.segment t other)) ∙ here)
-
-    pub one-elsewhere : IsFalse (conflict airport.conflicts hold.segment other.segment) → IsFirstIn airport hold (other ∷ []) None
-    one-elsewhere apart = none-common (other ∷ []) (λ t low high. false_from_ne_true _ (λ here. both_ways _ apart (other-has t here).0))
-
-    pub one-apart : min hold.span.until other.span.until ≤ max hold.span.from other.span.from → IsFirstIn airport hold (other ∷ []) None
-    one-apart apart = none-common (other ∷ []) (λ t low high. false_from_ne_true _ (λ here.
-        let inside = span_has-true other.span t (other-has t here).1 in
-        omega (arith, inside.0, inside.1, low, high, apart)))
-
-    pub one-common : IsTrue (conflict airport.conflicts hold.segment other.segment) → max hold.span.from other.span.from < min hold.span.until other.span.until
-        → IsFirstIn airport hold (other ∷ []) (Some (max hold.span.from other.span.from))
-    one-common conflicts low =
-        let from : ℕ = max hold.span.from other.span.from in
-        record {
-          within = span_has-from hold.span from (omega arith) (omega (arith, low));
-          common = list_any-member (blocks airport.conflicts hold.segment from) (other ∷ []) other (Contains-first other [])
-              (and_from (conflict airport.conflicts hold.segment other.segment) (span_has other.span from) conflicts (span_has-from other.span from (omega arith) (omega (arith, low))));
-          first = λ t begun early. false_from_ne_true _ (λ here.
-              let inside = span_has-true other.span t (other-has t here).1 in
-              omega (arith, inside.0, begun, early));
-        }
 
   -- whether there is one
   pub some-meets : (holds : List Hold) (r : Option ℕ) → IsFirstIn airport hold holds r → is_some r ≡ list_any (clash airport.conflicts hold) holds

@@ -11,14 +11,14 @@ use Rattle.taxi_base.proofs.FaultLaws.{hold_fault-None}
 use Rattle.taxi_base.proofs.StateLaws.{IsSound-with_party, IsSound-without}
 use Rattle.taxi_text.specs.declared.command.Shut.{Shut}
 use Rattle.taxi_text.specs.declared.command.Command.TheVariants as command
-use Rattle.certificate.specs.declared.block.Block.{Block}
-use Rattle.certificate.specs.declared.block.Block.TheVariants.{Filed, Cancelled}
-use Rattle.certificate.specs.Asked.{party_of}
-use Rattle.certificate.specs.CarriedOut.{IsOf, IsShut}
-use Rattle.certificate.specs.Replies.{refused, IsDueTo}
-use Rattle.certificate.proofs.FlightLaws.{find-there, without-party}
-use Rattle.certificate.proofs.RefusalLaws.{HasRoom, none-holds, work-has_room, work-does_not_fail}
-use Rattle.certificate.proofs.WindowsTold.{segment_named-exists}
+use Rattle.replies.specs.declared.block.Block.{Block}
+use Rattle.replies.specs.declared.block.Block.TheVariants.{Filed, Cancelled}
+use Rattle.replies.specs.Asked.{party_of}
+use Rattle.replies.specs.CarriedOut.{IsOf, IsShut}
+use Rattle.replies.specs.Replies.{refused, IsDueTo}
+use Rattle.replies.proofs.FlightLaws.{find-there, without-party}
+use Rattle.replies.proofs.RefusalLaws.{HasRoom, none-holds, work-has_room, work-does_not_fail}
+use Rattle.replies.proofs.WindowsTold.{segment_named-exists}
 use Rattle.certificate_check.specs.Parties.{MayShut}
 use Rattle.certificate_check.specs.Judged.{IsAfterFor, IsJudged}
 use Rattle.certificate_check.proofs.JudgedLaws.{done-judged}

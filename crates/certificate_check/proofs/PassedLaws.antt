@@ -6,14 +6,14 @@ use Rattle.taxi_base.specs.Airport.{Airport, IsWellFormed}
 use Rattle.taxi_base.specs.State.{State, IsSound}
 use Rattle.taxi_text.specs.declared.command.Command.{Command}
 use Rattle.taxi_text.specs.Commands.{command_of}
-use Rattle.certificate.specs.declared.block.Block.{Block}
-use Rattle.certificate.specs.declared.block.Block.TheVariants.{Refused, Filed, Cancelled}
-use Rattle.certificate.specs.declared.rule.Rule.{Rule}
-use Rattle.certificate.specs.declared.rule.Rule.TheVariants as rule
-use Rattle.certificate.specs.Replies.{IsDue, as_due, no_memory, NeedsNoMemory}
-use Rattle.certificate.specs.Passes.{KeepsReply, Keeps, IsAfter, IsPassed, IsFirstBroken}
-use Rattle.certificate.proofs.PassLaws.{reply-passes}
-use Rattle.certificate.proofs.BestLaws.{passed-best, passed-sound}
+use Rattle.replies.specs.declared.block.Block.{Block}
+use Rattle.replies.specs.declared.block.Block.TheVariants.{Refused, Filed, Cancelled}
+use Rattle.replies.specs.declared.rule.Rule.{Rule}
+use Rattle.replies.specs.declared.rule.Rule.TheVariants as rule
+use Rattle.replies.specs.Replies.{IsDue, as_due, no_memory, NeedsNoMemory}
+use Rattle.replies.specs.Passes.{KeepsReply, Keeps, IsAfter, IsPassed, IsFirstBroken}
+use Rattle.replies.proofs.PassLaws.{reply-passes}
+use Rattle.replies.proofs.BestLaws.{passed-best, passed-sound}
 use Rattle.transcripts.specs.declared.refused.CheckRefused.{CheckRefused}
 use Rattle.transcripts.specs.declared.refused.CheckRefused.TheVariants as check
 use Rattle.transcripts.specs.Turns.{ChecksIn}

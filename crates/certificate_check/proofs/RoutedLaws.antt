@@ -10,11 +10,11 @@ use Rattle.taxi_base.specs.Airport.{Airport, layout_of, arc_exists}
 use Rattle.taxi_base.specs.Walks.{Conditions, conditions_among, IsFeasibleWalk}
 use Rattle.taxi_base.specs.State.{State, holds_in, IsSound}
 use Rattle.taxi_base.proofs.WalkLaws.{IsFeasibleWalk-steps}
-use Rattle.certificate.specs.declared.block.Block.TheVariants.{Route}
-use Rattle.certificate.specs.declared.rule.Rule.TheVariants as rule
-use Rattle.certificate.specs.Asked.{Choice, request_for}
-use Rattle.certificate.specs.Sought.{Sought, sought_new, sought_any, IsWalkFor}
-use Rattle.certificate.specs.Passes.{KeepsSought, IsFirstOf}
+use Rattle.replies.specs.declared.block.Block.TheVariants.{Route}
+use Rattle.replies.specs.declared.rule.Rule.TheVariants as rule
+use Rattle.replies.specs.Asked.{Choice, request_for}
+use Rattle.replies.specs.Sought.{Sought, sought_new, sought_any, IsWalkFor}
+use Rattle.replies.specs.Passes.{KeepsSought, IsFirstOf}
 use Rattle.held_spans.specs.declared.spans.HeldSpans.{HeldSpans}
 use Rattle.held_spans.specs.Spans.{AreSpansOf, holds_in_lists}
 use Rattle.check_rows.specs.declared.known.KnownWindows.{KnownWindows}

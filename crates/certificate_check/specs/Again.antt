@@ -4,9 +4,9 @@ use Rattle.taxi_base.specs.declared.answers.Flight.{Flight}
 use Rattle.taxi_base.specs.declared.answers.Request.{Request}
 use Rattle.taxi_base.specs.Airport.{Airport}
 use Rattle.taxi_base.specs.State.{State, flight_named, conditions_of}
-use Rattle.certificate.specs.declared.block.Block.{Block}
-use Rattle.certificate.specs.Sought.{Sought}
-use Rattle.certificate.specs.Passes.{KeepsSought}
+use Rattle.replies.specs.declared.block.Block.{Block}
+use Rattle.replies.specs.Sought.{Sought}
+use Rattle.replies.specs.Passes.{KeepsSought}
 use Rattle.transcripts.specs.declared.refused.CheckRefused.{CheckRefused}
 use Rattle.check_walks.specs.Told.{Seeks}
 use Rattle.certificate_check.specs.Judged.{IsAnsweredBy}

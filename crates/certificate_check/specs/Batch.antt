@@ -1,22 +1,16 @@
 -- How is the block of a batch checked: which entries tell of each wish once, and what do they seek one after the other?
-use Rattle.std.specs.Prelude.{ℕ, ◌≡◌, ◌+◌, ◌≤◌, pos, Bool, true, false, List, map, filter, length, All, AllPairs, IsPermutation, IsFalse, IsSome, bytes_eq, Option, option_map, is_none}
+use Rattle.std.specs.Prelude.{ℕ, ◌≡◌, ◌+◌, ◌≤◌, pos, List, map, filter, length, All, AllPairs, IsPermutation, IsFalse, IsSome, bytes_eq, Option, option_map, is_none}
 use Rattle.taxi_base.specs.Airport.{Airport}
 use Rattle.taxi_base.specs.State.{State, has_holder, holder_count}
-use Rattle.certificate.specs.declared.entries.Entry.{Entry}
-use Rattle.certificate.specs.declared.entries.Entry.TheVariants as entry
-use Rattle.certificate.specs.declared.wish.Wish.{Wish}
-use Rattle.certificate.specs.Printable.{IsTold}
-use Rattle.certificate.specs.Batches.{wish_named, names_of, total_of}
-use Rattle.certificate.specs.Sought.{Sought, sought_wish}
-use Rattle.certificate.specs.Turns.{Turn}
+use Rattle.replies.specs.declared.entries.Entry.{Entry}
+use Rattle.replies.specs.declared.wish.Wish.{Wish}
+use Rattle.replies.specs.Printable.{IsTold}
+use Rattle.replies.specs.Batches.{wish_named, names_of, total_of}
+use Rattle.replies.specs.Sought.{Sought, sought_wish}
+use Rattle.replies.specs.Turns.{Turn}
 use Rattle.certificate_check.specs.Entries.{turns_by}
 
 -- ---- the form
-
--- something is told of the flight
-abbrev pub is_told : List ℕ × Entry → Bool
-is_told (name, entry.Dropped) = false
-is_told (name, told) = true
 
 -- each wish is told of exactly once, in any order, and none is dropped
 abbrev pub TellsOfEach : List Wish → List (List ℕ × Entry) → Type 0

@@ -3,9 +3,9 @@ use Rattle.std.specs.Prelude.{ℕ, ◌≡◌, ◌⊎◌, List, Result, Ok, Err}
 use Rattle.taxi_base.specs.Airport.{Airport}
 use Rattle.taxi_base.specs.State.{State}
 use Rattle.taxi_base.specs.declared.answers.Refusal.TheVariants as refusal
-use Rattle.certificate.specs.declared.block.Block.{Block}
-use Rattle.certificate.specs.declared.block.Block.TheVariants.{Refused}
-use Rattle.certificate.specs.declared.rule.Rule.TheVariants.{Reply}
+use Rattle.replies.specs.declared.block.Block.{Block}
+use Rattle.replies.specs.declared.block.Block.TheVariants.{Refused}
+use Rattle.replies.specs.declared.rule.Rule.TheVariants.{Reply}
 use Rattle.transcripts.specs.declared.refused.CheckRefused.{CheckRefused}
 use Rattle.transcripts.specs.declared.refused.CheckRefused.TheVariants.{Wrong, Memory}
 use Rattle.transcripts.specs.Turns.{ChecksIn}

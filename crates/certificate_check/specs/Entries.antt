@@ -1,13 +1,13 @@
 -- What is found of the entries of a block, one after the other?
 use Rattle.std.specs.Prelude.{ℕ, List, [], ◌∷◌, flat_map, All, Option, Result, Ok, Err, ⊤}
 use Rattle.taxi_base.specs.State.{State}
-use Rattle.certificate.specs.declared.entries.Entry.{Entry}
-use Rattle.certificate.specs.declared.entries.Entry.TheVariants as entry
-use Rattle.certificate.specs.declared.block.Block.TheVariants.{Route, NoRoute}
-use Rattle.certificate.specs.declared.rule.Rule.{Rule}
-use Rattle.certificate.specs.Sought.{Sought}
-use Rattle.certificate.specs.Turns.{Turn, Telling, in_turns}
-use Rattle.certificate.specs.Passes.{KeepsTurn, BreaksFirst}
+use Rattle.replies.specs.declared.entries.Entry.{Entry}
+use Rattle.replies.specs.declared.entries.Entry.TheVariants as entry
+use Rattle.replies.specs.declared.block.Block.TheVariants.{Route, NoRoute}
+use Rattle.replies.specs.declared.rule.Rule.{Rule}
+use Rattle.replies.specs.Sought.{Sought}
+use Rattle.replies.specs.Turns.{Turn, Telling, in_turns}
+use Rattle.replies.specs.Passes.{KeepsTurn, BreaksFirst}
 use Rattle.transcripts.specs.declared.refused.CheckRefused.{CheckRefused}
 use Rattle.transcripts.specs.declared.refused.CheckRefused.TheVariants.{Wrong, Memory}
 

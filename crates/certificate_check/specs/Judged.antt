@@ -3,15 +3,15 @@ use Rattle.std.specs.Prelude.{◌≡◌, Bool, if◌then◌else◌, Option, Some
 use Rattle.taxi_base.specs.Airport.{Airport}
 use Rattle.taxi_base.specs.State.{State}
 use Rattle.taxi_text.specs.declared.command.Command.{Command}
-use Rattle.certificate.specs.declared.block.Block.{Block}
-use Rattle.certificate.specs.declared.block.Block.TheVariants.{Refused, Filed, Cancelled}
-use Rattle.certificate.specs.declared.rule.Rule.{Rule}
-use Rattle.certificate.specs.declared.rule.Rule.TheVariants as rule
-use Rattle.certificate.specs.Refusals.{first_refusal}
-use Rattle.certificate.specs.Replies.{IsDueTo}
-use Rattle.certificate.specs.Sought.{Sought}
-use Rattle.certificate.specs.Turns.{after_told, begins_for, turns_for, after_turns}
-use Rattle.certificate.specs.Passes.{IsFormOf, IsAsAsked, KeepsSought, KeepsTurn, IsFirstOf, BreaksFirst}
+use Rattle.replies.specs.declared.block.Block.{Block}
+use Rattle.replies.specs.declared.block.Block.TheVariants.{Refused, Filed, Cancelled}
+use Rattle.replies.specs.declared.rule.Rule.{Rule}
+use Rattle.replies.specs.declared.rule.Rule.TheVariants as rule
+use Rattle.replies.specs.Refusals.{first_refusal}
+use Rattle.replies.specs.Replies.{IsDueTo}
+use Rattle.replies.specs.Sought.{Sought}
+use Rattle.replies.specs.Turns.{after_told, begins_for, turns_for, after_turns}
+use Rattle.replies.specs.Passes.{IsFormOf, IsAsAsked, KeepsSought, KeepsTurn, IsFirstOf, BreaksFirst}
 use Rattle.transcripts.specs.declared.refused.CheckRefused.{CheckRefused}
 use Rattle.transcripts.specs.declared.refused.CheckRefused.TheVariants.{Wrong, Memory}
 

@@ -8,14 +8,14 @@ use Rattle.taxi_base.specs.Airport.{Airport, layout_of, arc_exists, segment_of, 
 use Rattle.taxi_base.specs.Windows.{Hold, clash}
 use Rattle.taxi_base.specs.State.{State, party_named, with_flight}
 use Rattle.taxi_base.specs.Late.{Delay, Meeting, IsFirstCommon, IsInTheWay, meeting_precedes, AreInTheWay, is_late, soonest_leave, steps_kept, request_sought, time_sought}
-use Rattle.certificate.specs.declared.entries.Entry.{Entry}
-use Rattle.certificate.specs.declared.entries.Entry.TheVariants as entry
-use Rattle.certificate.specs.declared.block.Block.{Block}
-use Rattle.certificate.specs.declared.block.Block.TheVariants.{Route, NoRoute}
-use Rattle.certificate.specs.Repairs.{names_in_turn, is_dropped, IsDroppedAsDue, sought_on, sought_at_turn}
-use Rattle.certificate.specs.Sought.{Sought}
-use Rattle.certificate.specs.Turns.{Turn, after_told}
-use Rattle.certificate.specs.Passes.{KeepsSought, IsFirstOf}
+use Rattle.replies.specs.declared.entries.Entry.{Entry}
+use Rattle.replies.specs.declared.entries.Entry.TheVariants as entry
+use Rattle.replies.specs.declared.block.Block.{Block}
+use Rattle.replies.specs.declared.block.Block.TheVariants.{Route, NoRoute}
+use Rattle.replies.specs.Repairs.{names_in_turn, is_dropped, IsDroppedAsDue, sought_on, sought_at_turn}
+use Rattle.replies.specs.Sought.{Sought}
+use Rattle.replies.specs.Turns.{Turn, after_told}
+use Rattle.replies.specs.Passes.{KeepsSought, IsFirstOf}
 use Rattle.transcripts.specs.declared.refused.CheckRefused.{CheckRefused}
 use Rattle.transcripts.specs.declared.refused.CheckRefused.TheVariants.{Wrong, Memory}
 use Rattle.certificate_check.specs.declared.late_form.LateFlight.{LateFlight}

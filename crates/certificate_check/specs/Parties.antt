@@ -5,7 +5,7 @@ use Rattle.taxi_base.specs.Airport.{Airport, segment_named}
 use Rattle.taxi_base.specs.State.{State}
 use Rattle.taxi_text.specs.declared.command.Shut.{Shut}
 use Rattle.taxi_text.specs.declared.command.Command.TheVariants as command
-use Rattle.certificate.specs.Refusals.{first_refusal}
+use Rattle.replies.specs.Refusals.{first_refusal}
 
 -- it is not refused, and this is its segment
 pub record MayShut (airport : Airport) (state : State) (asked : Shut) (segment : Segment) : Type 0 where

@@ -6,8 +6,8 @@ use Rattle.taxi_base.specs.declared.answers.Flight.{Flight}
 use Rattle.taxi_base.specs.Airport.{Airport}
 use Rattle.taxi_base.specs.State.{State}
 use Rattle.taxi_base.specs.Reports.{flight_row, AreHeldRows}
-use Rattle.certificate.specs.declared.block.Block.{Block}
-use Rattle.certificate.specs.declared.block.Block.TheVariants.{Occupancy, Timetable}
+use Rattle.replies.specs.declared.block.Block.{Block}
+use Rattle.replies.specs.declared.block.Block.TheVariants.{Occupancy, Timetable}
 
 abbrev pub IsOccupancyOf : Airport → State → Segment → Block → Type 0
 IsOccupancyOf airport state segment block = (rows : List HeldRow) × (block ≡ Occupancy segment rows) × AreHeldRows airport state segment rows

@@ -5,8 +5,8 @@ ghost use Rattle.taxi_base.specs.declared.rows.Step.{Step as StepRow};
 ghost use Rattle.taxi_base.specs.Windows.{Hold};
 ghost use Rattle.taxi_base.specs.Walks.{Meets, free_among};
 ghost use Rattle.taxi_base.specs.State.{flight_named, flight_holds, without, with_route, conditions_of, IsSound};
-ghost use Rattle.certificate.specs.declared.block.Block.TheVariants.{Route, NoRoute};
-ghost use Rattle.certificate.specs.Sought.{sought_again, IsWalkOnFor};
+ghost use Rattle.replies.specs.declared.block.Block.TheVariants.{Route, NoRoute};
+ghost use Rattle.replies.specs.Sought.{sought_again, IsWalkOnFor};
 ghost use Rattle.check_rows.specs.Known.{AreKnown, HaveMore};
 ghost use Rattle.checked_state.specs.Flights.{state_of, HasSpansOf, HasRoomAgain};
 ghost use Rattle.check_walks.specs.Told.{CanBeSought};
@@ -18,10 +18,10 @@ ghost use Rattle.certificate_check.specs.Again.{IsFoundAmong};
 use crate::CheckRefused;
 use crate::reply::{pass_if, pass_unless};
 use airport_file::Airport;
-use certificate::Block;
 use check_rows::KnownWindows;
 use check_walks::{OnTheWay, SoughtWalk, ToldRoute, check_no_route, check_route};
 use checked_state::HeldFlights;
+use replies::Block;
 use taxi_base::{LabelRow, List, Memory, Name, Request, Step, Time};
 
 /// A flight in force that is routed anew: from which time on, with what request, and whether there may be no route.

@@ -9,10 +9,10 @@ use crate::CheckRefused;
 use crate::again::{Anew, check_again};
 use crate::reply::{is_refusal, pass_if};
 use airport_file::Airport;
-use certificate::Block;
 use check_rows::KnownWindows;
 use checked_state::HeldFlights;
 use due_refusals::{divert_refused, reroute_refused};
+use replies::Block;
 use taxi_base::{Name, Refusal, Time};
 
 /// Checks the block of a reroute.

@@ -2,10 +2,10 @@
 ghost use Rattle.std.specs.Prelude.{◌≡◌, ◌≤◌, ◌^◌, ◌↔◌, ◌≤ℤ◌, ◌-ℤ◌, ℕ, pos, length, All, AllPairs, IsTrue, IsFalse, bytes_eq, option_copied};
 ghost use Rattle.std.specs.Bool.{OnTrue};
 ghost use Rattle.std.specs.List.{list_any, list_all};
-ghost use Rattle.certificate.specs.Batches.{wish_named, names_of, cost_of, cost_among, total_of};
-ghost use Rattle.certificate_check.specs.Batch.{is_told, TellsOfEach, TellsWishes};
+ghost use Rattle.replies.specs.Batches.{wish_named, names_of, cost_of, cost_among, total_of};
+ghost use Rattle.certificate_check.specs.Batch.{TellsOfEach, TellsWishes};
 
-use certificate::{Entry, Wish};
+use replies::{Entry, Wish, are_told};
 use taxi_base::{Name, Request, Time};
 
 /// What a request counts that has no route.
@@ -26,13 +26,6 @@ fn tells_of_each(wishes: &[Wish], entries: &[(Name, Entry)]) -> bool
     ensures many { OnTrue result (length entries.now ≡ length wishes.now) }
 {
     entries.len() == wishes.len() && are_told(entries) && are_named(wishes, entries)
-}
-
-// Whether something is told in each entry.
-fn are_told(entries: &[(Name, Entry)]) -> bool
-    ensures { result ≡ list_all is_told entries.now }
-{
-    entries.iter().all(|told| !matches!(told.1, Entry::Dropped))
 }
 
 // Whether an entry tells of each wish.

@@ -1,6 +1,6 @@
 //! The checker as that of the blocks of a transcript.
 use crate::{CheckRefused, Checker};
-use certificate::Block;
+use replies::Block;
 use transcripts::BlockChecker;
 
 impl<'a> BlockChecker for Checker<'a> {

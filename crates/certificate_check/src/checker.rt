@@ -6,9 +6,9 @@ ghost use Rattle.certificate_check.specs.Checker.{Checks};
 use crate::CheckRefused;
 use crate::line::check_line;
 use airport_file::Airport;
-use certificate::Block;
 use check_rows::KnownWindows;
 use checked_state::HeldFlights;
+use replies::Block;
 use std::alloc::Global;
 use std::marker::Model;
 use taxi_base::Memory;
@@ -50,7 +50,13 @@ impl<'a> Checker<'a> {
         })
     }
 
-    /// Checks the block that answers a line. Where it passes the state is that afterwards; else it stays as it was.
+    /// Checks the block that answers a line: whether it is the one that is due in this state. Where it passes, the state is that
+    /// afterwards. Else it stays as it was, and the first rule that the block breaks is told.
+    ///
+    /// Any line may be given, and any block, in the order in which a run has them. `Memory` comes where no room can be made.
+    ///
+    /// Say that F1 alone is in force. Then `cancelled F1` passes for the line `cancel F1`, and no flight is in force any more. Told
+    /// once again it breaks the rule `reply`, since `refused not-in-force` is due then.
     pub fn check_next(&mut self, line: &[u8], block: Block) -> Result<(), CheckRefused>
         ensures { Checks line.now block self.old result self.new }
     {

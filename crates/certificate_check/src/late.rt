@@ -2,7 +2,7 @@
 ghost use Rattle.std.specs.Prelude.{◌≡◌, None, All, OnOk};
 ghost use Rattle.taxi_base.specs.State.{IsSound};
 ghost use Rattle.taxi_text.specs.declared.command.Command.TheVariants as command;
-ghost use Rattle.certificate.specs.Refusals.{first_refusal};
+ghost use Rattle.replies.specs.Refusals.{first_refusal};
 ghost use Rattle.checked_state.specs.Flights.{state_of};
 ghost use Rattle.certificate_check.specs.Desk.{CanGoOn, IsReady, IsTidy};
 ghost use Rattle.certificate_check.specs.Judged.{IsJudged};
@@ -14,10 +14,10 @@ use crate::late_form::told_in_turn;
 use crate::late_turns::check_turns;
 use crate::reply::{is_refusal, pass_if};
 use airport_file::Airport;
-use certificate::{Block, Rule};
 use check_rows::KnownWindows;
 use checked_state::HeldFlights;
 use due_refusals::late_refused;
+use replies::{Block, Rule};
 use std::alloc::Global;
 use taxi_base::{Name, Time};
 

@@ -4,15 +4,15 @@ ghost use Rattle.std.specs.Prelude.{◌≡◌, ◌↔◌, ◌<◌, IsTrue, All, 
 ghost use Rattle.std.specs.List.{list_all};
 ghost use Rattle.taxi_base.specs.Airport.{layout_of, arc_exists};
 ghost use Rattle.taxi_base.specs.State.{IsSound};
-ghost use Rattle.certificate.specs.declared.block.Block.TheVariants.{Late};
-ghost use Rattle.certificate.specs.Repairs.{delay_of, is_dropped, IsDroppedAsDue, TellsRepair};
+ghost use Rattle.replies.specs.declared.block.Block.TheVariants.{Late};
+ghost use Rattle.replies.specs.Repairs.{delay_of, is_dropped, IsDroppedAsDue, TellsRepair};
 ghost use Rattle.checked_state.specs.Flights.{state_of};
 ghost use Rattle.certificate_check.specs.Late.{delay_in, AreInOrder, AreAllNamed, IsToldFirst, drops_as_due, TellInTurn};
 
 use crate::late_order::{are_all_named, are_in_order};
 use airport_file::Airport;
-use certificate::{Block, Entries, Entry};
 use checked_state::HeldFlights;
+use replies::{Block, Entries, Entry};
 use taxi_base::{Flight, Name, Request, Step, Time, under_way};
 
 /// A flight that is late: the step that it is on at a time, and until when it stays on it.

@@ -10,8 +10,8 @@ use crate::batch_form::is_named;
 use crate::late_form::LateFlight;
 use crate::late_way::{flight_meets, flight_second, is_late, party_meets, party_second};
 use airport_file::Airport;
-use certificate::Entry;
 use checked_state::{FlightList, HeldFlights};
+use replies::Entry;
 use taxi_base::{Flight, Name, Party, Time};
 
 /// A holder that is in the way from a second on.

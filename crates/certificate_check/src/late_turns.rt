@@ -1,8 +1,8 @@
 //! The turns of a late flight and of those in its way, one after the other.
 ghost use Rattle.std.specs.Prelude.{◌≡◌, All, OnOk};
 ghost use Rattle.taxi_base.specs.State.{IsSound};
-ghost use Rattle.certificate.specs.Repairs.{IsDroppedAsDue};
-ghost use Rattle.certificate.specs.Turns.{after_turns};
+ghost use Rattle.replies.specs.Repairs.{IsDroppedAsDue};
+ghost use Rattle.replies.specs.Turns.{after_turns};
 ghost use Rattle.checked_state.specs.Flights.{state_of};
 ghost use Rattle.certificate_check.specs.Desk.{CanGoOn, IsTidy};
 ghost use Rattle.certificate_check.specs.Entries.{AreChecked};
@@ -12,9 +12,9 @@ use crate::CheckRefused;
 use crate::late_form::LateFlight;
 use crate::late_turn::{check_turn_route, check_turn_without, find_turn};
 use airport_file::Airport;
-use certificate::Entry;
 use check_rows::KnownWindows;
 use checked_state::HeldFlights;
+use replies::Entry;
 use std::alloc::Global;
 use taxi_base::Name;
 

@@ -1,7 +1,7 @@
 //! Lines that shut a segment for a work party, and open it again.
 ghost use Rattle.std.specs.Prelude.{◌≡◌, ◌↔◌, IsTrue};
 ghost use Rattle.taxi_text.specs.declared.command.Command.TheVariants as command;
-ghost use Rattle.certificate.specs.declared.block.Block.TheVariants.{Filed};
+ghost use Rattle.replies.specs.declared.block.Block.TheVariants.{Filed};
 ghost use Rattle.checked_state.specs.Flights.{state_of};
 ghost use Rattle.certificate_check.specs.Desk.{IsReady};
 ghost use Rattle.certificate_check.specs.Judged.{IsJudged};
@@ -10,10 +10,10 @@ ghost use Rattle.certificate_check.specs.Parties.{MayShut};
 use crate::CheckRefused;
 use crate::reply::{is_cancelled, is_refusal, pass_if};
 use airport_file::Airport;
-use certificate::Block;
 use check_rows::KnownWindows;
 use checked_state::HeldFlights;
 use due_refusals::{hold_fault, named_party};
+use replies::Block;
 use taxi_base::{Name, Party, Refusal, Segment, Span};
 use taxi_text::Shut;
 

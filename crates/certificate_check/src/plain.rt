@@ -1,7 +1,7 @@
 //! Commands that seek no walk: flights that are cancelled, and windows that are told.
 ghost use Rattle.std.specs.Prelude.{◌≡◌, ◌↔◌, IsTrue, length};
 ghost use Rattle.taxi_text.specs.declared.command.Command.TheVariants as command;
-ghost use Rattle.certificate.specs.declared.block.Block.TheVariants.{Windows};
+ghost use Rattle.replies.specs.declared.block.Block.TheVariants.{Windows};
 ghost use Rattle.checked_state.specs.Flights.{state_of};
 ghost use Rattle.certificate_check.specs.Desk.{IsReady};
 ghost use Rattle.certificate_check.specs.Judged.{IsJudged};
@@ -9,9 +9,9 @@ ghost use Rattle.certificate_check.specs.Judged.{IsJudged};
 use crate::CheckRefused;
 use crate::reply::{is_cancelled, is_refusal, pass_if};
 use airport_file::Airport;
-use certificate::Block;
 use check_rows::KnownWindows;
 use checked_state::HeldFlights;
+use replies::Block;
 use taxi_base::{Name, Refusal, Segment, Span};
 
 /// Checks the block of a cancelled flight. Where it passes the flight is taken out of force.

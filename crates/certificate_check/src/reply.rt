@@ -1,10 +1,10 @@
 //! Rule `reply`: whether a block is of the form that is due.
 ghost use Rattle.std.specs.Prelude.{◌≡◌, ◌↔◌, IsTrue};
-ghost use Rattle.certificate.specs.declared.block.Block.TheVariants.{Refused, Cancelled};
+ghost use Rattle.replies.specs.declared.block.Block.TheVariants.{Refused, Cancelled};
 ghost use Rattle.certificate_check.specs.Judged.{passed_if, answer_of};
 
 use crate::CheckRefused;
-use certificate::{Block, Rule};
+use replies::{Block, Rule};
 use taxi_base::{Name, Refusal};
 
 /// Passes where a block is of the form that is due.

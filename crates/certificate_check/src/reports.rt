@@ -10,9 +10,9 @@ ghost use Rattle.certificate_check.specs.Reports.{IsOccupancyOf, IsTimetableOf};
 use crate::CheckRefused;
 use crate::reply::{is_refusal, pass_if};
 use airport_file::Airport;
-use certificate::Block;
 use check_reports::{are_flight_rows, are_held_rows};
 use checked_state::{FlightList, HeldFlights};
+use replies::Block;
 use taxi_base::{Name, Refusal, Segment};
 
 /// Checks the block of what is held of a segment.

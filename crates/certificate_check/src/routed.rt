@@ -3,7 +3,7 @@ ghost use Rattle.std.specs.Prelude.{◌≡◌, ◌<◌, false, OnOk, OnErr};
 ghost use Rattle.taxi_base.specs.Walks.{Meets};
 ghost use Rattle.taxi_base.specs.State.{has_holder, holder_count, with_flight};
 ghost use Rattle.taxi_base.specs.Faults.{conditions_in};
-ghost use Rattle.certificate.specs.Sought.{sought_new};
+ghost use Rattle.replies.specs.Sought.{sought_new};
 ghost use Rattle.checked_state.specs.Flights.{state_of};
 ghost use Rattle.check_walks.specs.Told.{CanBeSought};
 ghost use Rattle.certificate_check.specs.Desk.{CanGoOn, IsReady};
@@ -13,10 +13,10 @@ use crate::CheckRefused;
 use crate::again::cut_out;
 use crate::reply::{pass_if, pass_unless};
 use airport_file::Airport;
-use certificate::Block;
 use check_rows::KnownWindows;
 use check_walks::{SoughtWalk, ToldRoute, check_no_route, check_route};
 use checked_state::HeldFlights;
+use replies::Block;
 use taxi_base::{Class, Flight, Memory, Name, Request};
 
 /// Checks what is told of a new flight. Where a route passes, the flight is in force on it afterwards.

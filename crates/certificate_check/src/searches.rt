@@ -1,6 +1,6 @@
 //! Lines that seek a walk for a new flight.
 ghost use Rattle.taxi_text.specs.declared.command.Command.TheVariants as command;
-ghost use Rattle.certificate.specs.Printable.{IsShort};
+ghost use Rattle.replies.specs.Printable.{IsShort};
 ghost use Rattle.checked_state.specs.Flights.{state_of};
 ghost use Rattle.certificate_check.specs.Desk.{IsReady};
 ghost use Rattle.certificate_check.specs.Judged.{IsJudged};
@@ -9,10 +9,10 @@ use crate::CheckRefused;
 use crate::reply::{is_refusal, pass_if};
 use crate::routed::check_new;
 use airport_file::Airport;
-use certificate::Block;
 use check_rows::KnownWindows;
 use checked_state::HeldFlights;
 use due_refusals::{named_arrival, named_departure};
+use replies::Block;
 use taxi_base::Request;
 use taxi_text::Asked;
 

@@ -12,12 +12,14 @@ use Rattle.walk_labels.specs.BackwardRules.{IsFinishAt}
 use Rattle.taxi_base.proofs.OneOfLaws.{OneOf-found, OneOf-member}
 use Rattle.taxi_base.proofs.AirportLaws.{permits-exist}
 use Rattle.segment_graph.specs.Graphs.{AreLeaving, AreEntering}
-use Rattle.check_rows.specs.declared.reach.Way.{Way}
-use Rattle.check_rows.specs.declared.reach.Way.TheVariants.{Forward, Backward}
-use Rattle.check_rows.specs.declared.reach.Reach.{Reach}
-use Rattle.check_rows.specs.Rules.{HasEach, ComesOf}
-use Rattle.check_rows.specs.Reached.{IsReachedBy, IsReachedAt, reach_of, AreNeighbours}
-use Rattle.check_rows.proofs.EachLaws.{each-by_parts}
+use Rattle.table_rows.specs.declared.reach.Way.{Way}
+use Rattle.table_rows.specs.declared.reach.Way.TheVariants.{Forward, Backward}
+use Rattle.table_rows.specs.declared.reach.Reach.{Reach}
+use Rattle.table_rows.specs.HasRows.{HasEach}
+use Rattle.check_rows.specs.Rules.{ComesOf}
+use Rattle.table_rows.specs.Reached.{IsReachedBy, IsReachedAt}
+use Rattle.check_rows.specs.Comes.{reach_of, AreNeighbours}
+use Rattle.table_rows.proofs.EachLaws.{each-by_parts}
 
 -- ---- arcs of a turn
 

@@ -1,12 +1,8 @@
 pub mod LoopLaws
-pub mod AmongLaws
-pub mod RowLaws
 pub mod PlaceLaws
 pub mod KnownLaws
 pub mod ListCuts
-pub mod EachLaws
-pub mod ReachLaws
-pub mod ServedLaws
+pub mod RuleLaws
 pub mod ArcLaws
 pub mod VerdictLaws
 mod ListReturns

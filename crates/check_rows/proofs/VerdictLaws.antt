@@ -5,11 +5,12 @@ use Rattle.taxi_base.specs.declared.rows.LabelRow.{LabelRow}
 use Rattle.taxi_base.specs.Walks.{Conditions}
 use Rattle.walk_labels.specs.Rules.{PassesForward}
 use Rattle.walk_labels.specs.BackwardRules.{PassesBackward}
-use Rattle.check_rows.specs.declared.reach.Way.TheVariants.{Forward, Backward}
+use Rattle.table_rows.specs.declared.reach.Way.TheVariants.{Forward, Backward}
 use Rattle.check_rows.specs.declared.verdict.RowRule.{RowRule}
 use Rattle.check_rows.specs.declared.verdict.RowRule.TheVariants.{Rows, Start, Step, Target}
 use Rattle.check_rows.specs.Verdict.{IsVerdict}
-use Rattle.check_rows.specs.Rules.{HasEach, AreAtPlaces, AreClosed, FallShort, IsTableVerdict}
+use Rattle.table_rows.specs.HasRows.{HasEach}
+use Rattle.check_rows.specs.Rules.{AreAtPlaces, AreClosed, FallShort, IsTableVerdict}
 
 verdict-none : (A B C D : Type 0) (verdict : Option RowRule) → IsVerdict A B C D verdict → (verdict ≡ None) ↔ (A × B × C × D)
 verdict-none A B C D None all = (λ _. all, λ _. refl)

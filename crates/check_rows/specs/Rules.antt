@@ -5,20 +5,19 @@ use Rattle.taxi_base.specs.declared.numbers.Arc.{Arc}
 use Rattle.taxi_base.specs.declared.rows.LabelRow.{LabelRow}
 use Rattle.taxi_base.specs.Airport.{Airport, Layout, layout_of, head, tail}
 use Rattle.taxi_base.specs.Walks.{Conditions}
-use Rattle.label_core.specs.Tables.{IsBelow}
-use Rattle.label_core.specs.BackwardTables.{IsAbove}
 use Rattle.walk_labels.specs.Places.{IsPlace, place_of}
 use Rattle.taxi_base.specs.Choices.{OneOf}
 use Rattle.walk_labels.specs.Requests.{Beginning}
 use Rattle.walk_labels.specs.Requests.Beginning.{at_node, resuming}
-use Rattle.walk_labels.specs.Rules.{IsNext, HasAsEarly}
-use Rattle.walk_labels.specs.BackwardRules.{IsPrevious, HasAsLate}
+use Rattle.walk_labels.specs.Rules.{IsNext}
+use Rattle.walk_labels.specs.BackwardRules.{IsPrevious}
 use Rattle.check_rows.specs.declared.arrivals.Begin.{Begin}
 use Rattle.check_rows.specs.declared.arrivals.Begin.TheVariants.{AtNode, Resuming}
-use Rattle.check_rows.specs.declared.reach.Way.{Way}
-use Rattle.check_rows.specs.declared.reach.Way.TheVariants.{Forward, Backward}
+use Rattle.table_rows.specs.declared.reach.Way.{Way}
+use Rattle.table_rows.specs.declared.reach.Way.TheVariants.{Forward, Backward}
 use Rattle.check_rows.specs.declared.verdict.RowRule.{RowRule}
-use Rattle.check_rows.specs.Rows.{AreOrdered}
+use Rattle.table_rows.specs.Rows.{AreOrdered}
+use Rattle.table_rows.specs.HasRows.{IsShort, HasAsGood, HasEach}
 use Rattle.check_rows.specs.Verdict.{IsVerdict}
 
 -- ---- how walks begin
@@ -34,16 +33,6 @@ CanCheck airport (Resuming begun exit_from) = begun.enter ≤ 9999999
 
 -- ---- the two ways
 
--- short of the bound: below it going on, above it going back
-abbrev pub IsShort : Way → Option ℕ → ℕ → Type 0
-IsShort Forward bound value = IsBelow bound value
-IsShort Backward bound value = IsAbove bound value
-
--- a row has the label's arc and window, and a value that is at least as early, or as late
-abbrev pub HasAsGood : Way → List LabelRow → LabelRow → Type 0
-HasAsGood Forward rows label = HasAsEarly rows label
-HasAsGood Backward rows label = HasAsLate rows label
-
 -- a label comes of another
 abbrev pub ComesOf : Way → Conditions → LabelRow → LabelRow → Type 0
 ComesOf Forward c row label = IsNext c row label
@@ -53,10 +42,6 @@ ComesOf Backward c row label = IsPrevious c row label
 abbrev pub far_end : Way → Layout → Arc → Option Node
 far_end Forward layout arc = head layout arc
 far_end Backward layout arc = tail layout arc
-
--- each label of a kind that is short of the bound has a row that is at least as good
-abbrev pub HasEach : Way → (LabelRow → Type 0) → Option ℕ → List LabelRow → Type 0
-HasEach way IsOne bound rows = (label : LabelRow) → IsOne label → IsShort way bound label.value → HasAsGood way rows label
 
 -- ---- the rules
 

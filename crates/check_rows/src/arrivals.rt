@@ -3,21 +3,20 @@ ghost use Rattle.std.specs.Prelude.{All, ◌↔◌, IfOk, IsTrue, length};
 ghost use Rattle.taxi_base.specs.Walks.{conditions_among, free_among};
 ghost use Rattle.walk_labels.specs.Rules.{IsStartBy};
 ghost use Rattle.walk_labels.specs.Places.{IsPlace, place_of};
-ghost use Rattle.check_rows.specs.declared.reach.Way.TheVariants.{Forward};
-ghost use Rattle.check_rows.specs.Rows.{AreOrdered};
+ghost use Rattle.table_rows.specs.declared.reach.Way.TheVariants.{Forward};
+ghost use Rattle.table_rows.specs.Rows.{AreOrdered};
 ghost use Rattle.check_rows.specs.Known.{AreKnown};
-ghost use Rattle.check_rows.specs.Rules.{beginning_of, CanCheck, HasEach, IsTableVerdict};
+ghost use Rattle.table_rows.specs.HasRows.{HasEach};
+ghost use Rattle.check_rows.specs.Rules.{beginning_of, CanCheck, IsTableVerdict};
 
 use crate::places::are_at_places;
-use crate::reach::Way;
-use crate::rows::are_ordered;
 use crate::starts::{leaving_have_rows, resuming_have_rows};
 use crate::steps::rows_are_closed;
-use crate::table::Table;
 use crate::target::all_fall_short;
 use crate::{KnownWindows, RowRule};
 use airport_file::Airport;
 use held_spans::HoldsOf;
+use table_rows::{Table, Way, are_ordered};
 use taxi_base::{Class, LabelRow, Memory, Node, Step, Time};
 
 /// How walks begin: at a node within a time, or by going on with a step that was begun, and leaving it not before a time.

@@ -3,21 +3,19 @@ ghost use Rattle.std.specs.Prelude.{◌<◌, [], ◌∷◌, All, IfOk, length};
 ghost use Rattle.taxi_base.specs.Walks.{conditions_among, free_among};
 ghost use Rattle.walk_labels.specs.BackwardRules.{IsFinishAt};
 ghost use Rattle.walk_labels.specs.Places.{IsPlace, place_of};
-ghost use Rattle.check_rows.specs.Rows.{AreOrdered};
-ghost use Rattle.check_rows.specs.declared.reach.Way.TheVariants.{Backward};
+ghost use Rattle.table_rows.specs.Rows.{AreOrdered};
+ghost use Rattle.table_rows.specs.declared.reach.Way.TheVariants.{Backward};
 ghost use Rattle.check_rows.specs.Known.{AreKnown};
 ghost use Rattle.check_rows.specs.Rules.{IsTableVerdict};
 
 use crate::places::are_at_places;
-use crate::reach::Way;
-use crate::rows::are_ordered;
 use crate::starts::entering_have_rows;
 use crate::steps::rows_are_closed;
-use crate::table::Table;
 use crate::target::all_fall_short;
 use crate::{KnownWindows, RowRule};
 use airport_file::Airport;
 use held_spans::HoldsOf;
+use table_rows::{Table, Way, are_ordered};
 use taxi_base::{Class, LabelRow, Memory, Node, Time};
 
 /// How walks end: at one of some nodes within a time.

@@ -5,14 +5,12 @@ ghost use Rattle.taxi_base.specs.declared.numbers.Segment.{Segment};
 ghost use Rattle.taxi_base.specs.Airport.{layout_of, arc_exists};
 ghost use Rattle.taxi_base.specs.Windows.{Hold, holds_of, AreWindows};
 ghost use Rattle.taxi_base.specs.Walks.{Conditions, free_among};
-ghost use Rattle.check_rows.specs.declared.reach.Way.{Way};
-ghost use Rattle.check_rows.specs.Served.{AreServed};
+ghost use Rattle.table_rows.specs.declared.reach.Way.{Way};
+ghost use Rattle.table_rows.specs.Served.{AreServed};
 ghost use Rattle.check_rows.specs.Known.{AreKnown, is_known, DifferOn, DifferAt, HaveMore, AreLeft};
 ghost use Rattle.check_rows.specs.Cuts.{IsApart, IsListCut, AreListsCut};
 ghost use Rattle.check_rows.specs.Returns.{IsListBack, AreListsBack};
 
-use crate::around::note_firsts;
-use crate::served::Served;
 use airport_file::Airport;
 use conflict_sets::Conflicts;
 use held_spans::HoldsOf;
@@ -20,6 +18,7 @@ use segment_windows::{cut_windows, fill_windows, give_back};
 use std::alloc::Global;
 use std::cell::Cell;
 use std::mem::replace;
+use table_rows::{Served, note_firsts};
 use taxi_base::{LabelRow, Memory, Segment, Span, Step, Time};
 
 /// The windows of each segment for which they were made. Their memory is used again when they are made anew.

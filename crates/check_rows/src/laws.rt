@@ -7,7 +7,7 @@ ghost use Rattle.walk_labels.specs.Requests.{Beginning};
 ghost use Rattle.walk_labels.specs.Rules.{IsStartBy, PassesForward};
 ghost use Rattle.walk_labels.specs.BackwardRules.{IsFinishAt, PassesBackward};
 ghost use Rattle.check_rows.specs.declared.verdict.RowRule.{RowRule};
-ghost use Rattle.check_rows.specs.declared.reach.Way.TheVariants.{Forward, Backward};
+ghost use Rattle.table_rows.specs.declared.reach.Way.TheVariants.{Forward, Backward};
 ghost use Rattle.check_rows.specs.Rules.{IsTableVerdict};
 
 /// No rule fails just where the table passes, and then it leaves no walk out that is better than the bound.

@@ -1,21 +1,16 @@
 //! The rules by which a table of labels is checked, over plain rows and a bare list of holds.
 #![tactic(auto)]
 
-mod around;
 mod arrivals;
 mod closed;
 mod departures;
 mod known;
 mod laws;
-mod narrowing;
+mod limits;
 mod places;
-mod reach;
-mod rows;
-mod served;
 mod starts;
 mod steps;
 mod stretches;
-mod table;
 mod target;
 mod verdict;
 

@@ -6,10 +6,10 @@ ghost use Rattle.walk_labels.specs.PlacesInWindows.{can_use};
 ghost use Rattle.check_rows.specs.Known.{AreKnown};
 
 use crate::KnownWindows;
-use crate::rows::window_of;
 use airport_file::Airport;
 use held_spans::HoldsOf;
 use segment_windows::has_window;
+use table_rows::window_of;
 use taxi_base::{Arc, Class, LabelRow, Memory};
 
 /// Whether each row's arc exists, the class has seconds on it, and the row's span is a window of its segment.

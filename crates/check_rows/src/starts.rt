@@ -4,22 +4,22 @@ ghost use Rattle.taxi_base.specs.declared.numbers.Segment.{Segment};
 ghost use Rattle.taxi_base.specs.declared.numbers.Class.{Class};
 ghost use Rattle.taxi_base.specs.Airport.{layout_of, arc_exists, segment_of};
 ghost use Rattle.taxi_base.specs.Windows.{AreWindows};
-ghost use Rattle.taxi_base.specs.Walks.{conditions_among, free_among, IsInside};
+ghost use Rattle.taxi_base.specs.Walks.{conditions_among, free_among};
 ghost use Rattle.walk_labels.specs.Rules.{IsStartAtNode, IsStartResuming};
 ghost use Rattle.walk_labels.specs.BackwardRules.{IsFinishAt};
 ghost use Rattle.walk_labels.specs.Places.{IsPlace, place_of};
-ghost use Rattle.check_rows.specs.declared.reach.Way.TheVariants.{Forward, Backward};
-ghost use Rattle.check_rows.specs.Rows.{AreOrdered};
+ghost use Rattle.table_rows.specs.declared.reach.Way.TheVariants.{Forward, Backward};
+ghost use Rattle.table_rows.specs.Rows.{AreOrdered};
 ghost use Rattle.check_rows.specs.Known.{AreKnown};
-ghost use Rattle.check_rows.specs.Rules.{HasEach};
-ghost use Rattle.check_rows.specs.Reached.{conditions_at, IsAround};
+ghost use Rattle.table_rows.specs.HasRows.{HasEach};
+ghost use Rattle.check_rows.specs.Comes.{conditions_at};
 
 use crate::KnownWindows;
-use crate::closed::{arcs_have_rows, label_in};
-use crate::reach::{Reach, Way, later};
-use crate::table::Table;
+use crate::closed::arcs_have_rows;
+use crate::limits::limits_of;
 use airport_file::Airport;
 use held_spans::HoldsOf;
+use table_rows::{Reach, Table, Way, later, windows_around_have_rows};
 use taxi_base::{Class, Memory, Node, Span, Step, Time};
 
 /// Whether each label by which a walk leaves a node has a row, where it leaves from a second on and by another.
@@ -124,50 +124,8 @@ fn begun_has_row(
     match airport.classes().seconds(class, begun.arc.segment()) {
         Some(seconds) => {
             let value = later(exit_from, begun.enter + seconds);
-            windows_around_have_rows(airport, class, windows, table, begun, value)
+            windows_around_have_rows(limits_of(airport, class), windows, table, begun, value)
         }
         None => true,
     }
-}
-
-fn windows_around_have_rows(
-    airport: &Airport,
-    class: Class,
-    windows: &[Span],
-    table: &Table<'_>,
-    begun: Step,
-    value: Time,
-) -> bool
-    requires ordered { AreOrdered table.now.rows.now }
-    ensures { (free : Segment → ℕ → Bool) → IsTrue result ↔ All (λ w. HasEach Forward (IsAround (conditions_at airport.now class free) begun value w) table.now.bound table.now.rows.now) windows.now }
-{
-    for window in windows {
-        if !window_around_has_row(airport, class, *window, table, begun, value) {
-            return false;
-        }
-    }
-    true
-}
-
-fn window_around_has_row(
-    airport: &Airport,
-    class: Class,
-    window: Span,
-    table: &Table<'_>,
-    begun: Step,
-    value: Time,
-) -> bool
-    requires ordered { AreOrdered table.now.rows.now }
-    ensures { (free : Segment → ℕ → Bool) → IsTrue result ↔ HasEach Forward (IsAround (conditions_at airport.now class free) begun value window) table.now.bound table.now.rows.now }
-{
-    !is_inside(airport, class, window, begun)
-        || table.has_row_for(Way::Forward, label_in(begun.arc, window, value))
-}
-
-/// Whether a step is inside a window.
-fn is_inside(airport: &Airport, class: Class, window: Span, step: Step) -> bool
-    ensures { (free : Segment → ℕ → Bool) → IsTrue result ↔ IsInside (conditions_at airport.now class free) window step }
-{
-    let held = step.held(airport.horizon(), airport.clearance(class));
-    window.from <= held.from && held.until <= window.until
 }

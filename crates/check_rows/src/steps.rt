@@ -4,21 +4,20 @@ ghost use Rattle.taxi_base.specs.declared.numbers.Segment.{Segment};
 ghost use Rattle.taxi_base.specs.Airport.{layout_of, arc_exists};
 ghost use Rattle.taxi_base.specs.Walks.{conditions_among, free_among};
 ghost use Rattle.walk_labels.specs.Places.{IsPlace, place_of};
-ghost use Rattle.check_rows.specs.Rows.{AreOrdered};
+ghost use Rattle.table_rows.specs.Rows.{AreOrdered};
 ghost use Rattle.check_rows.specs.Known.{AreKnown};
-ghost use Rattle.check_rows.specs.Rules.{HasEach, ComesOf, AreClosed};
-ghost use Rattle.check_rows.specs.Reached.{conditions_at, reach_of, AreNeighbours};
-ghost use Rattle.check_rows.specs.Served.{AreServed};
+ghost use Rattle.table_rows.specs.HasRows.{HasEach};
+ghost use Rattle.check_rows.specs.Rules.{ComesOf, AreClosed};
+ghost use Rattle.check_rows.specs.Comes.{conditions_at, reach_of, AreNeighbours};
+ghost use Rattle.table_rows.specs.Served.{AreServed};
 
 use crate::KnownWindows;
-use crate::reach::{Reach, Way, last_in};
-use crate::rows::window_of;
-use crate::served::Served;
+use crate::limits::limits_of;
 use crate::stretches::arcs_are_served;
-use crate::table::Table;
 use airport_file::Airport;
 use held_spans::HoldsOf;
 use segment_graph::Graph;
+use table_rows::{Reach, Served, Table, Way, last_in, window_of};
 use taxi_base::{Arc, Class, LabelRow, Memory};
 
 /// Whether each label that comes of a row, if short of the bound, has a row that is at least as good.
@@ -105,7 +104,7 @@ fn reach_of(airport: &Airport, class: Class, way: Way, row: LabelRow) -> Reach
         Way::Forward => Reach {
             way,
             from: row.value,
-            by: last_in(airport, class, window_of(row)),
+            by: last_in(limits_of(airport, class), window_of(row)),
         },
         Way::Backward => Reach {
             way,

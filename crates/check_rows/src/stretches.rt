@@ -4,28 +4,23 @@ ghost use Rattle.taxi_base.specs.declared.numbers.Segment.{Segment};
 ghost use Rattle.taxi_base.specs.Airport.{layout_of, arc_exists, segment_of, seconds as seconds_on};
 ghost use Rattle.taxi_base.specs.Walks.{conditions_among, free_among};
 ghost use Rattle.walk_labels.specs.Places.{IsPlace, place_of};
-ghost use Rattle.check_rows.specs.Rows.{AreOrdered};
+ghost use Rattle.table_rows.specs.Rows.{AreOrdered};
 ghost use Rattle.check_rows.specs.Known.{AreKnown};
-ghost use Rattle.check_rows.specs.Rules.{HasEach};
-ghost use Rattle.check_rows.specs.Reached.{conditions_at, IsReachedAt, IsReachedIn};
-ghost use Rattle.check_rows.specs.Served.{AreServed, IsWithin};
+ghost use Rattle.table_rows.specs.HasRows.{HasEach};
+ghost use Rattle.table_rows.specs.Reached.{IsReachedAt};
+ghost use Rattle.table_rows.specs.Served.{AreServed};
 
 use crate::KnownWindows;
-use crate::around::{row_around, rows_behind};
 use crate::closed::arc_has_rows;
-use crate::narrowing::{part_by_row, part_served};
-use crate::reach::{Reach, is_within, short_part};
-use crate::served::Served;
-use crate::table::Table;
+use crate::limits::limits_of;
 use airport_file::Airport;
 use held_spans::HoldsOf;
 use segment_windows::windows_between;
-use std::cmp::min;
-use taxi_base::{Arc, Class, LabelRow, Memory, Span, Time};
-
-/// So many seconds behind a reach the windows of an arc are looked at: what leads to the arc from elsewhere mostly ends by then, and
-/// where traffic is dense there are many more.
-const BEHIND: Time = 900;
+use table_rows::{
+    Reach, Served, Table, is_within, part_by_row, row_around, rows_behind, short_part, stretch_in,
+    widest_around,
+};
+use taxi_base::{Arc, Class, LabelRow, Memory, Time};
 
 /// Whether each label of some arcs that is reached in time has a row.
 #[inline(always)]
@@ -156,7 +151,7 @@ fn stretch_near<H: HoldsOf>(
                 from: row.from,
                 by: row.until,
             };
-            Ok(part_by_row(airport, class, row, whole, reach, seconds))
+            Ok(part_by_row(limits_of(airport, class), row, whole, reach, seconds))
         }
         None => stretch_by_windows(
             airport, class, holds, known, table, near, reach, arc, seconds,
@@ -194,53 +189,13 @@ fn stretch_by_windows<H: HoldsOf>(
     let found = known.found(segment);
     let windows = windows_between(known.of(segment), short.from, short.by, found);
     Ok(stretch_in(
-        airport, class, windows, table, near, widest, reach, arc, seconds,
+        limits_of(airport, class),
+        windows,
+        table,
+        near,
+        widest,
+        reach,
+        arc,
+        seconds,
     ))
-}
-
-/// From where the first of some rows begins, if it is of the arc, or the reach if it begins before, until some time behind the reach.
-#[inline(always)]
-fn widest_around(near: &[LabelRow], reach: Reach, arc: Arc) -> Reach
-    ensures { result.way ≡ reach.way }
-{
-    let from = match near.first() {
-        Some(row) if row.arc == arc => min(reach.from, row.from),
-        _ => reach.from,
-    };
-    Reach {
-        way: reach.way,
-        from,
-        by: reach.by.saturating_add(BEHIND),
-    }
-}
-
-/// What is left of a stretch where each label that is reached in one of these windows is to have a row.
-#[inline(always)]
-fn stretch_in(
-    airport: &Airport,
-    class: Class,
-    windows: &[Span],
-    table: &Table<'_>,
-    near: &[LabelRow],
-    widest: Reach,
-    reach: Reach,
-    arc: Arc,
-    seconds: Time,
-) -> Reach
-    requires near { All (Contains table.now.rows.now) near.now }
-    ensures within { IsWithin widest result }
-    ensures served { (free : Segment → ℕ → Bool) → All (λ w. HasEach result.way (IsReachedIn (conditions_at airport.now class free) result arc seconds w) table.now.bound table.now.rows.now) windows.now }
-{
-    let mut rest = near;
-    let mut stretch = widest;
-    for window in windows {
-        if stretch.by < window.from {
-            continue;
-        }
-        rest = rows_behind(rest, arc, window.from);
-        stretch = part_served(
-            airport, class, *window, table, rest, stretch, reach, arc, seconds,
-        );
-    }
-    stretch
 }

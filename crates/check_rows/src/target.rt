@@ -5,12 +5,11 @@ ghost use Rattle.taxi_base.specs.declared.numbers.Class.{Class};
 ghost use Rattle.taxi_base.specs.Airport.{layout_of, arc_exists};
 ghost use Rattle.taxi_base.specs.Choices.{OneOf};
 ghost use Rattle.check_rows.specs.Rules.{FallShort, far_end};
-ghost use Rattle.check_rows.specs.Reached.{conditions_at, FallsShort};
+ghost use Rattle.check_rows.specs.Comes.{conditions_at, FallsShort};
 
-use crate::reach::Way;
-use crate::table::Table;
 use airport_file::Airport;
 use segment_graph::Graph;
+use table_rows::{Table, Way};
 use taxi_base::{Arc, LabelRow, Node};
 
 /// Whether no row leads to one of the nodes, and each is short of the bound.

@@ -5,7 +5,7 @@ use Rattle.taxi_base.specs.declared.answers.Request.{Request}
 use Rattle.taxi_base.specs.declared.answers.Request.TheVariants.{Filed, Arrival, Departure}
 use Rattle.taxi_base.specs.Airport.{layout_of}
 use Rattle.taxi_base.specs.Walks.{Conditions, IsFeasibleWalk}
-use Rattle.certificate.specs.Sought.{UnderWay}
+use Rattle.replies.specs.Sought.{UnderWay}
 use Rattle.check_walks.specs.Course.{IsWalkIn}
 use Rattle.check_walks.specs.Steps.{GoesAsAsked}
 use Rattle.check_walks.specs.Told.{CanBeSought}

@@ -18,10 +18,10 @@ use Rattle.taxi_base.proofs.OneOfLaws.{OneOf-found, OneOf-member}
 use Rattle.walk_labels.specs.Requests.Beginning.{at_node}
 use Rattle.walk_labels.specs.Rules.{IsStartBy}
 use Rattle.walk_labels.specs.BackwardRules.{IsFinishAt}
-use Rattle.check_rows.specs.declared.reach.Way.TheVariants.{Forward, Backward}
+use Rattle.table_rows.specs.declared.reach.Way.TheVariants.{Forward, Backward}
 use Rattle.check_rows.specs.declared.verdict.RowRule.{RowRule}
 use Rattle.check_rows.specs.Rules.{IsTableVerdict}
-use Rattle.certificate.specs.Sought.{MeetsOneOf}
+use Rattle.replies.specs.Sought.{MeetsOneOf}
 use Rattle.check_walks.specs.Choice.{IsAmong, CanBeSoughtAny}
 use Rattle.check_walks.specs.Steps.{GoesAsAsked}
 use Rattle.check_walks.specs.Told.{IsVerdictOn}

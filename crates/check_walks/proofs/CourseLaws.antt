@@ -14,7 +14,7 @@ use Rattle.taxi_base.specs.Walks.{Conditions, AtFirst, AtLast, IsFeasibleWalk, R
 use Rattle.taxi_base.specs.State.{step_begun, steps_done, IsResumed}
 use Rattle.walk_labels.specs.Requests.{Beginning, BeginsBy}
 use Rattle.walk_labels.specs.Requests.Beginning.{at_node, resuming}
-use Rattle.certificate.specs.Sought.{UnderWay, search_of, onward}
+use Rattle.replies.specs.Sought.{UnderWay, search_of, onward}
 use Rattle.taxi_base.proofs.WalkLaws.{at-last}
 use Rattle.check_walks.proofs.EndLaws.{at-first, within-is}
 use Rattle.check_walks.specs.Course.{IsWalkIn, beginning_for, done_for, GoesBy, LeadsOn, is_within, resumes}

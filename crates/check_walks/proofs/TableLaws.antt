@@ -16,12 +16,12 @@ use Rattle.walk_labels.specs.Requests.Beginning.{at_node, resuming}
 use Rattle.walk_labels.specs.Rules.{IsStartBy}
 use Rattle.check_rows.specs.declared.arrivals.Begin.{Begin}
 use Rattle.check_rows.specs.declared.arrivals.Begin.TheVariants.{AtNode, Resuming}
-use Rattle.check_rows.specs.declared.reach.Way.TheVariants.{Forward}
+use Rattle.table_rows.specs.declared.reach.Way.TheVariants.{Forward}
 use Rattle.check_rows.specs.declared.verdict.RowRule.{RowRule}
 use Rattle.check_rows.specs.Rules.{beginning_of, CanCheck, IsTableVerdict}
 use Rattle.check_rows.specs.Verdict.{IsVerdict}
-use Rattle.certificate.specs.Sought.{UnderWay, Search}
-use Rattle.certificate.specs.TableRules.{KeepsRows, KeepsStart, KeepsStep, KeepsTarget}
+use Rattle.replies.specs.Sought.{UnderWay, Search}
+use Rattle.replies.specs.TableRules.{KeepsRows, KeepsStart, KeepsStep, KeepsTarget}
 use Rattle.check_walks.specs.Course.{beginning_for}
 use Rattle.check_walks.specs.Told.{IsVerdictOn}
 use Rattle.check_walks.proofs.CourseLaws.{arrival-search}

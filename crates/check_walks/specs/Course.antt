@@ -9,7 +9,7 @@ use Rattle.taxi_base.specs.Walks.{Conditions, AtFirst, AtLast, ReachesNode, Meet
 use Rattle.taxi_base.specs.State.{step_begun, steps_done}
 use Rattle.walk_labels.specs.Requests.{Beginning, BeginsBy}
 use Rattle.walk_labels.specs.Requests.Beginning.{at_node, resuming}
-use Rattle.certificate.specs.Sought.{UnderWay, IsWalkOnFor}
+use Rattle.replies.specs.Sought.{UnderWay, IsWalkOnFor}
 use Rattle.check_walks.specs.declared.course.OnTheWay.{OnTheWay}
 
 abbrev pub way_of : Option OnTheWay → Option UnderWay

@@ -9,7 +9,7 @@ use Rattle.taxi_base.specs.declared.answers.Request.{Request}
 use Rattle.taxi_base.specs.declared.answers.Request.TheVariants.{Filed, Arrival, Departure}
 use Rattle.taxi_base.specs.Airport.{Airport, Layout, layout_of, arc_exists, segment_of, seconds, permits}
 use Rattle.taxi_base.specs.Walks.{Follows, AtFirst, AtLast, LeavesNode, ReachesNodeWithin}
-use Rattle.certificate.specs.Sought.{UnderWay}
+use Rattle.replies.specs.Sought.{UnderWay}
 use Rattle.check_walks.specs.Course.{beginning_for, done_for, GoesBy}
 
 -- whether a step takes the time that its class needs

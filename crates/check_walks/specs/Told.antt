@@ -7,11 +7,11 @@ use Rattle.taxi_base.specs.declared.rows.LabelRow.{LabelRow}
 use Rattle.taxi_base.specs.declared.rows.Step.{Step as Leg}
 use Rattle.taxi_base.specs.Airport.{Airport}
 use Rattle.taxi_base.specs.Walks.{Conditions, begin_of}
-use Rattle.certificate.specs.declared.rule.Rule.{Rule}
-use Rattle.certificate.specs.declared.rule.Rule.TheVariants as rule
-use Rattle.certificate.specs.Printable.{IsShort}
-use Rattle.certificate.specs.Sought.{UnderWay, Sought, search_of}
-use Rattle.certificate.specs.TableRules.{KeepsRows, KeepsStart, KeepsStep, KeepsTarget}
+use Rattle.replies.specs.declared.rule.Rule.{Rule}
+use Rattle.replies.specs.declared.rule.Rule.TheVariants as rule
+use Rattle.replies.specs.Printable.{IsShort}
+use Rattle.replies.specs.Sought.{UnderWay, Sought, search_of}
+use Rattle.replies.specs.TableRules.{KeepsRows, KeepsStart, KeepsStep, KeepsTarget}
 use Rattle.check_rows.specs.declared.verdict.RowRule.{RowRule}
 use Rattle.check_rows.specs.declared.verdict.RowRule.TheVariants.{Rows, Start, Step, Target}
 use Rattle.check_rows.specs.Verdict.{IsVerdict}

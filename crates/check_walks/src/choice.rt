@@ -5,10 +5,10 @@ ghost use Rattle.taxi_base.specs.Airport.{arc_exists, layout_of};
 ghost use Rattle.taxi_base.specs.Walks.{conditions_among, free_among};
 ghost use Rattle.taxi_base.specs.Choices.{OneOf};
 ghost use Rattle.taxi_base.specs.Again.{retargeted};
-ghost use Rattle.certificate.specs.declared.block.Block.TheVariants.{Route, NoRoute};
-ghost use Rattle.certificate.specs.CarriedOut.{second_of};
-ghost use Rattle.certificate.specs.Sought.{Sought, DoesAsAsked};
-ghost use Rattle.certificate.specs.Passes.{KeepsSought, IsFirstOf};
+ghost use Rattle.replies.specs.declared.block.Block.TheVariants.{Route, NoRoute};
+ghost use Rattle.replies.specs.CarriedOut.{second_of};
+ghost use Rattle.replies.specs.Sought.{Sought, DoesAsAsked};
+ghost use Rattle.replies.specs.Passes.{KeepsSought, IsFirstOf};
 ghost use Rattle.check_rows.specs.Known.{AreKnown};
 ghost use Rattle.check_walks.specs.Choice.{IsAmong, CanBeSoughtAny};
 ghost use Rattle.check_walks.specs.Steps.{GoesAsAsked};
@@ -20,9 +20,9 @@ use crate::tables::rule_of;
 use crate::told::ToldRoute;
 use crate::walk::{goes_as_asked, second_at};
 use airport_file::Airport;
-use certificate::Rule;
 use check_rows::{Begin, End, KnownWindows, RowRule, check_arrival, check_departure};
 use held_spans::HoldsOf;
+use replies::Rule;
 use taxi_base::{Class, LabelRow, Memory, Node, Request, Step, Time};
 
 /// The walk that is sought of a new flight to any of some nodes: what it asks for with the first of them, and all of them.

@@ -7,10 +7,10 @@ ghost use Rattle.taxi_base.specs.declared.rows.Step.{Step};
 ghost use Rattle.taxi_base.specs.Airport.{Airport, IsWellFormed};
 ghost use Rattle.taxi_base.specs.State.{State};
 ghost use Rattle.taxi_base.specs.Again.{IsBestFor};
-ghost use Rattle.certificate.specs.declared.block.Block.TheVariants.{Route, NoRoute};
-ghost use Rattle.certificate.specs.CarriedOut.{second_of};
-ghost use Rattle.certificate.specs.Sought.{sought_new, IsWalkFor};
-ghost use Rattle.certificate.specs.Passes.{KeepsSought, IsFirstOf};
+ghost use Rattle.replies.specs.declared.block.Block.TheVariants.{Route, NoRoute};
+ghost use Rattle.replies.specs.CarriedOut.{second_of};
+ghost use Rattle.replies.specs.Sought.{sought_new, IsWalkFor};
+ghost use Rattle.replies.specs.Passes.{KeepsSought, IsFirstOf};
 
 /// A route that breaks no rule is the best walk that does what a new flight asked for among all holders, with its second. A
 /// block that tells of no route, and breaks no rule, is right: there is no such walk.

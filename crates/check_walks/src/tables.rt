@@ -8,9 +8,9 @@ ghost use Rattle.check_walks.specs.Told.{CanBeSought, IsVerdictOn, rule_of};
 
 use crate::course::{SoughtWalk, course_of};
 use airport_file::Airport;
-use certificate::Rule;
 use check_rows::{End, KnownWindows, RowRule, check_arrival, check_departure};
 use held_spans::HoldsOf;
+use replies::Rule;
 use taxi_base::{Class, LabelRow, Memory, Request, Time};
 
 /// The first rule that the table of a search breaks, with the bound that its route gives.

@@ -2,9 +2,9 @@
 ghost use Rattle.std.specs.Prelude.{◌≤◌, ℕ, List, [], All, IfOk, length};
 ghost use Rattle.std.specs.Option.{ForSome};
 ghost use Rattle.taxi_base.specs.Walks.{conditions_among, free_among};
-ghost use Rattle.certificate.specs.declared.block.Block.TheVariants.{Route, NoRoute};
-ghost use Rattle.certificate.specs.Sought.{Sought};
-ghost use Rattle.certificate.specs.Passes.{KeepsSought, IsFirstOf};
+ghost use Rattle.replies.specs.declared.block.Block.TheVariants.{Route, NoRoute};
+ghost use Rattle.replies.specs.Sought.{Sought};
+ghost use Rattle.replies.specs.Passes.{KeepsSought, IsFirstOf};
 ghost use Rattle.check_rows.specs.Known.{AreKnown};
 ghost use Rattle.check_walks.specs.Course.{way_of};
 ghost use Rattle.check_walks.specs.Told.{CanBeSought, SeeksAfter};
@@ -13,9 +13,9 @@ use crate::course::SoughtWalk;
 use crate::tables::{check_table, rule_of};
 use crate::walk::keeps_walk;
 use airport_file::Airport;
-use certificate::Rule;
 use check_rows::KnownWindows;
 use held_spans::HoldsOf;
+use replies::Rule;
 use taxi_base::{Class, LabelRow, Memory, Step, Time};
 
 /// What a block tells of a route.

@@ -2,8 +2,8 @@
 ghost use Rattle.std.specs.Prelude.{◌≡◌, ◌↔◌, ◌+◌, ◌-◌, ◌<◌, ◌&&◌, ◌==◌, All, IfOk, IsTrue, length};
 ghost use Rattle.taxi_base.specs.Airport.{arc_exists, layout_of};
 ghost use Rattle.taxi_base.specs.Walks.{conditions_among, free_among};
-ghost use Rattle.certificate.specs.Printable.{IsShort};
-ghost use Rattle.certificate.specs.CarriedOut.{second_of};
+ghost use Rattle.replies.specs.Printable.{IsShort};
+ghost use Rattle.replies.specs.CarriedOut.{second_of};
 ghost use Rattle.check_rows.specs.Known.{AreKnown};
 ghost use Rattle.check_walks.specs.Told.{CanBeSought, BeginsAfter};
 ghost use Rattle.check_walks.specs.Course.{way_of, IsWalkIn};

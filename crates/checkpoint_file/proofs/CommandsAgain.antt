@@ -13,8 +13,8 @@ use Rattle.taxi_base.specs.Airport.{Airport, IsWellFormed}
 use Rattle.taxi_base.specs.Walks.{begin_of}
 use Rattle.taxi_base.specs.State.{State}
 use Rattle.taxi_text.specs.Lines.{is_skipped, commands_of}
-use Rattle.certificate.specs.Printable.{IsName}
-use Rattle.certificate.specs.Replies.{HaveNames}
+use Rattle.replies.specs.Printable.{IsName}
+use Rattle.replies.specs.Replies.{HaveNames}
 use Rattle.transcripts.proofs.CommandsIn.{commands_in}
 use Rattle.checkpoint_file.specs.Lines.{wish_lines, is_too_long, pair_words, file_words, too_long_words, route_words, flight_lines, work_words, checkpoint_text}
 use Rattle.checkpoint_file.specs.Restored.{fileable}

@@ -23,12 +23,12 @@ use Rattle.taxi_base.proofs.FlightNames.{precedes_itself}
 use Rattle.taxi_base.proofs.WalkLaws.{IsFeasibleWalk-steps}
 use Rattle.taxi_base.proofs.FaultLaws.{route_fault-None, hold_fault-None}
 use Rattle.taxi_text.specs.declared.command.Command.TheVariants.{File, Work}
-use Rattle.certificate.specs.declared.block.Block.{Block}
+use Rattle.replies.specs.declared.block.Block.{Block}
 use Rattle.airport_file.specs.Words.{class_word}
 use Rattle.airport_file.proofs.NamedPlaces.{word-found}
-use Rattle.certificate.specs.Printable.{HasClass, IsName, IsShort, IsPrintableFlight}
-use Rattle.certificate.proofs.ReportsTold.{timetable-printable}
-use Rattle.certificate.specs.Replies.{IsDueTo, IsDue, HaveNames}
+use Rattle.replies.specs.Printable.{HasClass, IsName, IsShort, IsPrintableFlight}
+use Rattle.replies.proofs.ReportsTold.{timetable-printable}
+use Rattle.replies.specs.Replies.{IsDueTo, IsDue, HaveNames}
 use Rattle.block_reader.proofs.Places.{segment-again}
 use Rattle.transcripts.specs.Runs.{InTurn}
 use Rattle.command_refusals.proofs.FiledDue.{file-due}

@@ -11,7 +11,7 @@ use Rattle.taxi_base.specs.Airport.{Airport}
 use Rattle.taxi_base.specs.Walks.{begin_of}
 use Rattle.taxi_base.specs.State.{State}
 use Rattle.airport_file.specs.Words.{class_word, word_of_arc}
-use Rattle.certificate.specs.Texts.{line_text, lines_text}
+use Rattle.replies.specs.Texts.{line_text, lines_text}
 use Rattle.checkpoint_file.specs.Lines.{pair_words, file_words, flight_lines, work_words, checkpoint_text}
 use Rattle.checkpoint_file.specs.Written.{step_text}
 

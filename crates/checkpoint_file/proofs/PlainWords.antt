@@ -17,7 +17,7 @@ use Rattle.taxi_text.specs.Lines.{lines_of}
 use Rattle.taxi_text.specs.Words.{words_of}
 use Rattle.airport_file.specs.Words.{class_word, segment_word, word_of_arc}
 use Rattle.airport_file.proofs.NamedPlaces.{word-found}
-use Rattle.certificate.specs.Texts.{line_text, lines_text}
+use Rattle.replies.specs.Texts.{line_text, lines_text}
 use Rattle.schedule_import.proofs.Bytes.{lacks, lacks-failing, lacks-append, lacks-join, decimal-digits, split-join}
 use Rattle.schedule_import.proofs.AnswerLines.{IsLine, lines-again}
 

@@ -21,8 +21,8 @@ use Rattle.taxi_text.proofs.Numbers.{number-again}
 use Rattle.taxi_text.proofs.ArcWords.{arc_word-again}
 use Rattle.airport_file.specs.Words.{class_word, segment_word, word_of_arc}
 use Rattle.airport_file.proofs.NamedPlaces.{word-found}
-use Rattle.certificate.specs.Printable.{HasArc, HasClass, HasSegment, IsName, IsShort}
-use Rattle.certificate.specs.Asked.{filed_steps}
+use Rattle.replies.specs.Printable.{HasArc, HasClass, HasSegment, IsName, IsShort}
+use Rattle.replies.specs.Asked.{filed_steps}
 use Rattle.block_reader.proofs.Places.{segment-name, arc-read}
 use Rattle.checkpoint_file.specs.Lines.{pair_words}
 use Rattle.checkpoint_file.proofs.PlainWords.{words-again}

@@ -8,10 +8,10 @@ use Rattle.taxi_base.specs.Airport.{Airport, IsWellFormed}
 use Rattle.taxi_base.specs.Windows.{Hold}
 use Rattle.taxi_base.specs.State.{State, no_holder, party_hold, flight_holds, held_by_each, IsSound}
 use Rattle.taxi_text.specs.Lines.{commands_of}
-use Rattle.certificate.specs.declared.block.Block.{Block}
-use Rattle.certificate.specs.declared.block.Block.TheVariants.{Refused}
-use Rattle.certificate.specs.Replies.{IsDue, IsReply, as_due, no_memory, HaveNames}
-use Rattle.certificate.proofs.OneReply.{IsDue-same}
+use Rattle.replies.specs.declared.block.Block.{Block}
+use Rattle.replies.specs.declared.block.Block.TheVariants.{Refused}
+use Rattle.replies.specs.Replies.{IsDue, IsReply, as_due, no_memory, HaveNames}
+use Rattle.replies.proofs.OneReply.{IsDue-same}
 use Rattle.transcripts.specs.Runs.{InTurn, IsRun}
 use Rattle.transcripts.proofs.RunLaws.{none-sound, IsRun-sound}
 use Rattle.checkpoint_file.specs.Lines.{checkpoint_text}

@@ -10,7 +10,7 @@ use Rattle.taxi_base.specs.Airport.{Airport, node_word}
 use Rattle.taxi_base.specs.Walks.{begin_of}
 use Rattle.taxi_base.specs.State.{State}
 use Rattle.airport_file.specs.Words.{class_word, segment_word, word_of_arc}
-use Rattle.certificate.specs.Texts.{lines_text}
+use Rattle.replies.specs.Texts.{lines_text}
 
 -- ---- what a flight asked for
 

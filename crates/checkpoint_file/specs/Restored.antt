@@ -5,8 +5,8 @@ use Rattle.taxi_base.specs.declared.answers.Flight.{Flight}
 use Rattle.taxi_base.specs.declared.answers.Party.{Party}
 use Rattle.taxi_base.specs.Walks.{begin_of, end_of}
 use Rattle.taxi_base.specs.State.{State}
-use Rattle.certificate.specs.declared.block.Block.{Block}
-use Rattle.certificate.specs.declared.block.Block.TheVariants.{Filed}
+use Rattle.replies.specs.declared.block.Block.{Block}
+use Rattle.replies.specs.declared.block.Block.TheVariants.{Filed}
 use Rattle.checkpoint_file.specs.Lines.{is_too_long}
 
 -- the flights whose routes a command can file

@@ -4,9 +4,9 @@ ghost use Rattle.taxi_base.specs.declared.answers.Refusal.TheVariants as refusal
 ghost use Rattle.taxi_base.specs.Airport.{Airport, IsWellFormed};
 ghost use Rattle.taxi_base.specs.State.{State, no_holder, held_by_each, IsSound};
 ghost use Rattle.taxi_text.specs.Lines.{commands_of};
-ghost use Rattle.certificate.specs.declared.block.Block.{Block};
-ghost use Rattle.certificate.specs.declared.block.Block.TheVariants.{Refused};
-ghost use Rattle.certificate.specs.Replies.{IsDue, HaveNames};
+ghost use Rattle.replies.specs.declared.block.Block.{Block};
+ghost use Rattle.replies.specs.declared.block.Block.TheVariants.{Refused};
+ghost use Rattle.replies.specs.Replies.{IsDue, HaveNames};
 ghost use Rattle.transcripts.specs.Runs.{InTurn, IsRun};
 ghost use Rattle.checkpoint_file.specs.Lines.{checkpoint_text};
 ghost use Rattle.checkpoint_file.specs.Restored.{fileable, restored, all_filed};

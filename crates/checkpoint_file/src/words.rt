@@ -1,6 +1,6 @@
 //! Words with one blank between two, written at the end of a text.
 ghost use Rattle.std.specs.Prelude.{◌≡◌, ◌≤◌, ◌∷◌, ◌++◌, OnOk, length, map, flat_map, decimal};
-ghost use Rattle.certificate.specs.Texts.{line_text};
+ghost use Rattle.replies.specs.Texts.{line_text};
 
 use itoa::Buffer;
 use taxi_base::Memory;

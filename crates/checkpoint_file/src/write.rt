@@ -1,7 +1,7 @@
 //! The checkpoint, line by line.
 ghost use Rattle.std.specs.Prelude.{◌≡◌, ◌++◌, IfOk, OnOk, flat_map};
 ghost use Rattle.taxi_base.specs.Walks.{begin_of};
-ghost use Rattle.certificate.specs.Texts.{line_text, lines_text};
+ghost use Rattle.replies.specs.Texts.{line_text, lines_text};
 ghost use Rattle.checkpoint_file.specs.Lines.{wish_words, wish_lines, file_words, too_long_words, route_words, flight_lines, work_words, checkpoint_text};
 ghost use Rattle.checkpoint_file.specs.Written.{step_text};
 

@@ -8,7 +8,7 @@ use Rattle.taxi_base.specs.Airport.{Airport, is_runway, is_stand, is_node_of}
 use Rattle.taxi_base.specs.State.{State, has_holder, holder_count}
 use Rattle.taxi_text.specs.declared.command.AskedAny.{AskedAny}
 use Rattle.taxi_text.specs.declared.command.Command.TheVariants as command
-use Rattle.certificate.specs.Refusals.{most_holders, first_refusal}
+use Rattle.replies.specs.Refusals.{most_holders, first_refusal}
 use Rattle.command_refusals.specs.declared.choosing.TripToAny.{TripToAny}
 use Rattle.command_refusals.specs.Named.{IsTripOfAny}
 

@@ -10,11 +10,11 @@ use Rattle.taxi_base.specs.State.{State, holder_count, has_holder, with_flight}
 use Rattle.taxi_base.specs.Faults.{route_fault}
 use Rattle.taxi_text.specs.declared.command.Filed as text
 use Rattle.taxi_text.specs.declared.command.Command.TheVariants.{File}
-use Rattle.certificate.specs.declared.block.Block.TheVariants.{Filed}
-use Rattle.certificate.specs.Asked.{route_filed}
-use Rattle.certificate.specs.Refusals.{most_holders}
-use Rattle.certificate.specs.CarriedOut.{filed_flight}
-use Rattle.certificate.specs.Replies.{IsDueTo}
+use Rattle.replies.specs.declared.block.Block.TheVariants.{Filed}
+use Rattle.replies.specs.Asked.{route_filed}
+use Rattle.replies.specs.Refusals.{most_holders}
+use Rattle.replies.specs.CarriedOut.{filed_flight}
+use Rattle.replies.specs.Replies.{IsDueTo}
 
 module _ (airport : Airport) (state : State) (filed : text.Filed) (class : Class) (steps : List Step) where
   pub file-due : has_holder filed.flight state ≡ false → class_named airport filed.class ≡ Some class → route_filed airport filed ≡ Some steps

@@ -7,10 +7,10 @@ use Rattle.taxi_base.specs.State.{State, holder_count, has_holder, with_party}
 use Rattle.taxi_base.specs.Faults.{hold_fault}
 use Rattle.taxi_text.specs.declared.command.Shut.{Shut}
 use Rattle.taxi_text.specs.declared.command.Command.TheVariants as command
-use Rattle.certificate.specs.declared.block.Block.TheVariants.{Filed}
-use Rattle.certificate.specs.Refusals.{most_holders}
-use Rattle.certificate.specs.Asked.{party_of}
-use Rattle.certificate.specs.Replies.{IsDueTo}
+use Rattle.replies.specs.declared.block.Block.TheVariants.{Filed}
+use Rattle.replies.specs.Refusals.{most_holders}
+use Rattle.replies.specs.Asked.{party_of}
+use Rattle.replies.specs.Replies.{IsDueTo}
 
 module _ (airport : Airport) (state : State) where
   pub work-due : (shut : Shut) (segment : Segment) → has_holder shut.name state ≡ false → segment_named airport shut.segment ≡ Some segment

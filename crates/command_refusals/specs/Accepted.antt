@@ -10,10 +10,10 @@ use Rattle.taxi_base.specs.Walks.{IsFeasibleWalk, begin_of, end_of}
 use Rattle.taxi_base.specs.State.{State, holder_count, has_holder, with_flight, with_party, party_hold, IsFeasibleHold}
 use Rattle.taxi_base.specs.Faults.{conditions_in}
 use Rattle.taxi_text.specs.declared.command.Command.{Command}
-use Rattle.certificate.specs.declared.block.Block.TheVariants.{Filed}
-use Rattle.certificate.specs.Printable.{IsName}
-use Rattle.certificate.specs.Refusals.{first_refusal}
-use Rattle.certificate.specs.Replies.{IsDueTo}
+use Rattle.replies.specs.declared.block.Block.TheVariants.{Filed}
+use Rattle.replies.specs.Printable.{IsName}
+use Rattle.replies.specs.Refusals.{first_refusal}
+use Rattle.replies.specs.Replies.{IsDueTo}
 
 -- a flight that a command is due to put in force by its route, which is a feasible walk among the holders before
 pub record IsAccepted (airport : Airport) (state : State) (command : Command) (flight : Flight) : Type 0 where

@@ -3,7 +3,7 @@ use Rattle.std.specs.Prelude.{◌≡◌, Some}
 use Rattle.taxi_base.specs.Airport.{Airport, class_named, node_named}
 use Rattle.taxi_text.specs.declared.command.Asked.{Asked}
 use Rattle.taxi_text.specs.declared.command.AskedAny.{AskedAny}
-use Rattle.certificate.specs.Asked.{nodes_named}
+use Rattle.replies.specs.Asked.{nodes_named}
 use Rattle.command_refusals.specs.declared.asking.Trip.{Trip}
 use Rattle.command_refusals.specs.declared.choosing.TripToAny.{TripToAny}
 

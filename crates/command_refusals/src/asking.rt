@@ -3,14 +3,14 @@ ghost use Rattle.std.specs.Prelude.{◌≡◌, ◌∷◌, Some, None, IfOk, IfEr
 ghost use Rattle.taxi_base.specs.declared.answers.Request.TheVariants as request;
 ghost use Rattle.taxi_text.specs.declared.command.BatchRequest.TheVariants as requested;
 ghost use Rattle.taxi_text.specs.declared.command.Command.TheVariants as command;
-ghost use Rattle.certificate.specs.Refusals.{first_of, in_force, tests_of_words, first_refusal};
+ghost use Rattle.replies.specs.Refusals.{first_of, in_force, tests_of_words, first_refusal};
 ghost use Rattle.commitments.specs.Book.{Fits};
 ghost use Rattle.command_refusals.specs.Named.{IsTripOf};
 
 use crate::holders::{is_full, is_held};
 use airport_file::Airport;
-use certificate::{Named, arrival_words, departure_words};
 use commitments::Ledger;
+use replies::{Named, arrival_words, departure_words};
 use taxi_base::{Class, Node, Refusal, Request, Time};
 use taxi_text::Asked;
 

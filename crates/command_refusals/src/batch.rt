@@ -1,16 +1,16 @@
 //! What the requests of a batch ask for, or why it is refused before any search.
 ghost use Rattle.std.specs.Prelude.{◌≡◌, Some, None, IfOk, IfErr};
 ghost use Rattle.taxi_text.specs.declared.command.Command.TheVariants as command;
-ghost use Rattle.certificate.specs.Batches.{wish_of, wishes_of};
-ghost use Rattle.certificate.specs.Refusals.{first_of, tests_of_request, first_refusal};
+ghost use Rattle.replies.specs.Batches.{wish_of, wishes_of};
+ghost use Rattle.replies.specs.Refusals.{first_of, tests_of_request, first_refusal};
 ghost use Rattle.commitments.specs.Book.{Fits};
 ghost use Rattle.command_refusals.specs.Accepted.{IsRefused};
 
 use crate::asking::{arrival_trip, departure_trip};
 use crate::holders::is_full_with;
 use airport_file::Airport;
-use certificate::{Wish, asked_in, is_asked_for};
 use commitments::Ledger;
+use replies::{Wish, asked_in, is_asked_for};
 use std::alloc::Global;
 use taxi_base::{List, Refusal};
 use taxi_text::BatchRequest;

@@ -3,7 +3,7 @@ ghost use Rattle.std.specs.Prelude.{◌≡◌, ◌⊎◌, ◌∷◌, [], Some, N
 ghost use Rattle.taxi_base.specs.declared.answers.Refusal.TheVariants as refusal;
 ghost use Rattle.taxi_base.specs.State.{has_holder};
 ghost use Rattle.taxi_text.specs.declared.command.Command.TheVariants as command;
-ghost use Rattle.certificate.specs.Refusals.{first_of, in_force, unknown_class, unknown_node, unknown_node_of, first_refusal};
+ghost use Rattle.replies.specs.Refusals.{first_of, in_force, unknown_class, unknown_node, unknown_node_of, first_refusal};
 ghost use Rattle.commitments.specs.Book.{Fits};
 ghost use Rattle.command_refusals.specs.Accepted.{IsRefused};
 ghost use Rattle.command_refusals.specs.Named.{IsTripOfAny};
@@ -11,8 +11,8 @@ ghost use Rattle.command_refusals.specs.Named.{IsTripOfAny};
 use crate::asking::Trip;
 use crate::holders::{is_full, is_held};
 use airport_file::Airport;
-use certificate::{has_no_runway, has_no_stand, nodes_named};
 use commitments::Ledger;
+use replies::{has_no_runway, has_no_stand, nodes_named};
 use std::alloc::Global;
 use taxi_base::{Class, List, Node, Refusal, Time};
 use taxi_text::AskedAny;

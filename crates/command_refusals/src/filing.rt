@@ -1,8 +1,8 @@
 //! A route given by hand: what refuses it, or the flight that takes it.
 ghost use Rattle.std.specs.Prelude.{◌≡◌, ◌⊎◌, ◌≤◌, length, Some, None, IfOk, IfErr};
 ghost use Rattle.taxi_text.specs.declared.command.Command.TheVariants.{File};
-ghost use Rattle.certificate.specs.Printable.{IsName};
-ghost use Rattle.certificate.specs.Asked.{route_filed};
+ghost use Rattle.replies.specs.Printable.{IsName};
+ghost use Rattle.replies.specs.Asked.{route_filed};
 ghost use Rattle.commitments.specs.Book.{Fits, IsPrepared};
 ghost use Rattle.command_refusals.specs.Accepted.{IsAccepted, IsRefused};
 

@@ -1,7 +1,7 @@
 //! The names that are taken, and how many holders there may be.
 ghost use Rattle.std.specs.Prelude.{◌≡◌, ◌+◌, nat_lt, nat_le};
 ghost use Rattle.taxi_base.specs.State.{has_holder, holder_count};
-ghost use Rattle.certificate.specs.Refusals.{most_holders};
+ghost use Rattle.replies.specs.Refusals.{most_holders};
 ghost use Rattle.commitments.specs.Book.{Fits};
 
 use airport_file::Airport;

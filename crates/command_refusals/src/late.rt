@@ -1,11 +1,11 @@
 //! Why a flight in force is not said to be late.
 ghost use Rattle.std.specs.Prelude.{◌≡◌, Some, None, IfErr, OnOk};
 ghost use Rattle.taxi_text.specs.declared.command.Command.TheVariants as command;
-ghost use Rattle.certificate.specs.Refusals.{first_refusal};
+ghost use Rattle.replies.specs.Refusals.{first_refusal};
 
 use airport_file::Airport;
-use certificate::delay_refused;
 use commitments::Ledger;
+use replies::delay_refused;
 use taxi_base::{Name, Refusal, Time};
 
 /// The flight of a name may be said to stay on its step at a time until a second, or why not. It needs no memory.

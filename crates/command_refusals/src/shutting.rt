@@ -1,7 +1,7 @@
 //! A work party that is to shut a segment: what refuses it, or the party.
 ghost use Rattle.std.specs.Prelude.{◌≡◌, None, IfOk, IfErr};
 ghost use Rattle.taxi_text.specs.declared.command.Command.TheVariants.{Work};
-ghost use Rattle.certificate.specs.Printable.{IsName};
+ghost use Rattle.replies.specs.Printable.{IsName};
 ghost use Rattle.commitments.specs.Book.{Fits, IsPreparedForParty};
 ghost use Rattle.command_refusals.specs.Accepted.{IsAcceptedParty, IsRefusedOrUnprepared};
 

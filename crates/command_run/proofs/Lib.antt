@@ -1,7 +1,7 @@
 pub mod BegunFiles
+pub mod Blocks
+pub mod PaceLaws
 pub mod Reading
-pub mod SoFar
-pub mod Stops
 pub mod Supplied
 pub mod Taken
 pub mod Told

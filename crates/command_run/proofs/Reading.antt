@@ -1,6 +1,5 @@
 -- A text that is read line by line: the lines that have ended in it, and those of a front that was passed over.
-use Rattle.std.proofs.Common.{◌≡◌, ◌==◌, ◌+◌, ◌-◌, ◌<◌, ◌≤◌, ◌∷◌, ◌++◌, ◌∙◌, [], ℕ, zero, suc, List, Bool, true, false, not, cond, refl, sym, ap, take, drop, length, Option, Some, None, option_map, nat_lt, append_assoc, append-nil, arith}
-use Rattle.std.proofs.lemmas.Bool.{ltb-true}
+use Rattle.std.proofs.Common.{◌≡◌, ◌==◌, ◌+◌, ◌<◌, ◌≤◌, ◌∷◌, ◌++◌, ◌∙◌, [], ℕ, zero, suc, List, Bool, true, false, not, cond, refl, sym, ap, take, drop, length, Option, Some, None, option_map, append_assoc, append-nil, arith}
 use Rattle.std.specs.List.{count_by}
 use Rattle.std.proofs.lemmas.List.Elements.{filter-append}
 use Rattle.std.proofs.Math.Seq.{take-append-add}
@@ -8,10 +7,10 @@ use Rattle.std.proofs.lemmas.List.{take-append-drop, take-take, drop_all, length
 use Rattle.std.proofs.lemmas.List.Sums.{sum_by-cons, sum_by-append, count_by-le-length}
 use Rattle.std.proofs.lemmas.List.Quantifiers.{position-Some}
 use Rattle.std.specs.Str.Lines.{strip_carriage_return}
-use Rattle.taxi_text.specs.Lines.{lines_of, commands_of, is_skipped}
+use Rattle.taxi_text.specs.Lines.{lines_of, is_skipped}
 use Rattle.taxi_text.specs.FirstLines.{line_end, line_end_with, first_line_of, behind_line, behind_first_line, last_line_of, only_line}
 use Rattle.taxi_text.proofs.FirstPlace.{line_end-cons, line_end-append, lines-first, lines-last}
-use Rattle.command_run.specs.Ended.{ended_lines_of, unended_lines_of, commands_among, ended_commands_of, commands_within}
+use Rattle.command_run.specs.Ended.{ended_lines_of, unended_lines_of, commands_among}
 
 -- how many lines end in a text
 abbrev feeds_in : List ℕ → ℕ
@@ -100,9 +99,6 @@ passed-ended front read passed more =
 pub passed-few : (front : List ℕ) (read : List (List ℕ)) → IsPassed front read → length read ≤ length front
 passed-few front read passed = let feeds = passed.feeds in let few = count_by-le-length (λ b. b == 10) front in omega (arith, feeds, few)
 
-the-same : {X : Type 0} {x y : X} → Some x ≡ Some y → x ≡ y
-the-same e = cc e
-
 -- the first line of a text, with its line feed, and what stands behind it
 pub first-passed : (kept line : List ℕ) → first_line_of kept ≡ Some line
     → (front : List ℕ) × (front ++ behind_first_line kept ≡ kept) × IsPassed front (line ∷ []) × (0 < length front)
@@ -172,34 +168,16 @@ ahead-fed kept piece none = λ line first. go (line_end (kept ++ piece)) refl li
       let d = length-drop (end + 1) (kept ++ piece) in
       omega (arith, past, within, l, d)
 
--- ---- the commands of a file
+-- ---- the commands among lines
 
 pub among-append : (lines more : List (List ℕ)) → commands_among (lines ++ more) ≡ commands_among lines ++ commands_among more
 among-append lines more = filter-append (λ line. not (is_skipped line)) lines more
 
--- the commands of the lines that were passed over are the first of the file
-pub within-goes_on : (limit : ℕ) (front more : List ℕ) (read : List (List ℕ)) → IsPassed front read → length front ≤ limit
-    → (rest : List (List ℕ)) × (commands_within limit (front ++ more) ≡ commands_among read ++ rest)
-within-goes_on limit front more read passed few = go (nat_lt limit (length (front ++ more))) refl where
-  go : (b : Bool) → nat_lt limit (length (front ++ more)) ≡ b → (rest : List (List ℕ)) × (commands_within limit (front ++ more) ≡ commands_among read ++ rest)
-  go false at = (
-    commands_among (lines_of more),
-    rw at (ap commands_among (passed.lines more) ∙ among-append read (lines_of more)),
-  )
-  go true at =
-      let rest = take (limit - length front) more in
-      let room : limit ≡ length front + (limit - length front) = omega (arith, few) in
-      let bytes : take limit (front ++ more) ≡ front ++ take (limit - length front) more = ap (λ (n : ℕ). take n (front ++ more)) room ∙ take-append-add front more (limit - length front) in (
-        ended_commands_of rest,
-        rw at (ap ended_commands_of bytes ∙ ap commands_among (passed-ended front read passed rest) ∙ among-append read (ended_lines_of rest)),
-      )
+pub among-skipped : (line : List ℕ) → is_skipped line ≡ true → commands_among (line ∷ []) ≡ []
+among-skipped line skipped = rw skipped refl
 
--- a file within the limit
-pub within-all : (limit : ℕ) (file : List ℕ) → length file ≤ limit → commands_within limit file ≡ commands_of file
-within-all limit file few = go (nat_lt limit (length file)) refl where
-  go : (b : Bool) → nat_lt limit (length file) ≡ b → commands_within limit file ≡ commands_of file
-  go false at = rw at refl
-  go true at = let more = ltb-true limit (length file) at in absurd (omega (arith, more, few))
+pub among-holds : (line : List ℕ) → is_skipped line ≡ false → commands_among (line ∷ []) ≡ line ∷ []
+among-holds line holds = rw holds refl
 
 -- where no line is kept that has ended, all lines are read but the last
 pub last-line : (front kept : List ℕ) (read : List (List ℕ)) → IsPassed front read → first_line_of kept ≡ None → lines_of (front ++ kept) ≡ read ++ only_line (last_line_of kept)

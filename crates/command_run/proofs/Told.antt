@@ -1,5 +1,5 @@
 -- What is told of the commands among lines: of one more line, and where it is cut short.
-use Rattle.std.proofs.Common.{◌≡◌, inl, inr, ◌+◌, ◌-◌, ◌≤◌, ◌++◌, ◌∷◌, ◌∙◌, [], ℕ, List, Bool, true, false, Option, Some, None, length, take, refl, sym, ap, ap₂, subst, append_assoc, append-nil, arith}
+use Rattle.std.proofs.Common.{◌≡◌, inl, inr, ◌+◌, ◌-◌, ◌≤◌, ◌++◌, ◌∷◌, ◌∙◌, [], ℕ, List, Bool, true, false, Option, Some, None, Result, Err, length, take, refl, sym, ap, ap₂, subst, append_assoc, append-nil, arith}
 use Rattle.std.specs.List.{flat_map}
 use Rattle.std.proofs.lemmas.List.{length-append}
 use Rattle.std.proofs.lemmas.Grind.{flat_map-append}
@@ -14,17 +14,28 @@ use Rattle.taxi_io.specs.declared.trouble.Trouble.{Trouble}
 use Rattle.taxi_io.specs.declared.trouble.Trouble.TheVariants as trouble
 use Rattle.taxi_io.specs.declared.trouble.ReadRefused.{ReadRefused}
 use Rattle.taxi_io.specs.declared.trouble.ReadRefused.TheVariants as reads
-use Rattle.certificate.specs.declared.block.Block.{Block}
-use Rattle.certificate.specs.Replies.{IsAnswered}
+use Rattle.replies.specs.declared.block.Block.{Block}
+use Rattle.replies.specs.Replies.{IsAnswered}
 use Rattle.transcripts.specs.Runs.{IsRun}
 use Rattle.transcripts.proofs.RunLaws.{none-sound, in_turn-append, IsRun-sound, in_turn-length, run-over}
-use Rattle.command_run.specs.Ended.{commands_among, ended_lines_of}
-use Rattle.command_run.specs.Answered.{Outputs, AreLeft}
+use Rattle.command_run.specs.declared.refused.RunRefused.{RunRefused}
+use Rattle.command_run.specs.declared.refused.RunRefused.TheVariants as refused
+use Rattle.command_run.specs.Ended.{commands_among, ended_lines_of, lines_within}
+use Rattle.command_run.specs.HowFar.{Told, Pieces, Outputs, AreLeft, last_piece, IsInTime}
 use Rattle.command_run.specs.Refusals.{refused_for_read, refused_for_write}
-use Rattle.command_run.specs.Told.{Numbered, numbered_from, numbered_among, lines_within, Telling, texts_told, AreTold, IsTold, IsWholeTold, IsHaltedTold, IsCutTold, IsStoppedTold, IsLineTold, IsLineCut}
-use Rattle.command_run.proofs.Reading.{among-append}
-use Rattle.command_run.proofs.SoFar.{among-skipped, among-holds}
-use Rattle.command_run.proofs.Taken.{IsTaken, IsFirst, nothing-taken, taken-fed, taken-dropped, taken-same, taken-few, lines-few, are-first, whole-lines, whole-file, last-first, ended-at_fault, ended-at_limit, longer-by_one}
+use Rattle.command_run.specs.Told.{Numbered, numbered_from, numbered_among, Telling, texts_told, AreTold, IsTold, IsCommandCut, IsWholeTold, IsHaltedTold, IsCutTold, IsPromptTold, IsStoppedTold, IsLineTold, IsLineCut}
+use Rattle.command_run.proofs.Reading.{among-append, among-skipped, among-holds}
+use Rattle.command_run.proofs.Taken.{IsTaken, IsFirst, nothing-taken, taken-fed, taken-dropped, taken-ended, first-in_time, last-in_time, taken-few, lines-few, are-first, whole-lines, whole-file, last-first, ended-at_fault, ended-at_limit, longer-by_one}
+
+-- ---- troubles
+
+-- a write fault comes of a failed write alone
+pub failed-of : (why : Trouble) → refused_for_write why ≡ refused.WriteFault → why ≡ trouble.Failed
+failed-of trouble.Failed is = refl
+failed-of trouble.Memory is = absurd (cc is)
+
+pub same-err : (result : Result ℕ RunRefused) (one other : RunRefused) → result ≡ Err one → result ≡ Err other → one ≡ other
+same-err result one other a b = cc (a, b)
 
 -- ---- numbers
 
@@ -107,7 +118,7 @@ module _ (telling : Telling) (airport : Airport) where
   }
 
   -- there is a block for each command
-  told-count : (lines : List (List ℕ)) (blocks : List Block) (after : State) → IsRun airport no_holder (commands_among lines) blocks after → length blocks ≡ length (numbered_among lines)
+  pub told-count : (lines : List (List ℕ)) (blocks : List Block) (after : State) → IsRun airport no_holder (commands_among lines) blocks after → length blocks ≡ length (numbered_among lines)
   told-count lines blocks after run = in_turn-length IsAnswered airport no_holder after (commands_among lines) blocks run ∙ sym (numbered-count 1 1 lines)
 
   module _ (lines : List (List ℕ)) (w0 w1 : Output) (count : ℕ) (state : State) (told : AreTold telling airport lines (w0, w1) count state) where
@@ -201,36 +212,51 @@ module _ (telling : Telling) (airport : Airport) where
     pub told-cut : (line : List ℕ) (number : ℕ) (now : Output) → number ≡ length lines + 1 → IsFirst limit old lines → IsFirst limit old (lines ++ line ∷ [])
         → IsLineCut telling airport state count number line (w1, now) → IsCutTold telling airport limit (old, left) (w0, now)
     told-cut line number now is first next (inl nothing) = subst (λ (w : Output). IsCutTold telling airport limit (old, left) (w0, w)) (sym nothing) (told-stays first)
-    told-cut line number now is first next (inr (holds, (text, after, one, front, in_part))) =
+    told-cut line number now is first next (inr cut) =
         let texts = texts_told telling airport (numbered_among lines) told.blocks in
-        let same = more-texts lines w0 w1 count state told line number is holds text after one in
-        cut-over limit old left (lines ++ line ∷ []) (told.blocks ++ one.block ∷ []) after (joined texts ++ front.0) front.1 w0 now next (more-run lines w0 w1 count state told line number is holds text after one)
-        (append_assoc (joined texts) front.0 front.1 ∙ ap (λ (t : List ℕ). joined texts ++ t) front.2 ∙ sym (ap joined same ∙ joined-one texts text))
-        (grew-more w0 w1 now (joined texts) front.0 told.grew front.4)
-        (subst (AreHandedInPart w0 now) (sym same) (handed-on w0 w1 now texts (text ∷ []) told.handed (inl (inr in_part))))
+        let same = more-texts lines w0 w1 count state told line number is cut.holds cut.text cut.after cut.told in
+        cut-over limit old left (lines ++ line ∷ []) (told.blocks ++ cut.told.block ∷ []) cut.after (joined texts ++ cut.front.0) cut.front.1 w0 now next
+        (more-run lines w0 w1 count state told line number is cut.holds cut.text cut.after cut.told)
+        (append_assoc (joined texts) cut.front.0 cut.front.1 ∙ ap (λ (t : List ℕ). joined texts ++ t) cut.front.2 ∙ sym (ap joined same ∙ joined-one texts cut.text))
+        (grew-more w0 w1 now (joined texts) cut.front.0 told.grew cut.front.4)
+        (subst (AreHandedInPart w0 now) (sym same) (handed-on w0 w1 now texts (cut.text ∷ []) told.handed (inl (inr cut.in_part))))
 
   -- ---- so far
 
   -- the lines that are read of the file are told, and so many they are
-  pub record IsToldSoFar (limit : ℕ) (left : Option (List ℕ) × Option (List ℕ)) (written : Outputs) (kept : List ℕ) (room number count : ℕ) (state : State) : Type 0 where
+  pub record IsToldSoFar (limit : ℕ) (left : Told) (given : Pieces) (written : Outputs) (kept : List ℕ) (room number count : ℕ) (state : State) : Type 0 where
     pub read : List (List ℕ)
-    pub taken : IsTaken limit left kept room read
+    pub taken : IsTaken limit left given kept room read
     pub numbered : number ≡ length read
     pub told : AreTold telling airport read written count state
 
-  pub so_far-nothing : (limit : ℕ) (left : Option (List ℕ)) (now : Output) (state : State) → state ≡ no_holder → IsToldSoFar limit (left, left) (now, now) [] limit 0 0 state
-  so_far-nothing limit left now state fresh = record { read = []; taken = nothing-taken limit left; numbered = refl; told = nothing-told now state fresh }
+  pub so_far-nothing : (limit : ℕ) (left : Option (List ℕ)) (given : List (List ℕ)) (now : Output) (state : State) → state ≡ no_holder
+      → IsToldSoFar limit (left, left) (given, given) (now, now) [] limit 0 0 state
+  so_far-nothing limit left given now state fresh = record { read = []; taken = nothing-taken limit left given; numbered = refl; told = nothing-told now state fresh }
 
-  module _ (limit : ℕ) (old left : Option (List ℕ)) (w0 w1 : Output) (kept : List ℕ) (room number count : ℕ) (state : State)
-      (so_far : IsToldSoFar limit (old, left) (w0, w1) kept room number count state) where
-    pub told-fed : (next : Option (List ℕ)) (piece : List ℕ) (more : ℕ) → Gave left next piece → length piece ≤ room → more ≡ room - length piece
-        → IsToldSoFar limit (old, next) (w0, w1) (kept ++ piece) more number count state
-    told-fed next piece more gave within less = record {
+  module _ (limit : ℕ) (old left : Option (List ℕ)) (given : Pieces) (w0 w1 : Output) (kept : List ℕ) (room number count : ℕ) (state : State)
+      (so_far : IsToldSoFar limit (old, left) given (w0, w1) kept room number count state) where
+    pub told-fed : (next : Option (List ℕ)) (now : List (List ℕ)) (piece : List ℕ) (more : ℕ) → first_line_of kept ≡ None → Gave left next piece → now ≡ given.1 ++ piece ∷ []
+        → length piece ≤ 4096 → length piece ≤ room → more ≡ room - length piece → IsToldSoFar limit (old, next) (given.0, now) (w0, w1) (kept ++ piece) more number count state
+    told-fed next now piece more none gave told few within less = record {
       read = so_far.read;
-      taken = taken-fed limit old left kept room so_far.read so_far.taken next piece more gave within less;
+      taken = taken-fed limit old left given kept room so_far.read so_far.taken next now piece more none gave told few within less;
       numbered = so_far.numbered;
       told = so_far.told;
     }
+
+    -- the file has ended, as the last read told, which gave nothing
+    pub told-ended : (next : Option (List ℕ)) (now : List (List ℕ)) (piece : List ℕ) → next ≡ left → now ≡ given.1 ++ piece ∷ [] → piece ≡ [] → first_line_of kept ≡ None
+        → (ended : IsToldSoFar limit (old, next) (given.0, now) (w0, w1) kept room number count state) × (last_piece ended.taken.pieces ≡ [])
+    told-ended next now piece same told nothing none =
+        let ended = taken-ended limit old left given kept room so_far.read so_far.taken next now piece same told nothing none in (
+          record { read = so_far.read; taken = ended.0; numbered = so_far.numbered; told = so_far.told },
+          ended.1,
+        )
+
+    -- the number of the next line
+    next-number : number + 1 ≡ length so_far.read + 1
+    next-number = let numbered = so_far.numbered in omega (arith, numbered)
 
     -- a line more is told
     one-more : (line : List ℕ) (w2 : Output) (few : ℕ) (after : State) → IsLineTold telling airport state count (number + 1) line (w1, w2) few after
@@ -241,16 +267,15 @@ module _ (telling : Telling) (airport : Airport) where
         (subst (λ (w : Output). AreTold telling airport (so_far.read ++ line ∷ []) (w0, w) count after) (sym same)
         (subst (λ (s : State). AreTold telling airport (so_far.read ++ line ∷ []) (w0, w1) count s) (sym kept_state) (told-skipped so_far.read w0 w1 count state so_far.told line skipped)))
     one-more line w2 few after (inr (holds, one, (text, told, grew, handed))) =
-        let numbered = so_far.numbered in
         let one_more : count + 1 ≡ count + few = omega (arith, one) in
         subst (λ (n : ℕ). AreTold telling airport (so_far.read ++ line ∷ []) (w0, w2) n after) one_more
-        (told-line so_far.read w0 w1 count state so_far.told line (number + 1) (omega (arith, numbered)) holds text after told w2 grew handed)
+        (told-line so_far.read w0 w1 count state so_far.told line (number + 1) next-number holds text after told w2 grew handed)
 
     pub told-first : (line : List ℕ) → first_line_of kept ≡ Some line → (w2 : Output) (few : ℕ) (after : State) → IsLineTold telling airport state count (number + 1) line (w1, w2) few after
-        → IsToldSoFar limit (old, left) (w0, w2) (behind_first_line kept) room (number + 1) (count + few) after
+        → IsToldSoFar limit (old, left) given (w0, w2) (behind_first_line kept) room (number + 1) (count + few) after
     told-first line first w2 few after line_told = record {
       read = so_far.read ++ line ∷ [];
-      taken = taken-dropped limit old left kept room so_far.read so_far.taken line first;
+      taken = taken-dropped limit old left given kept room so_far.read so_far.taken line first;
       numbered = let numbered = so_far.numbered in let l = length-append so_far.read (line ∷ []) in omega (arith, numbered, l);
       told = one-more line w2 few after line_told;
     }
@@ -258,7 +283,7 @@ module _ (telling : Telling) (airport : Airport) where
     -- there are no more lines than bytes, and no more commands than lines
     pub numbers-few : (number ≤ limit) × (count ≤ limit)
     numbers-few =
-        let lines = lines-few limit old left kept room so_far.read so_far.taken in
+        let lines = lines-few limit old left given kept room so_far.read so_far.taken in
         let numbered = so_far.numbered in
         let counted = so_far.told.counted in
         let blocks = in_turn-length IsAnswered airport no_holder state (commands_among so_far.read) so_far.told.blocks so_far.told.run in
@@ -269,56 +294,72 @@ module _ (telling : Telling) (airport : Airport) where
 
     -- memory runs out between two lines, perhaps with a piece more taken
     pub so_far-left : (next : Option (List ℕ)) → IsCutTold telling airport limit (old, next) (w0, w1)
-    so_far-left next = told-stays limit old next so_far.read w0 w1 count state so_far.told (are-first limit old left kept room so_far.read so_far.taken)
+    so_far-left next = told-stays limit old next so_far.read w0 w1 count state so_far.told (are-first limit old left given kept room so_far.read so_far.taken)
 
-    -- what is told of a line is cut short
+    -- what is told of the next line is cut short
+    cut-stops : (why : Trouble) (now : Output) → IsCutTold telling airport limit (old, left) (w0, now) → IsStoppedTold telling airport limit (old, left) (w0, now) (refused_for_write why)
+    cut-stops trouble.Failed now cut = cut
+    cut-stops trouble.Memory now cut = cut
+
+    prompt-of : (line : List ℕ) (now : Output) → IsInTime (old, left) given so_far.read line → IsCommandCut telling airport state (record { command = count + 1; line = number + 1; text = line }) (w1, now)
+        → IsPromptTold telling airport (old, left) given (w0, now)
+    prompt-of line now in_time cut = record {
+      before = so_far.read;
+      line = line;
+      in_time = in_time;
+      between = w1;
+      count = count;
+      state = state;
+      told = so_far.told;
+      cut = subst (λ (n : ℕ). IsCommandCut telling airport state (record { command = count + 1; line = n; text = line }) (w1, now)) next-number cut;
+    }
+
+    -- that of the first line that has ended
     pub first-stops : (line : List ℕ) → first_line_of kept ≡ Some line → (now : Output) → IsLineCut telling airport state count (number + 1) line (w1, now) → (why : Trouble)
         → IsStoppedTold telling airport limit (old, left) (w0, now) (refused_for_write why)
     first-stops line first now cut why =
-        cut-stops why (told-cut limit old left so_far.read w0 w1 count state so_far.told line (number + 1) now (let numbered = so_far.numbered in omega (arith, numbered))
-        (are-first limit old left kept room so_far.read so_far.taken)
-        (are-first limit old left (behind_first_line kept) room (so_far.read ++ line ∷ []) (taken-dropped limit old left kept room so_far.read so_far.taken line first)) cut)
-      where
-        cut-stops : (why : Trouble) → IsCutTold telling airport limit (old, left) (w0, now) → IsStoppedTold telling airport limit (old, left) (w0, now) (refused_for_write why)
-        cut-stops trouble.Failed cut = cut
-        cut-stops trouble.Memory cut = cut
+        cut-stops why now (told-cut limit old left so_far.read w0 w1 count state so_far.told line (number + 1) now next-number
+        (are-first limit old left given kept room so_far.read so_far.taken)
+        (are-first limit old left given (behind_first_line kept) room (so_far.read ++ line ∷ []) (taken-dropped limit old left given kept room so_far.read so_far.taken line first)) cut)
+
+    pub first-prompt : (line : List ℕ) → first_line_of kept ≡ Some line → (now : Output) → IsCommandCut telling airport state (record { command = count + 1; line = number + 1; text = line }) (w1, now)
+        → IsPromptTold telling airport (old, left) given (w0, now)
+    first-prompt line first now cut = prompt-of line now (first-in_time limit old left given kept room so_far.read so_far.taken line first) cut
 
     module _ (none : first_line_of kept ≡ None) where
-      -- the same of the last line, which has no line feed
-      pub last-stops : (line : List ℕ) → last_line_of kept ≡ Some line → (next : Option (List ℕ)) → next ≡ left → AreLeft left [] → (now : Output)
-          → IsLineCut telling airport state count (number + 1) line (w1, now) → (why : Trouble) → IsStoppedTold telling airport limit (old, next) (w0, now) (refused_for_write why)
-      last-stops line last next same ended now cut why =
-          cut-stops why (told-cut limit old next so_far.read w0 w1 count state so_far.told line (number + 1) now (let numbered = so_far.numbered in omega (arith, numbered))
-          (are-first limit old left kept room so_far.read so_far.taken) (last-first limit old left kept room so_far.read so_far.taken none line last ended) cut)
-        where
-          cut-stops : (why : Trouble) → IsCutTold telling airport limit (old, next) (w0, now) → IsStoppedTold telling airport limit (old, next) (w0, now) (refused_for_write why)
-          cut-stops trouble.Failed cut = cut
-          cut-stops trouble.Memory cut = cut
+      -- that of the last line, which has no line feed
+      pub last-stops : (line : List ℕ) → last_line_of kept ≡ Some line → AreLeft left [] → (now : Output) → IsLineCut telling airport state count (number + 1) line (w1, now) → (why : Trouble)
+          → IsStoppedTold telling airport limit (old, left) (w0, now) (refused_for_write why)
+      last-stops line last ended now cut why =
+          cut-stops why now (told-cut limit old left so_far.read w0 w1 count state so_far.told line (number + 1) now next-number
+          (are-first limit old left given kept room so_far.read so_far.taken) (last-first limit old left given kept room so_far.read so_far.taken none line last ended) cut)
 
-      whole-with : (next : Option (List ℕ)) (lines : List (List ℕ)) (w2 : Output) (n : ℕ) (after : State) → next ≡ left → AreLeft left [] → so_far.read ++ only_line (last_line_of kept) ≡ lines
-          → AreTold telling airport lines (w0, w2) n after → IsWholeTold telling airport limit (old, next) (w0, w2) n
-      whole-with next lines w2 n after same ended are told =
-          let taken = taken-same limit old left kept room so_far.read so_far.taken next same in
-          record {
-            bytes = so_far.taken.front ++ kept;
-            gave = subst (λ (l : Option (List ℕ)). Gave old l (so_far.taken.front ++ kept)) (sym same) so_far.taken.gave;
-            file = whole-file limit old left kept room so_far.read so_far.taken none ended;
-            at_end = subst (λ (l : Option (List ℕ)). AreLeft l []) (sym same) ended;
-            within = taken-few limit old left kept room so_far.read so_far.taken;
-            after = after;
-            told = subst (λ (l : List (List ℕ)). AreTold telling airport l (w0, w2) n after) (sym (whole-lines limit old left kept room so_far.read so_far.taken none ∙ are)) told;
-          }
+      pub last-prompt : (line : List ℕ) → last_line_of kept ≡ Some line → last_piece so_far.taken.pieces ≡ [] → (now : Output)
+          → IsCommandCut telling airport state (record { command = count + 1; line = number + 1; text = line }) (w1, now) → IsPromptTold telling airport (old, left) given (w0, now)
+      last-prompt line last ended now cut = prompt-of line now (last-in_time limit old left given kept room so_far.read so_far.taken none line last ended) cut
+
+      whole-with : (lines : List (List ℕ)) (w2 : Output) (n : ℕ) (after : State) → AreLeft left [] → so_far.read ++ only_line (last_line_of kept) ≡ lines
+          → AreTold telling airport lines (w0, w2) n after → IsWholeTold telling airport limit (old, left) (w0, w2) n
+      whole-with lines w2 n after ended are told = record {
+        bytes = so_far.taken.front ++ kept;
+        gave = so_far.taken.gave;
+        file = whole-file limit old left given kept room so_far.read so_far.taken none ended;
+        at_end = ended;
+        within = taken-few limit old left given kept room so_far.read so_far.taken;
+        after = after;
+        told = subst (λ (l : List (List ℕ)). AreTold telling airport l (w0, w2) n after) (sym (whole-lines limit old left given kept room so_far.read so_far.taken none ∙ are)) told;
+      }
 
       -- the file is read to its end, and its last line is told too
-      pub whole-last : (line : List ℕ) → last_line_of kept ≡ Some line → (next : Option (List ℕ)) → next ≡ left → AreLeft left [] → (w2 : Output) (few : ℕ) (after : State)
-          → IsLineTold telling airport state count (number + 1) line (w1, w2) few after → IsWholeTold telling airport limit (old, next) (w0, w2) (count + few)
-      whole-last line last next same ended w2 few after line_told =
-          whole-with next (so_far.read ++ line ∷ []) w2 (count + few) after same ended (ap (λ (l : Option (List ℕ)). so_far.read ++ only_line l) last) (one-more line w2 few after line_told)
+      pub whole-last : (line : List ℕ) → last_line_of kept ≡ Some line → AreLeft left [] → (w2 : Output) (few : ℕ) (after : State)
+          → IsLineTold telling airport state count (number + 1) line (w1, w2) few after → IsWholeTold telling airport limit (old, left) (w0, w2) (count + few)
+      whole-last line last ended w2 few after line_told =
+          whole-with (so_far.read ++ line ∷ []) w2 (count + few) after ended (ap (λ (l : Option (List ℕ)). so_far.read ++ only_line l) last) (one-more line w2 few after line_told)
 
       -- or there is none
-      pub whole-none : last_line_of kept ≡ None → (next : Option (List ℕ)) → next ≡ left → AreLeft left [] → IsWholeTold telling airport limit (old, next) (w0, w1) count
-      whole-none last next same ended =
-          whole-with next so_far.read w1 count state same ended (ap (λ (l : Option (List ℕ)). so_far.read ++ only_line l) last ∙ append-nil so_far.read) so_far.told
+      pub whole-none : last_line_of kept ≡ None → AreLeft left [] → IsWholeTold telling airport limit (old, left) (w0, w1) count
+      whole-none last ended =
+          whole-with so_far.read w1 count state ended (ap (λ (l : Option (List ℕ)). so_far.read ++ only_line l) last ∙ append-nil so_far.read) so_far.told
 
       halted-with : (next : Option (List ℕ)) (taken : List ℕ) → Gave old next taken → so_far.read ≡ ended_lines_of (take limit taken) → IsHaltedTold telling airport limit (old, next) (w0, w1) taken
       halted-with next taken gave are = record {
@@ -333,18 +374,22 @@ module _ (telling : Telling) (airport : Airport) where
           → IsStoppedTold telling airport limit (old, next) (w0, w1) (refused_for_read why)
       read-stops next reads.Fault large same =
           let stays = same refl in
-          let few = taken-few limit old left kept room so_far.read so_far.taken in (
+          let few = taken-few limit old left given kept room so_far.read so_far.taken in (
             so_far.taken.front ++ kept,
             few,
             halted-with next (so_far.taken.front ++ kept) (subst (λ (l : Option (List ℕ)). Gave old l (so_far.taken.front ++ kept)) (sym stays) so_far.taken.gave)
-                (sym (ended-at_fault limit old left kept room so_far.read so_far.taken none)),
+                (sym (ended-at_fault limit old left given kept room so_far.read so_far.taken none)),
           )
       read-stops next reads.TooLarge large same =
           let byte = large refl in
-          let long = longer-by_one limit old left kept room so_far.read so_far.taken none byte.1.0 byte.0 in (
+          let long = longer-by_one limit old left given kept room so_far.read so_far.taken none byte.1.0 byte.0 in (
             (so_far.taken.front ++ kept) ++ byte.1.0 ∷ [],
             omega (arith, long),
             halted-with next ((so_far.taken.front ++ kept) ++ byte.1.0 ∷ []) (gave-more old left next (so_far.taken.front ++ kept) (byte.1.0 ∷ []) so_far.taken.gave byte.1.1)
-                (sym (ended-at_limit limit old left kept room so_far.read so_far.taken none byte.1.0 byte.0)),
+                (sym (ended-at_limit limit old left given kept room so_far.read so_far.taken none byte.1.0 byte.0)),
           )
       read-stops next reads.Memory large same = so_far-left next
+
+  -- nothing was read, and nothing is told
+  pub unread-cut : (limit : ℕ) (left : Option (List ℕ)) (now : Output) → IsCutTold telling airport limit (left, left) (now, now)
+  unread-cut limit left now = so_far-left limit left left ([], []) now now [] limit 0 0 no_holder (so_far-nothing limit left [] now no_holder refl) left

@@ -1,6 +1,6 @@
 -- Which lines have ended in the first bytes of a file, and which of its commands are answered?
 use Rattle.std.specs.Prelude.{ℕ, not, nat_lt, ◌==◌, List, length, take, drop, filter, count_by, if◌then◌else◌}
-use Rattle.taxi_text.specs.Lines.{lines_of, commands_of, is_skipped}
+use Rattle.taxi_text.specs.Lines.{lines_of, is_skipped}
 
 -- the lines that have ended in these bytes, whatever comes behind them: each line feed ends one
 abbrev pub ended_lines_of : List ℕ → List (List ℕ)
@@ -18,7 +18,11 @@ commands_among lines = filter (λ line. not (is_skipped line)) lines
 abbrev pub ended_commands_of : List ℕ → List (List ℕ)
 ended_commands_of bytes = commands_among (ended_lines_of bytes)
 
--- The commands of a file that are answered: all of a file of so many bytes at most, and of a longer one those whose lines have
--- ended in its first so many bytes.
+-- The lines of a file whose commands are answered: all of a file of so many bytes at most, and of a longer one those that have ended
+-- in its first so many bytes.
+abbrev pub lines_within : ℕ → List ℕ → List (List ℕ)
+lines_within limit file = if nat_lt limit (length file) then ended_lines_of (take limit file) else lines_of file
+
+-- the commands among them
 abbrev pub commands_within : ℕ → List ℕ → List (List ℕ)
-commands_within limit file = if nat_lt limit (length file) then ended_commands_of (take limit file) else commands_of file
+commands_within limit file = commands_among (lines_within limit file)

@@ -1,6 +1,9 @@
 pub mod Refusals
 pub mod Ended
+pub mod HowFar
 pub mod Answered
 pub mod Told
+pub mod Pace
+pub mod RunEnds
 pub mod Supplied
 pub mod Halts

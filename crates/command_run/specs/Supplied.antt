@@ -1,11 +1,11 @@
 -- What is a run in which memory runs out for no command, and what is kept of its blocks?
-use Rattle.std.specs.Prelude.{ℕ, ◌≡◌, List, [], ◌∷◌, ◌++◌, All}
+use Rattle.std.specs.Prelude.{ℕ, ◌≡◌, ◌-◌, List, [], ◌∷◌, ◌++◌, take, slice_get, Option, All}
 use Rattle.taxi_base.specs.declared.answers.Refusal.TheVariants as refusal
 use Rattle.taxi_base.specs.Airport.{Airport}
 use Rattle.taxi_base.specs.State.{State, no_holder}
-use Rattle.certificate.specs.declared.block.Block.{Block}
-use Rattle.certificate.specs.declared.block.Block.TheVariants.{Refused}
-use Rattle.certificate.specs.Replies.{IsAnswered}
+use Rattle.replies.specs.declared.block.Block.{Block}
+use Rattle.replies.specs.declared.block.Block.TheVariants.{Refused}
+use Rattle.replies.specs.Replies.{IsAnswered}
 use Rattle.transcripts.specs.Runs.{IsRun}
 
 -- memory did not run out for this block
@@ -18,7 +18,13 @@ pub record IsSuppliedRun (airport : Airport) (commands : List (List ℕ)) (after
   pub run : IsRun airport no_holder commands blocks after
   pub found_memory : All FoundMemory blocks
 
--- Such a run, where something is kept of its blocks: that it is kept is a fact of all of them.
+-- Such a run over the commands before the one of this number, counted from 1. The next is that command's line, which is not
+-- answered, if there are so many.
+pub record IsRunBefore (airport : Airport) (commands : List (List ℕ)) (number : ℕ) (next : Option (List ℕ)) (after : State) : Type 0 where
+  pub run : IsSuppliedRun airport (take (number - 1) commands) after
+  pub next_is : next ≡ slice_get commands (number - 1)
+
+-- A run over commands in which memory ran out for none, where something is kept of its blocks: that it is kept is a fact of all of them.
 pub record IsKeptRun (airport : Airport) (commands : List (List ℕ)) (after : State) (Kept : List Block → Type 0) : Type 0 where
   pub run : IsSuppliedRun airport commands after
   pub kept : Kept run.blocks

@@ -1,18 +1,19 @@
 -- What is written of each command of a file beside its block, and what was written, by how the run ended?
-use Rattle.std.specs.Prelude.{◌≡◌, ◌<◌, ◌≤◌, ◌⊎◌, ◌+◌, ℕ, true, false, List, [], ◌∷◌, ◌++◌, length, take, nat_lt, if◌then◌else◌}
+use Rattle.std.specs.Prelude.{◌≡◌, ◌<◌, ◌≤◌, ◌⊎◌, ◌+◌, ℕ, true, false, List, [], ◌∷◌, ◌++◌, length, if◌then◌else◌}
 use Rattle.std.specs.List.{flat_map}
 use Rattle.taxi_base.specs.Airport.{Airport}
 use Rattle.taxi_base.specs.State.{State, no_holder}
-use Rattle.taxi_text.specs.Lines.{lines_of, is_skipped}
-use Rattle.taxi_io.specs.Files.{Gave}
-use Rattle.taxi_io.specs.Written.{Grew, GrewInPart, Handed, HandedInPart, AreHanded, AreHandedInPart}
-use Rattle.certificate.specs.declared.block.Block.{Block}
-use Rattle.certificate.specs.Replies.{IsAnswered}
+use Rattle.taxi_text.specs.Lines.{is_skipped}
+use Rattle.taxi_io.specs.Written.{Output, Grew, GrewInPart, Handed, HandedInPart, AreHanded, AreHandedInPart}
+use Rattle.replies.specs.declared.block.Block.{Block}
+use Rattle.replies.specs.Texts.{block_text}
+use Rattle.replies.specs.Replies.{IsAnswered}
 use Rattle.transcripts.specs.Runs.{IsRun}
 use Rattle.command_run.specs.declared.refused.RunRefused.{RunRefused}
 use Rattle.command_run.specs.declared.refused.RunRefused.TheVariants.{ReadFault, TooLarge, WriteFault, Memory}
-use Rattle.command_run.specs.Ended.{ended_lines_of, commands_among}
-use Rattle.command_run.specs.Answered.{Told, Outputs, AreLeft}
+use Rattle.command_run.specs.Ended.{commands_among}
+pub use Rattle.command_run.specs.Ended.{lines_within}
+use Rattle.command_run.specs.HowFar.{Told, Pieces, Outputs, AreLeft, IsReadWhole, IsReadUpTo, IsInTime}
 
 -- ---- commands with their numbers
 
@@ -31,11 +32,6 @@ numbered_from command line (text ∷ lines) =
 
 abbrev pub numbered_among : List (List ℕ) → List Numbered
 numbered_among lines = numbered_from 1 1 lines
-
--- the lines of a file whose commands are answered: all of a file of so many bytes at most, and of a longer one those that have ended in
--- its first so many bytes
-abbrev pub lines_within : ℕ → List ℕ → List (List ℕ)
-lines_within limit file = if nat_lt limit (length file) then ended_lines_of (take limit file) else lines_of file
 
 -- ---- what is written
 
@@ -67,25 +63,29 @@ pub record IsTold (telling : Telling) (airport : Airport) (before : State) (comm
   pub answered : IsAnswered airport before command.text block after
   pub is_text : text ≡ telling airport command block
 
+-- a line holds a command, and of what is told of it a front was written, and not the whole
+pub record IsCommandCut (telling : Telling) (airport : Airport) (before : State) (command : Numbered) (written : Outputs) : Type 0 where
+  pub holds : is_skipped command.text ≡ false
+  pub text : List ℕ
+  pub after : State
+  pub told : IsTold telling airport before command text after
+  pub front : GrewInPart written.0 written.1 text
+  pub in_part : HandedInPart written.0 written.1 text
+
+-- the telling of a router: of each command its block is told
+abbrev pub block_told : Telling
+block_told airport command block = block_text airport block
+
 -- ---- how a run ended
 
 -- the file was read to its end, within the limit, and all its commands are told
-pub record IsWholeTold (telling : Telling) (airport : Airport) (limit : ℕ) (left : Told) (written : Outputs) (count : ℕ) : Type 0 where
-  pub bytes : List ℕ
-  pub gave : Gave left.0 left.1 bytes
-  pub file : AreLeft left.0 bytes
-  pub at_end : AreLeft left.1 []
-  pub within : length bytes ≤ limit
-  pub after : State
-  pub told : AreTold telling airport (lines_of bytes) written count after
+abbrev pub IsWholeTold : Telling → Airport → ℕ → Told → Outputs → ℕ → Type 0
+IsWholeTold telling airport = IsReadWhole (AreTold telling airport)
 
 -- Reading ended after these bytes of the file were taken. The commands whose lines have ended in them are told, where only so many
 -- bytes count.
-pub record IsHaltedTold (telling : Telling) (airport : Airport) (limit : ℕ) (left : Told) (written : Outputs) (taken : List ℕ) : Type 0 where
-  pub gave : Gave left.0 left.1 taken
-  pub count : ℕ
-  pub after : State
-  pub told : AreTold telling airport (ended_lines_of (take limit taken)) written count after
+abbrev pub IsHaltedTold : Telling → Airport → ℕ → Told → Outputs → List ℕ → Type 0
+IsHaltedTold telling airport = IsReadUpTo (AreTold telling airport)
 
 -- a front was written of what is told of the file's commands, each text handed over as one piece
 pub record IsCutTold (telling : Telling) (airport : Airport) (limit : ℕ) (left : Told) (written : Outputs) : Type 0 where
@@ -99,6 +99,17 @@ pub record IsCutTold (telling : Telling) (airport : Airport) (limit : ℕ) (left
   pub split : front ++ behind ≡ all_told telling airport (lines_within limit bytes) blocks
   pub grew : Grew written.0 written.1 front
   pub handed : AreHandedInPart written.0 written.1 (texts_told telling airport (numbered_among (lines_within limit bytes)) blocks)
+
+-- What is told of a command is cut short. That of the lines before is written, and no read was made once the command's line had ended.
+pub record IsPromptTold (telling : Telling) (airport : Airport) (left : Told) (given : Pieces) (written : Outputs) : Type 0 where
+  pub before : List (List ℕ)
+  pub line : List ℕ
+  pub in_time : IsInTime left given before line
+  pub between : Output
+  pub count : ℕ
+  pub state : State
+  pub told : AreTold telling airport before (written.0, between) count state
+  pub cut : IsCommandCut telling airport state (record { command = count + 1; line = length before + 1; text = line }) (between, written.1)
 
 -- how much was told where a run didn't come to the end of its file
 abbrev pub IsStoppedTold : Telling → Airport → ℕ → Told → Outputs → RunRefused → Type 0
@@ -117,10 +128,7 @@ IsLineTold telling airport before count line text written few after =
     × ((told : List ℕ) × IsTold telling airport before (record { command = count + 1; line = line; text = text }) told after
     × Grew written.0 written.1 told × Handed written.0 written.1 told))
 
--- nothing is written of a line, or a front of what is told of its command, and not the whole
+-- nothing is written of a line, or what is told of its command is cut short
 abbrev pub IsLineCut : Telling → Airport → State → (count line : ℕ) → List ℕ → Outputs → Type 0
 IsLineCut telling airport before count line text written =
-    (written.1 ≡ written.0)
-    ⊎ ((is_skipped text ≡ false)
-    × ((told : List ℕ) × (after : State) × IsTold telling airport before (record { command = count + 1; line = line; text = text }) told after
-    × GrewInPart written.0 written.1 told × HandedInPart written.0 written.1 told))
+    (written.1 ≡ written.0) ⊎ IsCommandCut telling airport before (record { command = count + 1; line = line; text = text }) written

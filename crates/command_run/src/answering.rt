@@ -1,19 +1,15 @@
-//! A run over the commands of a file.
-ghost use Rattle.std.specs.Prelude.{◌≡◌, ◌<◌, ◌≤◌, ◌^◌, ◌∷◌, [], true, IfOk, IfErr, OnErr, IsErrOf, IsTrue};
+//! A run over the commands of a file, of each of which the block is written.
+ghost use Rattle.std.specs.Prelude.{◌≡◌, ◌<◌, ◌≤◌, ◌^◌, true, IfOk, IfErr, IsErrOf, IsTrue};
 ghost use Rattle.taxi_base.specs.State.{no_holder};
 ghost use Rattle.taxi_io.specs.Counts.{Rose};
 ghost use Rattle.taxi_io.specs.Files.{SameNames};
-ghost use Rattle.command_run.specs.Ended.{commands_among};
-ghost use Rattle.command_run.specs.Answered.{AreAnswered, IsBlockCut, IsWholeRun, IsStopped};
+ghost use Rattle.command_run.specs.Answered.{IsWholeRun, IsStopped};
 
 use crate::refused::RunRefused;
+use crate::telling::run_told;
 use std::alloc::Global;
-use taxi_io::{Shelf, Sink, Trouble, read_piece, write_all};
-use taxi_text::{LineReader, skipped};
+use taxi_io::{Shelf, Sink};
 use transcripts::Router;
-
-/// The bytes that one read asks for at most.
-pub(crate) const PIECE: usize = 4096;
 
 /// Has a router answer each command of the begun file at its airport, from no flight in force, as soon as its line
 /// has ended, and writes the block as one piece, before more of the file is read. At the end of the file a last line without a line feed is
@@ -45,42 +41,5 @@ pub fn run_commands<R: Router, S: Shelf, K: Sink>(
     ensures files { S.files shelf.new ≡ S.files shelf.old }
     ensures names { SameNames (S.knows shelf.old) (S.knows shelf.new) }
 {
-    let mut reader = LineReader::new(alloc);
-    let mut buffer = [0u8; PIECE];
-    let mut left = limit;
-    let mut count: u64 = 0;
-    loop {
-        if let Some(line) = reader.first_line() {
-            count += answer_line(router, line, out)?;
-            reader.drop_first();
-        } else {
-            let taken = read_piece(shelf, &mut buffer, left)?;
-            if taken == 0 {
-                break;
-            }
-            reader.feed(&buffer[..taken])?;
-            left -= taken;
-        }
-    }
-    if let Some(line) = reader.last_line() {
-        count += answer_line(router, line, out)?;
-    }
-    Ok(count)
-}
-
-// Answers the command of a line, if it holds one, and gives the number of commands: one or none.
-fn answer_line<R: Router, K: Sink>(router: &mut R, line: &[u8], out: &mut K) -> Result<u64, Trouble>
-    ensures answered { IfOk result (λ count. AreAnswered (R.airport router.old) (R.state router.old) (commands_among (line.now ∷ [])) (K.written out.old, K.written out.new) count (R.state router.new)) }
-    ensures cut { OnErr result (IsBlockCut (R.airport router.old) (R.state router.old) line.now (K.written out.old, K.written out.new)) }
-    ensures failed { IsErrOf result Trouble.Failed → Rose (K.faults out.old) (K.faults out.new) }
-    ensures few { IfOk result (λ count. count ≤ 1) }
-    ensures airport { R.airport router.new ≡ R.airport router.old }
-    ensures later { K.faults out.old ≤ K.faults out.new }
-{
-    if skipped(line) {
-        return Ok(0);
-    }
-    router.answer(line);
-    write_all(out, router.reply())?;
-    Ok(1)
+    run_told(alloc, router, shelf, limit, out)
 }

@@ -3,7 +3,7 @@ ghost use Rattle.std.specs.Prelude.{◌≡◌, ◌<◌, ◌^◌, [], List, lengt
 ghost use Rattle.taxi_base.specs.Airport.{Airport};
 ghost use Rattle.taxi_base.specs.State.{State, no_holder};
 ghost use Rattle.taxi_text.specs.Lines.{commands_of};
-ghost use Rattle.certificate.specs.declared.block.Block.{Block};
+ghost use Rattle.replies.specs.declared.block.Block.{Block};
 ghost use Rattle.command_run.specs.Supplied.{IsKept, IsKeptRun};
 
 use taxi_base::Memory;

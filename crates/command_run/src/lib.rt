@@ -2,16 +2,16 @@
 #![tactic(auto)]
 
 mod answering;
+mod before;
 mod halting;
 mod kept;
 pub mod laws;
 mod refused;
 mod telling;
-mod whole;
 
 pub use answering::run_commands;
+pub use before::{answer_with_memory, run_before};
 pub use halting::write_halt;
 pub use kept::{Keeper, run_kept};
 pub use refused::RunRefused;
 pub use telling::{Teller, run_told};
-pub use whole::{answer_with_memory, run_all};

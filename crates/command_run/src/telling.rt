@@ -1,17 +1,20 @@
-//! A run over the commands of a file, of each of which something else than its block is written.
+//! A run over the commands of a file, of each of which something is written.
 ghost use Rattle.std.specs.Prelude.{◌≡◌, ◌+◌, ◌<◌, ◌≤◌, ◌^◌, ℕ, List, true, IfOk, IfErr, OnOk, OnErr, IsErrOf, IsTrue};
 ghost use Rattle.taxi_base.specs.Airport.{Airport};
 ghost use Rattle.taxi_base.specs.State.{State, no_holder};
 ghost use Rattle.taxi_io.specs.Counts.{Rose};
 ghost use Rattle.taxi_io.specs.Files.{SameNames};
-ghost use Rattle.command_run.specs.Told.{Telling, IsTold, IsWholeTold, IsStoppedTold, IsLineTold, IsLineCut};
+ghost use Rattle.command_run.specs.Told.{Telling, IsTold, IsWholeTold, IsStoppedTold, IsPromptTold, IsCommandCut, IsLineTold, IsLineCut, block_told};
 
-use crate::answering::PIECE;
 use crate::refused::RunRefused;
 use std::alloc::Global;
 use taxi_base::Memory;
 use taxi_io::{Shelf, Sink, Trouble, read_piece, write_all};
 use taxi_text::{LineReader, skipped};
+use transcripts::Router;
+
+// The bytes that one read asks for at most.
+const PIECE: usize = 4096;
 
 /// Who answers command lines over an airport, one after the other, and says what is to be written of each.
 pub trait Teller {
@@ -38,6 +41,26 @@ pub trait Teller {
         ensures { result.now ≡ told self.now };
 }
 
+/// A router tells of each command the block that answers it.
+impl<R: Router> Teller for R {
+    ghost airport = { λ router. R.airport router };
+
+    ghost state = { λ router. R.state router };
+
+    ghost told = { λ router. R.replied router };
+
+    ghost telling = { block_told };
+
+    fn tell(&mut self, _command: u64, _number: u64, line: &[u8]) -> Result<(), Memory> {
+        self.answer(line);
+        Ok(())
+    }
+
+    fn told(&self) -> &[u8] {
+        self.reply()
+    }
+}
+
 /// Has a teller answer each command of the begun file at its airport, from no flight in force, as soon as its line has ended, and writes
 /// what is told of it as one piece, before more of the file is read. At the end of the file a last line without a line feed is
 /// answered too. Gives the number of commands.
@@ -57,6 +80,8 @@ pub fn run_told<T: Teller, S: Shelf, K: Sink>(
 
     ensures whole { IfOk result (IsWholeTold T.telling (T.airport teller.old) limit (S.rest shelf.old, S.rest shelf.new) (K.written out.old, K.written out.new)) }
     ensures stopped { IfErr result (IsStoppedTold T.telling (T.airport teller.old) limit (S.rest shelf.old, S.rest shelf.new) (K.written out.old, K.written out.new)) }
+    // Where a text can't be written whole, no read was made once its command's line had ended.
+    ensures pace { IsErrOf result RunRefused.WriteFault → IsPromptTold T.telling (T.airport teller.old) (S.rest shelf.old, S.rest shelf.new) (S.given shelf.old, S.given shelf.new) (K.written out.old, K.written out.new) }
     ensures read_fault { IsErrOf result RunRefused.ReadFault → Rose (S.faults shelf.old) (S.faults shelf.new) }
     ensures write_fault { IsErrOf result RunRefused.WriteFault → Rose (K.faults out.old) (K.faults out.new) }
 
@@ -105,6 +130,7 @@ fn tell_line<T: Teller, K: Sink>(
     requires { count + 1 < 2 ^ 64 }
     ensures told { IfOk result (λ few. IsLineTold T.telling (T.airport teller.old) (T.state teller.old) count number line.now (K.written out.old, K.written out.new) few (T.state teller.new)) }
     ensures cut { OnErr result (IsLineCut T.telling (T.airport teller.old) (T.state teller.old) count number line.now (K.written out.old, K.written out.new)) }
+    ensures cut_short { IsErrOf result Trouble.Failed → IsCommandCut T.telling (T.airport teller.old) (T.state teller.old) (record { command = count + 1; line = number; text = line.now }) (K.written out.old, K.written out.new) }
     ensures failed { IsErrOf result Trouble.Failed → Rose (K.faults out.old) (K.faults out.new) }
     ensures few { IfOk result (λ few. few ≤ 1) }
     ensures airport { T.airport teller.new ≡ T.airport teller.old }

@@ -1,11 +1,11 @@
 -- What is free among all holders but one: from the steps of one segment to those of the segments in conflict, and from steps to holders.
-use Rattle.std.proofs.Common.{◌≡◌, ℕ, ◌+◌, ◌<◌, ◌≤◌, Bool, cond, ◌&&◌, List, [], ◌∷◌, ◌++◌, length, map, get_or, take, drop, IsTrue, IsFalse, refl, sym, ap, ◌∙◌, inl, inr, subst, arith, append-nil}
+use Rattle.std.proofs.Common.{◌≡◌, ℕ, ◌+◌, ◌<◌, ◌≤◌, Bool, cond, ◌&&◌, List, [], ◌∷◌, ◌++◌, length, map, get_or, take, drop, IsTrue, IsFalse, refl, sym, ap, ◌∙◌, inl, inr, subst, arith}
 use Rattle.std.specs.Prelude.{Contains, count_by, filter, flat_map, not, bytes_eq}
 use Rattle.std.specs.List.{list_any}
 use Rattle.std.proofs.lemmas.Bool.{cases_Bool, cond-true, cond-false, and_parts, and_from, and_left, and_right, lt-ltb}
 use Rattle.std.proofs.lemmas.List.{take-append-drop}
 use Rattle.std.proofs.lemmas.List.Concat.{flat_map-append}
-use Rattle.std.proofs.lemmas.List.Elements.{All-filter, filter-append, filter_more}
+use Rattle.std.proofs.lemmas.List.Elements.{All-filter, filter-append}
 use Rattle.std.proofs.lemmas.List.Kept.{IsNonDecreasingBy-filter}
 use Rattle.taxi_base.specs.declared.numbers.Segment.{Segment}
 use Rattle.taxi_base.specs.declared.rows.Span.{Span}
@@ -19,7 +19,6 @@ use Rattle.taxi_base.proofs.ListLaws.{Contains-map, map-Contains, Contains-flat_
 use Rattle.taxi_base.proofs.StateLaws.{IsFeasibleState-without}
 use Rattle.conflict_sets.specs.Conflicts.{AreConflicts}
 use Rattle.window_store.specs.Held.{IsFirstHeld}
-use Rattle.window_store.proofs.Seconds.{first-append}
 use Rattle.commitments.specs.declared.segment_holds.HeldStep.{HeldStep}
 use Rattle.commitments.specs.declared.segment_holds.Holder.{Holder}
 use Rattle.commitments.specs.Held.{StepList, list_of, all_steps, hold_by, spans_by, steps_with, party_holder, flight_holder, party_steps, flight_steps, joined, steps_in, AreAsMany, AreBySegment, AreSince}
@@ -50,31 +49,6 @@ module _ (airport : Airport) (name : List ℕ) where
       subst (λ (v : Span). Contains (spans_by airport xs) v) held.2
       (Contains-map (λ (held : HeldStep). (hold_by airport held).span) xs held.0 (filter-Contains (is_of_others name) xs held.0 held.1).0))
       none
-
-  -- one step more
-  more-of_others : (rest : List HeldStep) (i : ℕ) (d : HeldStep) → i < length rest → IsTrue (is_of_others name (get_or rest i d))
-      → spans (take (i + 1) rest) ≡ spans (take i rest) ++ (hold_by airport (get_or rest i d)).span ∷ []
-  more-of_others rest i d low other =
-      ap (spans_by airport)
-      (filter_more (is_of_others name) rest i d low
-      ∙ ap (λ (xs : List HeldStep). steps_of_others name (take i rest) ++ xs) (cond-true (is_of_others name (get_or rest i d)) (get_or rest i d ∷ []) [] other))
-      ∙ spans-append airport (steps_of_others name (take i rest)) (get_or rest i d ∷ [])
-
-  more-of_its_own : (rest : List HeldStep) (i : ℕ) (d : HeldStep) → i < length rest → IsFalse (is_of_others name (get_or rest i d)) → spans (take (i + 1) rest) ≡ spans (take i rest)
-  more-of_its_own rest i d low own =
-      ap (spans_by airport)
-      (filter_more (is_of_others name) rest i d low
-      ∙ ap (λ (xs : List HeldStep). steps_of_others name (take i rest) ++ xs) (cond-false (is_of_others name (get_or rest i d)) (get_or rest i d ∷ []) [] own)
-      ∙ append-nil (steps_of_others name (take i rest)))
-
-  module _ (rest : List HeldStep) (from until : ℕ) (i : ℕ) (d : HeldStep) (low : i < length rest) (first : ℕ) (so_far : IsFirstHeld (spans (take i rest)) from until first) where
-    pub first-more : (found : ℕ) → IsTrue (is_of_others name (get_or rest i d)) → IsFirstHeld ((hold_by airport (get_or rest i d)).span ∷ []) from first found
-        → IsFirstHeld (spans (take (i + 1) rest)) from until found
-    first-more found other one =
-        rw (more-of_others rest i d low other) (first-append (spans (take i rest)) ((hold_by airport (get_or rest i d)).span ∷ []) from until first found so_far one)
-
-    pub first-passed : IsFalse (is_of_others name (get_or rest i d)) → IsFirstHeld (spans (take (i + 1) rest)) from until first
-    first-passed own = rw (more-of_its_own rest i d low own) so_far
 
   module _ (rules : IsWellFormed airport) (steps rest : List HeldStep) (from until : ℕ) (since : AreSince steps from rest) where
     others-since : AreSince (steps_of_others name steps) from (steps_of_others name rest)

@@ -1,5 +1,5 @@
 -- The steps of one holder are given back, some after the others: what is among the others still, what stays, and the room that is left.
-use Rattle.std.proofs.Common.{◌≡◌, ℕ, ◌+◌, ◌-◌, ◌<◌, ◌≤◌, List, [], ◌++◌, length, map, take, drop, sym, ap, ◌∙◌, subst, arith}
+use Rattle.std.proofs.Common.{◌≡◌, ℕ, ◌+◌, ◌-◌, ◌<◌, ◌≤◌, List, ◌++◌, length, map, take, drop, sym, ap, ◌∙◌, subst, arith}
 use Rattle.std.specs.Prelude.{All, count_by, IsTrue}
 use Rattle.std.proofs.lemmas.List.{take-append-drop, map-append}
 use Rattle.std.proofs.Math.Seq.{take-add}
@@ -76,10 +76,6 @@ module _ (holder : Holder) (steps : List Step) (k next : ℕ) (later : k ≤ nex
       let parts : All Against (holds_of horizon clearance (take k steps) ++ holds_of horizon clearance these) = subst (All Against) (ap (holds_of horizon clearance) parted ∙ map-append (hold_of horizon clearance) (take k steps) these) against in
       next s w (omega (arith, low_s, nodes.lists)) (before s w low_s there (All-front Against (holds_of horizon clearance (take k steps)) (holds_of horizon clearance these) parts))
       (All-back Against (holds_of horizon clearance (take k steps)) (holds_of horizon clearance these) parts)
-
--- none is given back at first
-pub none-gone : (holder : Holder) (old : List HeldStep) → AreAsMany old (old ++ steps_with holder [])
-none-gone holder old p = omega (arith, count-append p old [])
 
 pub nodes-both : (old now new : Store) → KeepsNodes old now → KeepsNodes now new → KeepsNodes old new
 nodes-both old now new first second = record {

@@ -6,8 +6,8 @@ use Rattle.taxi_base.specs.declared.rows.Step.{Step}
 use Rattle.taxi_base.specs.Airport.{Airport}
 use Rattle.taxi_text.specs.declared.command.FiledStep.{FiledStep}
 use Rattle.taxi_text.specs.Commands.{is_step_count}
-use Rattle.certificate.specs.Asked.{filed_steps}
-use Rattle.certificate.proofs.FiledLaws.{filed_steps-length}
+use Rattle.replies.specs.Asked.{filed_steps}
+use Rattle.replies.proofs.FiledLaws.{filed_steps-length}
 
 -- what is still to come after some steps
 abbrev pub steps_and : Airport → List Step → ℕ → List FiledStep → Option (List Step)

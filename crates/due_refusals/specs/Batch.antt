@@ -4,8 +4,8 @@ use Rattle.taxi_base.specs.Airport.{Airport}
 use Rattle.taxi_base.specs.State.{State}
 use Rattle.taxi_text.specs.declared.command.BatchRequest.{BatchRequest}
 use Rattle.taxi_text.specs.declared.command.Command.TheVariants as command
-use Rattle.certificate.specs.Batches.{wishes_of}
-use Rattle.certificate.specs.Refusals.{first_refusal}
+use Rattle.replies.specs.Batches.{wishes_of}
+use Rattle.replies.specs.Refusals.{first_refusal}
 use Rattle.due_refusals.specs.declared.batch.NamedBatch.{NamedBatch}
 use Rattle.due_refusals.specs.declared.batch.NamedBatch.TheVariants.{Named, Refused}
 

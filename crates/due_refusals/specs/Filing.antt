@@ -8,8 +8,8 @@ use Rattle.taxi_base.specs.Windows.{AllFree, covers}
 use Rattle.taxi_base.specs.State.{State}
 use Rattle.taxi_text.specs.declared.command.Filed.{Filed}
 use Rattle.taxi_text.specs.declared.command.Command.TheVariants as command
-use Rattle.certificate.specs.Asked.{filed_steps}
-use Rattle.certificate.specs.Refusals.{first_refusal}
+use Rattle.replies.specs.Asked.{filed_steps}
+use Rattle.replies.specs.Refusals.{first_refusal}
 use Rattle.due_refusals.specs.declared.filed.Due.{Due}
 use Rattle.due_refusals.specs.declared.filed.Due.TheVariants.{Refused, Accepted}
 

@@ -1,8 +1,8 @@
 //! Why a flight in force is not routed anew.
 ghost use Rattle.std.specs.Prelude.{◌≡◌, ◌<◌, ◌∷◌, [], length};
-ghost use Rattle.certificate.specs.Refusals.{is_filed, is_departure, first_of, not_routed, not_arrival, already_done, already_moving};
+ghost use Rattle.replies.specs.Refusals.{is_filed, is_departure, first_of, not_routed, not_arrival, already_done, already_moving};
 
-use certificate::fixed_refused;
+use replies::fixed_refused;
 use taxi_base::{Flight, Refusal, Request, Time, begin_of, end_of};
 
 /// Why a reroute of a flight in force is refused.

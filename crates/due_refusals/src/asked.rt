@@ -3,13 +3,13 @@ ghost use Rattle.std.specs.Prelude.{◌≡◌, ◌∷◌, Some, None, ◌+◌, n
 ghost use Rattle.taxi_base.specs.State.{holder_count};
 ghost use Rattle.taxi_text.specs.declared.command.BatchRequest.TheVariants as requested;
 ghost use Rattle.taxi_text.specs.declared.command.Command.TheVariants as command;
-ghost use Rattle.certificate.specs.Refusals.{most_holders, first_of, in_force, tests_of_words, first_refusal};
-ghost use Rattle.certificate.specs.Named.{AreNamed};
+ghost use Rattle.replies.specs.Refusals.{most_holders, first_of, in_force, tests_of_words, first_refusal};
+ghost use Rattle.replies.specs.Named.{AreNamed};
 ghost use Rattle.checked_state.specs.Flights.{state_of};
 
 use airport_file::Airport;
-use certificate::{Named, arrival_words, departure_words};
 use checked_state::HeldFlights;
+use replies::{Named, arrival_words, departure_words};
 use taxi_base::{MOST_HOLDERS, Refusal};
 use taxi_text::Asked;
 

@@ -1,14 +1,14 @@
 //! What the requests of a batch ask for, or why it is refused before any search.
 ghost use Rattle.std.specs.Prelude.{◌≡◌, Some, None, IfOk, IfErr};
-ghost use Rattle.certificate.specs.Batches.{wish_of};
-ghost use Rattle.certificate.specs.Refusals.{first_of, tests_of_request};
+ghost use Rattle.replies.specs.Batches.{wish_of};
+ghost use Rattle.replies.specs.Refusals.{first_of, tests_of_request};
 ghost use Rattle.checked_state.specs.Flights.{state_of};
 ghost use Rattle.due_refusals.specs.Batch.{AreBatchNamed};
 
 use crate::asked::{is_full_with, new_arrival, new_departure};
 use airport_file::Airport;
-use certificate::{Wish, asked_in, is_asked_for};
 use checked_state::HeldFlights;
+use replies::{Wish, asked_in, is_asked_for};
 use std::alloc::Global;
 use taxi_base::{List, Memory, Refusal, Request};
 use taxi_text::BatchRequest;

@@ -1,7 +1,7 @@
 //! What is due to a route that is given by hand.
 ghost use Rattle.std.specs.Prelude.{◌≡◌, IfOk, IsTrue, length};
 ghost use Rattle.taxi_text.specs.Commands.{is_step_count};
-ghost use Rattle.certificate.specs.Asked.{filed_steps};
+ghost use Rattle.replies.specs.Asked.{filed_steps};
 ghost use Rattle.checked_state.specs.Flights.{state_of, HasSpansOf};
 ghost use Rattle.due_refusals.specs.KnownIn.{AreKnownIn};
 ghost use Rattle.due_refusals.specs.Filing.{IsDueOf};

@@ -2,12 +2,12 @@
 ghost use Rattle.std.specs.Prelude.{◌≡◌};
 ghost use Rattle.taxi_base.specs.State.{IsSound};
 ghost use Rattle.taxi_text.specs.declared.command.Command.TheVariants as command;
-ghost use Rattle.certificate.specs.Refusals.{first_refusal};
+ghost use Rattle.replies.specs.Refusals.{first_refusal};
 ghost use Rattle.checked_state.specs.Flights.{state_of};
 
 use airport_file::Airport;
-use certificate::delay_refused;
 use checked_state::HeldFlights;
+use replies::delay_refused;
 use taxi_base::{Name, Refusal, Time};
 
 /// Why the flight of a name is not said to stay on its step at a time until a second; none where it may be.

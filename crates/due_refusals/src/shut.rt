@@ -3,7 +3,7 @@ ghost use Rattle.std.specs.Prelude.{◌≡◌, ◌<◌, ◌∷◌, [], Some, IfO
 ghost use Rattle.taxi_base.specs.Airport.{segment_named};
 ghost use Rattle.taxi_base.specs.Faults.{hold_cause, hold_fault};
 ghost use Rattle.taxi_text.specs.declared.command.Command.TheVariants as command;
-ghost use Rattle.certificate.specs.Refusals.{first_of, hold_fails, first_refusal};
+ghost use Rattle.replies.specs.Refusals.{first_of, hold_fails, first_refusal};
 ghost use Rattle.checked_state.specs.Flights.{state_of, HasSpansOf};
 ghost use Rattle.due_refusals.specs.KnownIn.{AreKnownIn};
 

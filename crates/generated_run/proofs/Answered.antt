@@ -2,10 +2,10 @@
 use Rattle.std.proofs.Common.{◌≡◌, ◌∙◌, ℕ, List, [], sym, subst, append-nil}
 use Rattle.taxi_base.specs.Airport.{Airport}
 use Rattle.taxi_base.specs.State.{State}
-use Rattle.certificate.specs.declared.block.Block.{Block}
-use Rattle.certificate.specs.Texts.{block_text}
-use Rattle.certificate.specs.Replies.{IsAnswered}
-use Rattle.certificate.specs.Passes.{IsPassed}
+use Rattle.replies.specs.declared.block.Block.{Block}
+use Rattle.replies.specs.Texts.{block_text}
+use Rattle.replies.specs.Replies.{IsAnswered}
+use Rattle.replies.specs.Passes.{IsPassed}
 use Rattle.block_reader.specs.Read.{BeginsWith}
 use Rattle.transcripts.specs.Turns.{IsReplyText}
 

@@ -6,8 +6,8 @@ use Rattle.std.proofs.lemmas.List.Sums.{count_by-le-length}
 use Rattle.taxi_base.specs.Airport.{Airport}
 use Rattle.taxi_base.specs.State.{State, no_holder}
 use Rattle.taxi_text.specs.Lines.{is_skipped}
-use Rattle.certificate.specs.declared.block.Block.{Block}
-use Rattle.certificate.specs.Replies.{IsAnswered}
+use Rattle.replies.specs.declared.block.Block.{Block}
+use Rattle.replies.specs.Replies.{IsAnswered}
 use Rattle.transcripts.specs.Runs.{IsRun}
 use Rattle.transcripts.proofs.RunLaws.{in_turn-append, in_turn-length}
 use Rattle.transcripts.proofs.CommandsIn.{commands_in, split-more, commands_in-skipped, commands_in-kept}

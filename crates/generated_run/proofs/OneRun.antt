@@ -3,9 +3,9 @@ use Rattle.std.proofs.Common.{◌≡◌, ◌∷◌, ◌∙◌, [], ℕ, List, Al
 use Rattle.std.proofs.lemmas.List.Elements.{All-head, All-tail}
 use Rattle.taxi_base.specs.Airport.{Airport, IsWellFormed}
 use Rattle.taxi_base.specs.State.{State, no_holder}
-use Rattle.certificate.specs.declared.block.Block.{Block}
-use Rattle.certificate.specs.Replies.{IsReply}
-use Rattle.certificate.proofs.OneReply.{IsDue-same}
+use Rattle.replies.specs.declared.block.Block.{Block}
+use Rattle.replies.specs.Replies.{IsReply}
+use Rattle.replies.proofs.OneReply.{IsDue-same}
 use Rattle.transcripts.specs.Runs.{IsRun}
 use Rattle.generated_run.specs.declared.summary.Summary.{Summary}
 use Rattle.generated_run.specs.Summaries.{FoundMemory, IsSummaryOf, summary_of}

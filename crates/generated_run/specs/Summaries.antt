@@ -4,8 +4,8 @@ use Rattle.taxi_base.specs.declared.answers.Refusal.TheVariants as refusal
 use Rattle.taxi_base.specs.Airport.{Airport}
 use Rattle.taxi_base.specs.State.{State, no_holder}
 use Rattle.taxi_base.specs.Walks.{begin_of, end_of}
-use Rattle.certificate.specs.declared.block.Block.{Block}
-use Rattle.certificate.specs.declared.block.Block.TheVariants.{Refused, Route, NoRoute}
+use Rattle.replies.specs.declared.block.Block.{Block}
+use Rattle.replies.specs.declared.block.Block.TheVariants.{Refused, Route, NoRoute}
 use Rattle.transcripts.specs.Runs.{IsRun}
 use Rattle.traffic_generator.specs.Grid.{grid_airport}
 use Rattle.traffic_generator.specs.Flights.{command_lines}

@@ -1,15 +1,15 @@
 //! One command answered, and its reply read back and checked.
 ghost use Rattle.std.specs.Prelude.{◌≡◌, IfOk, OnOk};
 ghost use Rattle.taxi_base.specs.State.{State};
-ghost use Rattle.certificate.specs.declared.block.Block.{Block as PlainBlock};
-ghost use Rattle.certificate.specs.Replies.{IsAnswered};
-ghost use Rattle.certificate.specs.Passes.{IsPassed};
+ghost use Rattle.replies.specs.declared.block.Block.{Block as PlainBlock};
+ghost use Rattle.replies.specs.Replies.{IsAnswered};
+ghost use Rattle.replies.specs.Passes.{IsPassed};
 ghost use Rattle.block_reader.specs.Read.{BeginsWith};
 ghost use Rattle.generated_run.specs.Summaries.{FoundMemory};
 
 use airport_file::Airport;
 use block_reader::{BlockRefused, read_block};
-use certificate::Block;
+use replies::Block;
 use std::alloc::Global;
 use taxi_base::{Memory, Refusal};
 use transcripts::{BlockChecker, CheckRefused, Router};

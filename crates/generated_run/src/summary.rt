@@ -2,11 +2,11 @@
 ghost use Rattle.std.specs.Prelude.{◌≡◌, ◌<◌, ◌≤◌, ◌+◌, ◌-◌, ◌*◌, ◌^◌, ◌++◌, ◌∷◌, [], List, length, IfOk, OnOk};
 ghost use Rattle.taxi_base.specs.Airport.{Airport as Plain};
 ghost use Rattle.taxi_base.specs.Walks.{begin_of, end_of};
-ghost use Rattle.certificate.specs.declared.block.Block.{Block as PlainBlock};
+ghost use Rattle.replies.specs.declared.block.Block.{Block as PlainBlock};
 ghost use Rattle.generated_run.specs.Summaries.{seconds_of, summary_of, count_line, six_lines};
 
 use airport_file::Airport;
-use certificate::Block;
+use replies::Block;
 use std::alloc::Global;
 use taxi_base::{Memory, Step, Time};
 use taxi_text::{push_bytes, push_number};

@@ -22,12 +22,6 @@ not_before a b m ba mb = false_from_ne_true _ (λ ma.
       | inr differ ↦ both_ways _ ba (name_precedes-trans b m a (name_precedes-turned m b mb differ) ma)
     ])
 
--- the same names, of another kind
-pub first-same : (IsOne IsOther : List ℕ → Type 0) → ((name : List ℕ) → IsOne name → IsOther name) → ((name : List ℕ) → IsOther name → IsOne name)
-    → (first : Option (List ℕ)) → IsFirstOf IsOne first → IsFirstOf IsOther first
-first-same IsOne IsOther into back None none = λ name h. none name (back name h)
-first-same IsOne IsOther into back (Some name) is = (into name is.0, λ other h. is.1 other (back other h))
-
 module _ (t : ℕ) where
   pub first-none : IsFirstOf (IsHolderIn [] t) None
   first-none = λ name h. absurd (omega (arith, h.1.1))

@@ -1,8 +1,8 @@
 -- What steps hold, put in and taken out one step after the other.
-use Rattle.std.proofs.Common.{◌≡◌, ◌∙◌, ℕ, ◌+◌, ◌<◌, ◌≤◌, ◌==◌, cond, List, [], ◌∷◌, ◌++◌, length, map, get_or, take, drop, append_assoc, append-nil, refl, sym, ap, subst, arith}
+use Rattle.std.proofs.Common.{◌≡◌, ◌∙◌, ℕ, ◌+◌, ◌<◌, ◌≤◌, ◌==◌, cond, List, [], ◌∷◌, ◌++◌, length, map, get_or, take, drop, append-nil, refl, sym, ap, subst, arith}
 use Rattle.std.specs.Prelude.{Result, Ok, Err, OnOk, OnErr}
 use Rattle.std.proofs.lemmas.List.{at_drop_more, drop_all, map-append, take_all, take_more}
-use Rattle.std.proofs.lemmas.List.Sums.{sum_by_more, sum_by_more_le}
+use Rattle.std.proofs.lemmas.List.Sums.{sum_by_more}
 use Rattle.taxi_base.specs.declared.numbers.Segment.{Segment}
 use Rattle.taxi_base.specs.declared.rows.Span.{Span}
 use Rattle.taxi_base.specs.declared.rows.Step.{Step}
@@ -56,28 +56,10 @@ module _ (holder : List ℕ) (horizon clearance : ℕ) (steps : List Step) (i : 
       let there = next ∙ ap (λ (h : Hold). record { hold = h; holder = holder } ∷ held_by holder (holds_of horizon clearance (drop (i + 1) steps))) is_hold in
       front held holds (one_hold segment span holder) (held_by holder (holds_of horizon clearance (drop (i + 1) steps))) (subst (λ (rest : List NamedHold). AreHeldBy (holds ++ rest) held) there are)
 
-  -- one more is put in
-  pub one-more : (held : HeldSpans) (holds : List NamedHold) → AreHeldBy ((holds ++ held_by holder (holds_of horizon clearance (take i steps))) ++ one_hold segment span holder ∷ []) held
-      → AreHeldBy (holds ++ held_by holder (holds_of horizon clearance (take (i + 1) steps))) held
-  one-more held holds are =
-      let more = ap (λ (some : List Step). held_by holder (holds_of horizon clearance some)) (take_more steps i no_step on) in
-      let pushed = more ∙ push (take i steps) (get_or steps i no_step) ∙ ap (λ (h : Hold). held_by holder (holds_of horizon clearance (take i steps)) ++ record { hold = h; holder = holder } ∷ []) is_hold in
-      subst (λ (all : List NamedHold). AreHeldBy (holds ++ all) held) (sym pushed)
-      (subst (λ (all : List NamedHold). AreHeldBy all held) (append_assoc holds (held_by holder (holds_of horizon clearance (take i steps))) (one_hold segment span holder ∷ [])) are)
-    where
-      push : (some : List Step) (step : Step) → held_by holder (holds_of horizon clearance (some ++ step ∷ [])) ≡ held_by holder (holds_of horizon clearance some) ++ record { hold = hold_of horizon clearance step; holder = holder } ∷ []
-      push [] step = refl
-      push (first ∷ some) step = ap (λ (rest : List NamedHold). record { hold = hold_of horizon clearance first; holder = holder } ∷ rest) (push some step)
-
   -- how many of the first steps are on a segment
   pub steps_on-more : (s : Segment) → steps_on s (take (i + 1) steps) ≡ steps_on s (take i steps) + cond (segment.0 == s.0) 1 0
   steps_on-more s =
       sum_by_more (λ (step : Step). cond ((segment_of step.arc).0 == s.0) 1 0) steps i no_step on ∙ ap (λ (x : Segment). steps_on s (take i steps) + cond (x.0 == s.0) 1 0) (sym is_segment)
-
-  pub steps_on-within : (s : Segment) → steps_on s (take i steps) + cond (segment.0 == s.0) 1 0 ≤ steps_on s steps
-  steps_on-within s =
-      subst (λ (x : Segment). steps_on s (take i steps) + cond (x.0 == s.0) 1 0 ≤ steps_on s steps) (sym is_segment)
-      (sum_by_more_le (λ (step : Step). cond ((segment_of step.arc).0 == s.0) 1 0) steps i no_step on)
 
 -- none is left
 pub none-left : (holder : List ℕ) (horizon clearance : ℕ) (steps : List Step) (i : ℕ) → length steps ≤ i → (held : HeldSpans) (holds : List NamedHold)

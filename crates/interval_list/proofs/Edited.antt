@@ -1,7 +1,5 @@
 -- Lists that are changed at one place: their length, their elements, and what `map` makes of them.
 use Rattle.std.proofs.Common.{◌≡◌, ℕ, zero, suc, ◌+◌, ◌<◌, ◌≤◌, List, [], ◌∷◌, ◌++◌, length, map, take, drop, refl, sym, ap, ◌∙◌, arith}
-use Rattle.std.specs.Prelude.{reverse}
-use Rattle.std.proofs.lemmas.List.{reverse-append}
 use Rattle.interval_list.specs.Edits.{inserted, removed, replaced, item}
 use denote.RawPtr.{Ptr, null_ptr}
 use Rattle.interval_list.specs.declared.node.Node.{Node}
@@ -88,9 +86,6 @@ module _ {X : Type 0} where
   take-item d [] i within = absurd (omega arith)
   take-item d (y ∷ xs) zero within = refl
   take-item d (y ∷ xs) (suc i) within = ap (λ zs. y ∷ zs) (take-item d xs i (omega arith))
-
-  pub reverse-take_item : (d : X) (xs : List X) (i : ℕ) → i < length xs → reverse (take (suc i) xs) ≡ item d xs i ∷ reverse (take i xs)
-  reverse-take_item d xs i within = ap reverse (take-item d xs i within) ∙ reverse-append (take i xs) (item d xs i ∷ [])
 
 pub length-windows_of : (cs : List Cell) → length (windows_of cs) ≡ length cs
 length-windows_of [] = refl

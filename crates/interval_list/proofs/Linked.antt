@@ -150,11 +150,6 @@ last_leading-inside [] p i q within = absurd (omega arith)
 last_leading-inside (c ∷ cs) p zero q within = refl
 last_leading-inside (c ∷ cs) p (suc i) q within = last_leading-inside cs p i q (omega arith)
 
-pub cells_leading_back-end : (cs : List Cell) (i : ℕ) (q : Ptr) → i ≡ length cs → cells_leading_back cs i q ≡ cs
-cells_leading_back-end [] i q e = refl
-cells_leading_back-end (c ∷ cs) zero q e = absurd (omega arith)
-cells_leading_back-end (c ∷ cs) (suc i) q e = ap (λ ds. c ∷ ds) (cells_leading_back-end cs i q (omega arith))
-
 -- ---- what the links that are written leave
 
 pub place_of-with_node : (cs : List Cell) (i k : ℕ) (n : Node) → place_of (with_node cs i n) k ≡ place_of cs k

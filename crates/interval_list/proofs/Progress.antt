@@ -61,12 +61,6 @@ module _ (s : Span) (ws₀ : List Window) (ss₀ : List ℕ) where
           length-cut_window s here ss (cut-spare within),
         )
 
-    pub cut-ends : length ws ≤ i → (ws ≡ (cut s ws₀ ss₀).0) × (ss ≡ (cut s ws₀ ss₀).1)
-    cut-ends past =
-        let now : StillToCut (take i ws) [] ss = subst (λ rest. StillToCut (take i ws) rest ss) (drop-end ws i past) cutting in
-        let all : take i ws ++ [] ≡ ws = ap (λ rest. take i ws ++ rest) (sym (drop-end ws i past)) ∙ take_drop ws i in
-        (sym all ∙ now.0, now.1)
-
     pub cut-stops : i < length ws → s.until ≤ here.from → (ws ≡ (cut s ws₀ ss₀).0) × (ss ≡ (cut s ws₀ ss₀).1)
     cut-stops within past =
         let now = at_window within in let rest = drop (suc i) ws in

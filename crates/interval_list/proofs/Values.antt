@@ -2,7 +2,6 @@
 use Rattle.std.proofs.Common.{◌≡◌, ℕ, List, [], ◌∷◌, ◌++◌, T, lit<, refl, subst}
 use seplogic.Ra.Ura.{Ura}
 use base.Logic.{id⊢}
-use mir.Syntax.{ty_ptr}
 use mir.Val.{Val, vstruct, vcons, vnil, of_list, has_ty, WT}
 use types.Logic.{Logic}
 use types.Kit.{Item, Goal, Seq, Step, step, ‵, ◌$◌, drop, fsplit, fjoin, fpick, fpack, feq_i, feq_l}
@@ -39,10 +38,6 @@ word p = vstruct (vcons (ptr_val p) vnil)
 
 abbrev pub no_word : Val
 no_word = vstruct vnil
-
-pub ptr_good : (p : Ptr) → T (has_ty ty_ptr (ptr_val p)) × WT (ptr_val p)
-ptr_good (block_ptr b o) = (tt, tt)
-ptr_good null_ptr = (tt, record { fits = lit< tt })
 
 pub word_good : (p : Ptr) → T (has_ty (lone P.mir) (word p)) × WT (word p)
 word_good (block_ptr b o) = (tt, (tt, tt))

@@ -1,4 +1,4 @@
-//! The windows of a list in both directions.
+//! The windows of a list in their order.
 ghost use Rattle.std.specs.Iterator.{YieldsFirst, item_count};
 
 use crate::Window;
@@ -41,44 +41,6 @@ impl<'a> Iterator for Windows<'a> {
         }
         self.place = chain.next(place, index);
         self.index = index + 1;
-        Some(chain.window(place, index))
-    }
-}
-
-/// The windows from last to first. A contract sees those that are left.
-#[derive(Drop)]
-pub struct WindowsBack<'a> {
-    pub(crate) chain: &'a Chain,
-    pub(crate) place: Place,
-    pub(crate) left: usize,
-}
-
-impl<'a> Model for WindowsBack<'a> {
-    ghost use Rattle.std.specs.Prelude.{◌≡◌, ◌-◌, ◌<◌, ◌≤◌, List, length, take, reverse};
-    ghost use Rattle.interval_list.specs.Cells.{windows_of, place_of};
-    ghost use Rattle.interval_list.specs.declared.window.Window.{Window};
-
-    ghost Value = { List Window };
-
-    ghost view = { λ w. reverse (take w.left (windows_of w.chain.now)) };
-
-    ghost invariant = { λ w. (w.left ≤ length w.chain.now) × (0 < w.left → w.place.at ≡ place_of w.chain.now (w.left - 1)) };
-}
-
-impl<'a> Iterator for WindowsBack<'a> {
-    type Item = Window;
-
-    ghost next_gives = { YieldsFirst (λ s. s) };
-
-    ghost remaining = { item_count (λ s. s) };
-
-    fn next(&mut self) -> Option<Window> {
-        if self.left == 0 {
-            return None;
-        }
-        let (chain, place, index) = (self.chain, self.place, self.left - 1);
-        self.place = chain.prev(place, index);
-        self.left = index;
         Some(chain.window(place, index))
     }
 }

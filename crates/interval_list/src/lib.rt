@@ -13,6 +13,6 @@ mod nodes;
 mod stock;
 mod window;
 
-pub use iter::{Windows, WindowsBack};
+pub use iter::Windows;
 pub use list::IntervalList;
 pub use window::{Ids, Window};

@@ -6,7 +6,7 @@ ghost use Rattle.interval_list.specs.Intervals.{Intervals, span, spans_of, owned
 
 use crate::chain::Chain;
 use crate::edits::{give_back, take_out};
-use crate::iter::{Windows, WindowsBack};
+use crate::iter::Windows;
 use crate::stock::Stock;
 use crate::{Ids, Window};
 use std::alloc::Global;
@@ -80,17 +80,6 @@ impl IntervalList {
             chain: &self.windows,
             place: self.windows.first(),
             index: 0,
-        }
-    }
-
-    /// The windows from last to first.
-    pub fn windows_back(&self) -> WindowsBack<'_>
-        ensures { result ≡ reverse self.now.windows }
-    {
-        WindowsBack {
-            chain: &self.windows,
-            place: self.windows.last(),
-            left: self.windows.len(),
         }
     }
 

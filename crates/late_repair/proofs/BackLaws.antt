@@ -1,5 +1,5 @@
 -- Holders are taken out one by one, and put back one by one, the last first.
-use Rattle.std.proofs.Common.{◌≡◌, ◌∙◌, ℕ, suc, ◌+◌, ◌<◌, ◌≤◌, List, [], ◌∷◌, ◌++◌, length, map, take, get_or, length-append, IsTrue, IsFalse, None, refl, sym, ap, subst, arith}
+use Rattle.std.proofs.Common.{◌≡◌, ◌∙◌, ℕ, suc, ◌<◌, ◌≤◌, List, [], ◌∷◌, ◌++◌, length, map, take, get_or, length-append, IsTrue, IsFalse, None, refl, sym, ap, subst, arith}
 use Rattle.std.specs.Prelude.{All, AllPairs, Contains, bytes_eq}
 use Rattle.std.proofs.lemmas.List.{take_all, map-append, length-map, get_or-map, get_or_append_left, get_or_push}
 use Rattle.std.proofs.lemmas.List.Elements.{All-contains, All-head, All-tail, Contains-push, Contains-append_left, Contains-get_or}
@@ -12,7 +12,7 @@ use Rattle.late_repair.specs.declared.holder.Holder.{Holder}
 use Rattle.late_repair.specs.TakenOut.{name_of, with_holder, with_holders, without_all, taken_back, AreOthers, AreOut, IsIn, IsFeasibleAmong}
 use Rattle.late_repair.proofs.HolderLaws.{without_all-more, present-without, are-out, nothing-out, with_holders-more, absent-with, all-stays, all-there, all-count, room-but}
 use Rattle.late_repair.proofs.OthersLaws.{feasible-among}
-use Rattle.late_repair.proofs.RoomSteps.{no_loss, no_loss-both}
+use Rattle.late_repair.proofs.RoomSteps.{no_loss-both}
 use Rattle.late_repair.proofs.WayLaws.{take-more, before-next}
 
 -- ---- pairs of a list
@@ -45,16 +45,6 @@ module _ (airport : Airport) (names : List (List ℕ)) (old : Book) where
     pub room : LosesNoRoom old book
     pub unlifted : book.lifted ≡ None
     pub fits : Fits airport book
-
-  pub taking-first : (holders : List Holder) → holders ≡ [] → old.lifted ≡ None → Fits airport old → IsTakingOut 0 holders old
-  taking-first holders none unlifted fits = record {
-    named = ap (map name_of) none;
-    state = refl;
-    back = ap (λ hs. with_holders hs old.state) none;
-    room = no_loss old;
-    unlifted = unlifted;
-    fits = fits;
-  }
 
   module _ (i : ℕ) (holders : List Holder) (book : Book) (taking : IsTakingOut i holders book) (name : List ℕ) (low : i < length names) (here : name ≡ get_or names i name) where
     present-all : (others : List (List ℕ)) (state : State) → All (λ n. IsFalse (bytes_eq name n)) others → has_holder name (without_all others state) ≡ has_holder name state
@@ -107,9 +97,6 @@ module _ (airport : Airport) (holders : List Holder) (old : Book) where
     pub unlifted : book.lifted ≡ None
     pub fits : Fits airport book
 
-  pub making-first : old.lifted ≡ None → Fits airport old → IsMakingWay 0 old
-  making-first unlifted fits = record { state = refl; room = no_loss old; unlifted = unlifted; fits = fits }
-
   pub making-next : (i : ℕ) (book : Book) → IsMakingWay i book → (h : Holder) → i < length holders → h ≡ get_or holders i h → (next : Book) → next.state ≡ without (name_of h) book.state
       → LosesNoRoom book next → next.lifted ≡ None → Fits airport next → IsMakingWay (suc i) next
   making-next i book making h low here next is room unlifted fits =
@@ -122,9 +109,6 @@ module _ (airport : Airport) (holders : List Holder) (old : Book) where
         unlifted = unlifted;
         fits = fits;
       }
-
-  pub making-last : (i : ℕ) (book : Book) → IsMakingWay i book → length holders ≤ i → book.state ≡ without_all (map name_of holders) old.state
-  making-last i book making over = making.state ∙ ap (λ ns. without_all ns old.state) (take_all i (map name_of holders) (omega (arith, over, length-map holders name_of)))
 
 -- ---- put back
 

@@ -1,19 +1,16 @@
 -- Changes of one holder, and of those that were taken out: what comes back stays the same.
-use Rattle.std.proofs.Common.{◌≡◌, ◌∙◌, ℕ, List, [], ◌∷◌, map, refl, sym, ap, subst}
+use Rattle.std.proofs.Common.{◌≡◌, ◌∙◌, ℕ, List, map, refl, ap}
 use Rattle.std.specs.Prelude.{Contains}
-use Rattle.taxi_base.specs.State.{State, without}
-use Rattle.certificate.proofs.FlightLaws.{without-none}
+use Rattle.taxi_base.specs.State.{without}
+use Rattle.replies.proofs.FlightLaws.{without-none}
 use Rattle.commitments.specs.Book.{Book}
 use Rattle.commitments.specs.Room.{LosesNoRoom}
 use Rattle.late_repair.specs.declared.holder.Holder.{Holder}
-use Rattle.late_repair.specs.TakenOut.{name_of, with_holder, with_holders, taken_back, ChangesOnly, ChangesTheirs}
+use Rattle.late_repair.specs.TakenOut.{name_of, with_holder, with_holders, ChangesOnly, ChangesTheirs}
 use Rattle.late_repair.proofs.HolderLaws.{without_all-others, out-absent, with-without}
 use Rattle.late_repair.proofs.RoomSteps.{no_loss, no_loss-both}
 
 -- ---- one holder
-
-pub only-none : (name : List ℕ) (book : Book) → ChangesOnly name book book
-only-none name book = record { others = refl; room = no_loss book }
 
 -- room is made for it
 pub only-room : (name : List ℕ) (old new : Book) → new.state ≡ old.state → LosesNoRoom old new → ChangesOnly name old new

@@ -4,7 +4,7 @@ use Rattle.taxi_base.specs.declared.rows.Step.{Step}
 use Rattle.taxi_base.specs.declared.answers.Flight.{Flight}
 use Rattle.taxi_base.specs.State.{State, flight_named, step_begun}
 use Rattle.taxi_base.specs.Late.{Delay}
-use Rattle.certificate.specs.Repairs.{delay_of}
+use Rattle.replies.specs.Repairs.{delay_of}
 
 module _ (state : State) (name : List ℕ) (time until : ℕ) (delay : Delay) (known : delay_of state name time until ≡ Some delay) where
   -- it is in force

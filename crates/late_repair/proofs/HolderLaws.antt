@@ -1,26 +1,26 @@
 -- States without the holders of some names, and with holders more: who is in force in them.
-use Rattle.std.proofs.Common.{◌≡◌, ◌∙◌, ℕ, ◌+◌, ◌||◌, List, [], ◌∷◌, ◌++◌, length, map, get_or, not, is_some, IsTrue, IsFalse, Some, None, refl, sym, ap, subst, arith, inl, inr, ◌⊎◌}
-use Rattle.std.specs.Prelude.{All, AllPairs, Contains, bytes_eq}
-use Rattle.std.proofs.lemmas.Bool.{or_from, or_parts, both_ways}
+use Rattle.std.proofs.Common.{◌≡◌, ◌∙◌, ℕ, ◌+◌, ◌||◌, List, [], ◌∷◌, ◌++◌, length, map, get_or, not, is_some, IsFalse, Some, refl, sym, ap, subst, arith, inl, inr, ◌⊎◌}
+use Rattle.std.specs.Prelude.{All, Contains, bytes_eq}
+use Rattle.std.proofs.lemmas.Bool.{or_from, both_ways}
 use Rattle.std.proofs.lemmas.List.Elements.{All-head, All-tail, All-filter, All-contains, Contains-get_or}
 use Rattle.std.specs.Cmp.Lexicographic.{bytes_decides}
 use Rattle.taxi_base.specs.declared.answers.Flight as flights
 use Rattle.taxi_base.specs.declared.answers.Party as parties
 use Rattle.taxi_base.specs.Airport.{Airport}
-use Rattle.taxi_base.specs.State.{State, named, flight_named, party_named, flights_with, parties_with, has_holder, holder_count, without, with_flight, with_party, IsFeasibleState}
+use Rattle.taxi_base.specs.State.{State, named, flight_named, party_named, has_holder, holder_count, without, with_flight, with_party, IsFeasibleState}
 use Rattle.taxi_base.proofs.ListLaws.{Contains-first, Contains-rest, Contains-cons_cases, Contains-map}
 use Rattle.taxi_base.proofs.NameLaws.{differ-turned, none_left, put_in-cases, length-put_in}
 use Rattle.taxi_base.proofs.NamedLists.{absent-find}
 use Rattle.taxi_base.proofs.OtherHolds.{named-there, there-named}
 use Rattle.taxi_base.proofs.StateLaws.{no_holder-flights, no_holder-parties}
 use Rattle.taxi_base.proofs.TurnLaws.{put_in-there, put_in-stays}
-use Rattle.certificate.proofs.FlightLaws.{without-none}
+use Rattle.replies.proofs.FlightLaws.{without-none}
 use Rattle.commitments.specs.Book.{Book}
 use Rattle.commitments.specs.Room.{HasRoomForAll}
 use Rattle.commitments.proofs.RoomLaws.{room-but_flight, room-but_party}
 use Rattle.late_repair.specs.declared.holder.Holder.{Holder}
 use Rattle.late_repair.specs.declared.holder.Holder.TheVariants.{Flight, Party}
-use Rattle.late_repair.specs.TakenOut.{name_of, with_holder, with_holders, without_all, taken_back, AreOut, IsIn, IsFound}
+use Rattle.late_repair.specs.TakenOut.{name_of, with_holder, with_holders, without_all, AreOut, IsIn, IsFound}
 use Rattle.late_repair.proofs.NamedLaws.{left_out-turned, left_out-none, left_out-put_in, named-none, named-left_out, named-put_in, put_in-back}
 
 abbrev flight_name : flights.Flight → List ℕ

@@ -1,17 +1,16 @@
 -- The first second that a hold and others have in common: of one, of those of two lists, and step by step.
-use Rattle.std.proofs.Common.{◌≡◌, ◌∙◌, ℕ, suc, ◌<◌, ◌≤◌, max, min, Bool, true, false, List, [], ◌∷◌, ◌++◌, length, take, get_or, Option, Some, None, IsTrue, IsFalse, refl, sym, ap, subst, arith, inl, inr, ◌⊎◌}
-use Rattle.std.specs.Prelude.{Contains, is_some}
+use Rattle.std.proofs.Common.{◌≡◌, ◌∙◌, ℕ, suc, ◌<◌, ◌≤◌, min, Bool, List, [], ◌∷◌, ◌++◌, length, take, get_or, Option, Some, None, IsTrue, IsFalse, sym, ap, subst, arith, inl, inr}
 use Rattle.std.specs.List.{list_any}
 use Rattle.std.proofs.Math.Seq.{take-suc}
-use Rattle.std.proofs.lemmas.Bool.{cases_lt, and_parts, and_from, false_from_ne_true, both_ways}
+use Rattle.std.proofs.lemmas.Bool.{cases_lt, and_parts, false_from_ne_true, both_ways}
 use Rattle.std.proofs.lemmas.List.{map-append}
 use Rattle.std.proofs.lemmas.List.Elements.{Contains-append_cases, Contains-append_left, Contains-append_right}
 use Rattle.taxi_base.specs.declared.rows.Step.{Step}
 use Rattle.taxi_base.specs.Airport.{Airport, conflict}
 use Rattle.taxi_base.specs.Windows.{Hold, hold_of, holds_of, span_has, clash, blocks}
 use Rattle.taxi_base.specs.Late.{IsFirstCommon}
-use Rattle.taxi_base.proofs.ListLaws.{Contains-first, Contains-cons_cases, list_any-true, list_any-member, list_any-false_member}
-use Rattle.taxi_base.proofs.HoldLaws.{clash-true, clash-from}
+use Rattle.taxi_base.proofs.ListLaws.{list_any-true, list_any-member, list_any-false_member}
+use Rattle.taxi_base.proofs.HoldLaws.{clash-from}
 use Rattle.taxi_base.proofs.WindowLaws.{span_has-from, span_has-true}
 use Rattle.taxi_base.proofs.LateLaws.{common-meets}
 use Rattle.late_repair.specs.Repairing.{earlier, IsFirstCommonOf}
@@ -33,41 +32,8 @@ module _ {X : Type 0} (p : X → Bool) (xs ys : List X) where
         | inr there ↦ both_ways _ (list_any-false_member p ys found.0 there nor) found.2
       ])
 
-only-one : {X : Type 0} (x y : X) → Contains (x ∷ []) y → x ≡ y
-only-one x y h = elim (Contains-cons_cases x y [] h) [ inl e ↦ e | inr none ↦ absurd (omega (arith, none.1)) ]
-
 module _ (airport : Airport) (hold : Hold) where
   -- ---- one hold
-
-  -- where another hold has seconds of it on a conflicting segment, the first of them is the later begin
-  pub common-one : (h : Hold) → IsTrue (conflict airport.conflicts hold.segment h.segment) → max hold.span.from h.span.from < min hold.span.until h.span.until
-      → IsFirstCommon airport hold (h ∷ []) (max hold.span.from h.span.from)
-  common-one h conflicts some = record {
-    within = span_has-from hold.span (max hold.span.from h.span.from) (omega arith) (omega (arith, some));
-    common = list_any-member (blocks airport.conflicts hold.segment (max hold.span.from h.span.from)) (h ∷ []) h (Contains-first h [])
-        (and_from (conflict airport.conflicts hold.segment h.segment) (span_has h.span (max hold.span.from h.span.from)) conflicts
-        (span_has-from h.span (max hold.span.from h.span.from) (omega arith) (omega (arith, some))));
-    first = λ t low high. false_from_ne_true _ (λ blocked.
-        let found = list_any-true (blocks airport.conflicts hold.segment t) (h ∷ []) blocked in
-        let same : h ≡ found.0 = only-one h found.0 found.1 in
-        let inside = span_has-true h.span t (and_parts (conflict airport.conflicts hold.segment h.segment) (span_has h.span t) (subst (λ o. IsTrue (blocks airport.conflicts hold.segment t o)) (sym same) found.2)).1 in
-        omega (arith, low, high, inside.0));
-  }
-
-  -- and where it has none, or none on a conflicting segment, there is none
-  pub common-none : (h : Hold) → IsFalse (conflict airport.conflicts hold.segment h.segment) ⊎ (min hold.span.until h.span.until ≤ max hold.span.from h.span.from)
-      → IsFalse (list_any (clash airport.conflicts hold) (h ∷ []))
-  common-none h none = false_from_ne_true _ (λ meets.
-      let found = list_any-true (clash airport.conflicts hold) (h ∷ []) meets in
-      let parts = clash-true airport.conflicts hold h (subst (λ o. IsTrue (clash airport.conflicts hold o)) (sym (only-one h found.0 found.1)) found.2) in
-      let in_hold = span_has-true hold.span parts.1.0 parts.1.1 in
-      let in_h = span_has-true h.span parts.1.0 parts.1.2 in
-      elim none [
-        | inl apart ↦ both_ways _ apart parts.0
-        | inr short ↦ omega (arith, short, in_hold.0, in_hold.1, in_h.0, in_h.1)
-      ])
-
-  -- ---- two lists of holds
 
   -- what does not meet the hold has none of its seconds
   none-blocks : (holds : List Hold) → IsFalse (list_any (clash airport.conflicts hold) holds) → (t : ℕ) → IsTrue (span_has hold.span t)
@@ -115,9 +81,6 @@ module _ (airport : Airport) (hold : Hold) where
     common-both (Some s) (Some t) a b = of-both s t a b
 
   -- ---- the steps of a flight, one after the other
-
-  pub common-first : IsFirstCommonOf airport hold [] None
-  common-first = refl
 
   pub common-next : (horizon clearance : ℕ) (steps : List Step) (i : ℕ) (d : Step) (first other next : Option ℕ) → i < length steps
       → IsFirstCommonOf airport hold (holds_of horizon clearance (take i steps)) first → IsFirstCommonOf airport hold (hold_of horizon clearance (get_or steps i d) ∷ []) other

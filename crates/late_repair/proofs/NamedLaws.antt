@@ -1,12 +1,12 @@
 -- Lists by rising names: what is left out, put in and put back.
-use Rattle.std.proofs.Common.{◌≡◌, ◌∙◌, ℕ, ◌+◌, ◌≤◌, not, cond, List, [], ◌∷◌, length, IsTrue, IsFalse, is_some, Some, None, Option, refl, sym, ap, subst, arith, inl, inr}
-use Rattle.std.specs.Prelude.{All, AllPairs, Contains, bytes_eq}
+use Rattle.std.proofs.Common.{◌≡◌, ◌∙◌, ℕ, not, cond, List, [], ◌∷◌, IsTrue, IsFalse, is_some, Some, Option, refl, sym, ap, subst, inl, inr}
+use Rattle.std.specs.Prelude.{All, AllPairs, bytes_eq}
 use Rattle.std.proofs.lemmas.Bool.{cases_Bool}
 use Rattle.std.proofs.lemmas.List.Elements.{All-head, All-tail, All-weaker, All-contains}
 use Rattle.std.specs.Cmp.Lexicographic.{bytes_decides}
 use Rattle.taxi_base.specs.State.{name_precedes, named, left_out, put_in}
 use Rattle.taxi_base.proofs.ListLaws.{AllPairs-first, AllPairs-rest}
-use Rattle.taxi_base.proofs.NameLaws.{differ-turned, name_precedes-differ, name_precedes-one_way, length-put_in}
+use Rattle.taxi_base.proofs.NameLaws.{differ-turned, name_precedes-differ, name_precedes-one_way}
 use Rattle.taxi_base.proofs.OtherHolds.{named-there}
 
 module _ {X : Type 0} (name_of : X → List ℕ) where

@@ -1,10 +1,9 @@
 -- What is in force at once: those that were taken out are put in force on the steps that they keep, one after the other.
-use Rattle.std.proofs.Common.{◌≡◌, ◌∙◌, ℕ, zero, suc, not, ◌||◌, ◌+◌, ◌<◌, ◌≤◌, List, [], ◌∷◌, ◌++◌, length, map, drop, get_or, drop-cons, true, false, IsTrue, IsFalse, None, Some, refl, sym, ap, subst, arith, inl, inr, ◌⊎◌}
-use Rattle.std.specs.Prelude.{All, AllPairs, Contains, bytes_eq, filter}
-use Rattle.std.specs.List.{list_any}
-use Rattle.std.proofs.lemmas.Bool.{cases_Bool, or_cases, or_left, or_right, false_from_ne_true, not_from_false, not-true, both_ways}
+use Rattle.std.proofs.Common.{◌≡◌, ◌∙◌, ℕ, zero, suc, not, ◌||◌, ◌<◌, ◌≤◌, List, [], ◌∷◌, length, map, drop, get_or, drop-cons, false, IsTrue, IsFalse, None, refl, sym, ap, subst, arith, inl, inr, ◌⊎◌}
+use Rattle.std.specs.Prelude.{All, AllPairs, Contains, bytes_eq}
+use Rattle.std.proofs.lemmas.Bool.{cases_Bool, or_cases, or_left, false_from_ne_true, not_from_false, not-true, both_ways}
 use Rattle.std.proofs.lemmas.List.{drop_all}
-use Rattle.std.proofs.lemmas.List.Elements.{All-contains, All-head, All-tail, All-weaker, All-contains_itself, Contains-get_or}
+use Rattle.std.proofs.lemmas.List.Elements.{All-contains, All-head, All-tail, All-weaker, Contains-get_or}
 use Rattle.std.proofs.lemmas.List.Kept.{AllPairs-filter}
 use Rattle.std.specs.Cmp.Lexicographic.{bytes_decides}
 use Rattle.taxi_base.specs.declared.rows.Step.{Step}
@@ -20,14 +19,14 @@ use Rattle.taxi_base.proofs.NameLaws.{differ-turned, name_precedes-one_way, left
 use Rattle.taxi_base.proofs.OtherHolds.{named-once}
 use Rattle.taxi_base.proofs.StateLaws.{no_holder-flights, no_holder-parties}
 use Rattle.taxi_base.proofs.BaseLaws.{IsAtOnce, on_steps-there, from-before, base-feasible}
-use Rattle.taxi_base.proofs.TurnLaws.{fewer-named, put_in-there, put_in-stays}
+use Rattle.taxi_base.proofs.TurnLaws.{fewer-named, put_in-there}
 use Rattle.taxi_base.proofs.LateLaws.{first-common, moves-named, meets-named}
-use Rattle.certificate.specs.Repairs.{names_in_turn}
+use Rattle.replies.specs.Repairs.{names_in_turn}
 use Rattle.commitments.specs.Book.{Book, Fits}
 use Rattle.late_repair.specs.declared.holder.Holder.{Holder}
 use Rattle.late_repair.specs.declared.holder.Holder.TheVariants.{Flight, Party}
 use Rattle.late_repair.specs.Repairing.{with_kept, placed_at_once, CanBePlaced}
-use Rattle.late_repair.specs.TakenOut.{name_of, with_holders, taken_back, AreOthers, AreOut, IsIn, IsFeasibleAmong, ChangesOnly, ChangesTheirs}
+use Rattle.late_repair.specs.TakenOut.{name_of, with_holders, taken_back, AreOthers, AreOut, IsIn, ChangesOnly, ChangesTheirs}
 use Rattle.late_repair.proofs.HolderLaws.{nothing-out, absent-with, in-stays, all-stays, all-there, all-cases}
 use Rattle.late_repair.proofs.OthersLaws.{feasible-among}
 use Rattle.late_repair.proofs.ChangeLaws.{theirs-none, theirs-one, theirs-both}

@@ -15,8 +15,8 @@ use Rattle.taxi_base.specs.Late.{Delay, Meeting, IsDelay, IsInTheWay, AreInTheWa
 use Rattle.taxi_base.proofs.ListLaws.{Contains-first}
 use Rattle.taxi_base.proofs.OtherHolds.{there-named, named-once}
 use Rattle.taxi_base.proofs.BaseLaws.{late-there}
-use Rattle.certificate.specs.declared.entries.Entry.{Entry}
-use Rattle.certificate.specs.Repairs.{delay_of, names_in_turn, entries_told}
+use Rattle.replies.specs.declared.entries.Entry.{Entry}
+use Rattle.replies.specs.Repairs.{delay_of, names_in_turn, entries_told}
 use Rattle.late_repair.specs.declared.holder.Holder.{Holder}
 use Rattle.late_repair.specs.declared.holder.Holder.TheVariants.{Flight, Party}
 use Rattle.late_repair.specs.Repairing.{IsRepairedAs}

@@ -11,7 +11,7 @@ use Rattle.taxi_base.proofs.NameLaws.{length-put_in}
 use Rattle.window_store.specs.Spans.{nodes}
 use Rattle.window_store.specs.Store.{list_at}
 use Rattle.window_store.specs.Kept.{KeepsNodes, GainsRoom}
-use Rattle.certificate.proofs.FlightLaws.{without-none}
+use Rattle.replies.proofs.FlightLaws.{without-none}
 use Rattle.commitments.specs.Book.{Book, Fits}
 use Rattle.commitments.specs.Room.{LosesNoRoom}
 use Rattle.late_repair.proofs.HolderLaws.{flight-back, party-back}

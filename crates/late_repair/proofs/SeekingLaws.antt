@@ -6,7 +6,6 @@ use Rattle.taxi_base.specs.declared.numbers.Node.{Node}
 use Rattle.taxi_base.specs.declared.collections.Memory.{Memory}
 use Rattle.taxi_base.specs.declared.rows.Step.{Step}
 use Rattle.taxi_base.specs.declared.answers.Found.{Found}
-use Rattle.taxi_base.specs.declared.answers.Found.TheVariants.{Route, NoRoute}
 use Rattle.taxi_base.specs.Airport.{Airport}
 use Rattle.taxi_base.specs.Walks.{Conditions, conditions_of_class}
 use Rattle.taxi_base.specs.State.{holds_in}
@@ -18,8 +17,6 @@ use Rattle.commitments.specs.Book.{Book, Fits}
 use Rattle.commitments.proofs.Fitting.{stands-unlifted}
 use Rattle.place_cells.specs.Laid.{windows_of}
 use Rattle.place_cells.proofs.StoreConditions as among
-use Rattle.certificate.proofs.FoundLaws.{walk-some}
-use Rattle.late_repair.specs.Repairing.{HasSteps}
 
 module _ (airport : Airport) (book : Book) (fits : Fits airport book) (unlifted : book.lifted ≡ None) (store : Store) (same : store ≡ book.store) where
   -- the windows end by the horizon
@@ -31,11 +28,6 @@ module _ (airport : Airport) (book : Book) (fits : Fits airport book) (unlifted 
   conditions-found class =
       ap (λ (s : Store). conditions_of_class airport class (windows_of s)) same
       ∙ among.conditions-among airport (holds_in airport book.state) book.store fits.lists (stands-unlifted airport book fits unlifted) class
-
--- what answers a departure has a step, where it is a route
-pub answer-steps : (c : Conditions) (from : Node) (Ends : Step → Type 0) (found : Found) → AnswersDeparture c from Ends found → HasSteps found
-answer-steps c from Ends (Route steps labels) answers = walk-some c steps answers.0.one.walk
-answer-steps c from Ends (NoRoute labels) answers = tt
 
 -- what is found of a departure, told as only walks count that begin after a second, answers that
 pub after-answers : (c : Conditions) (from : Node) (Ends : Step → Type 0) (bound : ℕ) (found : Found) → AnswersDeparture c from Ends found

@@ -1,5 +1,5 @@
 -- One turn: what a flight seeks once it is out, what is found, and what is in force then.
-use Rattle.std.proofs.Common.{◌≡◌, ◌≢◌, ◌∙◌, ℕ, ◌-◌, ◌<◌, ◌≤◌, List, [], ◌∷◌, length, IsFalse, Option, Some, None, refl, sym, ap, subst, arith, inl, inr}
+use Rattle.std.proofs.Common.{◌≡◌, ◌∙◌, ℕ, ◌-◌, ◌<◌, ◌≤◌, List, [], ◌∷◌, length, Option, Some, None, sym, ap, subst, arith}
 use Rattle.std.specs.Prelude.{IfSome, IfNone, IfOk, OnOk, Result, Ok, Err, is_some}
 use Rattle.std.proofs.lemmas.Bool.{or_from}
 use Rattle.taxi_base.specs.declared.rows.Step.{Step}
@@ -11,14 +11,14 @@ use Rattle.taxi_base.specs.declared.answers.Found.{Found}
 use Rattle.taxi_base.specs.declared.answers.Found.TheVariants.{Route, NoRoute}
 use Rattle.taxi_base.specs.Airport.{Airport, layout_of}
 use Rattle.taxi_base.specs.Walks.{Conditions, IsFeasibleStep, IsFeasibleWalk, ReachesNodeWithin, Meets, end_of}
-use Rattle.taxi_base.specs.State.{State, has_holder, flight_named, party_named, without, conditions_of}
+use Rattle.taxi_base.specs.State.{State, flight_named, party_named, without, conditions_of}
 use Rattle.taxi_base.specs.Faults.{conditions_in}
 use Rattle.taxi_base.specs.Late.{Delay, steps_kept, request_sought, time_sought, IsWalkSought, AnswersTurn, after_turn, IsTurnOfFlight}
 use Rattle.taxi_base.proofs.WalkLaws.{AtLast-both, IsFeasibleWalk-last}
 use Rattle.taxi_base.proofs.TurnLaws.{turn-best, best-one, sought-walk}
-use Rattle.certificate.specs.declared.entries.Entry.{Entry}
-use Rattle.certificate.proofs.FlightLaws.{without-none}
-use Rattle.certificate.specs.Repairs.{entry_told}
+use Rattle.replies.specs.declared.entries.Entry.{Entry}
+use Rattle.replies.proofs.FlightLaws.{without-none}
+use Rattle.replies.specs.Repairs.{entry_told}
 use Rattle.commitments.specs.Book.{Book}
 use Rattle.late_repair.specs.Repairing.{IsTimely, HasWalk}
 
@@ -32,18 +32,6 @@ out-state name old new None e no_party some none =
     ap (λ (b : Book). b.state) none ∙ sym (without-none name old.state (or_from _ _ (ap is_some no_party) (ap is_some (sym e))))
 
 -- ---- what is sought and found
-
-pub sought-asked : (request : Request) (kept : List Step) → request ≢ Filed → request_sought request kept ≢ Filed
-sought-asked Filed kept asked = λ e. asked e
-sought-asked (Arrival from to time hold) kept asked = λ e. absurd (cc e)
-sought-asked (Departure from to time queue) [] asked = λ e. absurd (cc e)
-sought-asked (Departure from to time queue) (s ∷ kept) asked = λ e. absurd (cc e)
-
-pub sought-timely : (airport : Airport) (request : Request) (kept : List Step) → IsTimely airport request → IsTimely airport (request_sought request kept)
-sought-timely airport Filed kept timely = tt
-sought-timely airport (Arrival from to time hold) kept timely = tt
-sought-timely airport (Departure from to time queue) [] timely = timely
-sought-timely airport (Departure from to time queue) (s ∷ kept) timely = tt
 
 -- what answers a turn is a walk, where it is a route
 pub answer-walk : (c : Conditions) (sought : Request) (kept : List Step) (time : ℕ) (found : Found) → (0 < length kept → IsFeasibleWalk c kept) → AnswersTurn c sought kept time found → HasWalk c found

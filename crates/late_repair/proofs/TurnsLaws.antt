@@ -1,5 +1,5 @@
 -- All turns: one more each time.
-use Rattle.std.proofs.Common.{◌≡◌, ◌∙◌, ℕ, suc, ◌<◌, ◌≤◌, List, [], ◌∷◌, ◌++◌, length, map, take, drop, get_or, drop-cons, take_all, IsFalse, Option, None, Some, refl, sym, ap, subst, arith}
+use Rattle.std.proofs.Common.{◌≡◌, ◌∙◌, ℕ, suc, ◌<◌, ◌≤◌, List, [], ◌∷◌, ◌++◌, length, map, take, drop, get_or, drop-cons, take_all, IsFalse, Option, None, refl, sym, ap, subst, arith}
 use Rattle.std.specs.Prelude.{All, AllPairs, Contains, bytes_eq}
 use Rattle.std.specs.Option.{ForSome}
 use Rattle.std.proofs.lemmas.Bool.{both_ways}
@@ -18,8 +18,8 @@ use Rattle.taxi_base.proofs.NamedLists.{absent-find}
 use Rattle.taxi_base.proofs.OtherHolds.{named-there, there-named}
 use Rattle.taxi_base.proofs.TurnLaws.{IsAmid, kept-walk, others-few}
 use Rattle.taxi_base.proofs.LateLaws.{turn-amid, base-amid, names-once}
-use Rattle.certificate.specs.declared.entries.Entry.{Entry}
-use Rattle.certificate.specs.Repairs.{names_in_turn, request_at_turn, entry_told, entries_told}
+use Rattle.replies.specs.declared.entries.Entry.{Entry}
+use Rattle.replies.specs.Repairs.{names_in_turn, request_at_turn, entry_told, entries_told}
 use Rattle.commitments.specs.Book.{Book, Fits}
 use Rattle.late_repair.specs.declared.holder.Holder.{Holder}
 use Rattle.late_repair.specs.declared.holder.Holder.TheVariants.{Flight, Party}

@@ -6,7 +6,7 @@ use Rattle.taxi_base.specs.declared.rows.Step.{Step}
 use Rattle.taxi_base.specs.Airport.{IsWellFormed, arc_exists, layout_of}
 use Rattle.taxi_base.specs.Walks.{Conditions, IsFeasibleStep, IsFeasibleWalk}
 use Rattle.taxi_base.proofs.WalkLaws.{IsFeasibleWalk-steps}
-use Rattle.certificate.proofs.FoundLaws.{walk-few}
+use Rattle.replies.proofs.FoundLaws.{walk-few}
 
 module _ (c : Conditions) (steps : List Step) (walk : IsFeasibleWalk c steps) where
   pub walk-arcs : All (λ s. IsTrue (arc_exists (layout_of c.airport) s.arc)) steps

@@ -164,16 +164,6 @@ module _ (airport : Airport) (delay : Delay) where
 
   -- ---- step by step
 
-  -- at first no one is
-  pub way-first : (meetings : List Meeting) → meetings ≡ [] → AreInTheWay airport (record { flights = []; parties = [] }) delay meetings
-  way-first meetings none = rw none (record {
-    ordered = λ i j d low high. absurd (omega (arith, high));
-    whole = λ m. (λ h. absurd (omega (arith, h.1)), nobody m);
-  }) where
-    nobody : (m : Meeting) → IsInTheWay airport (record { flights = []; parties = [] }) delay m → Contains [] m
-    nobody m (inl q) = absurd (omega (arith, q.1.1))
-    nobody m (inr f) = absurd (omega (arith, f.1.1))
-
   module _ (fs : List Flight) (parties : List Party) (i : ℕ) (p : Party) (low : i < length parties) (here : p ≡ get_or parties i p) (meetings : List Meeting)
       (way : AreInTheWay airport (record { flights = fs; parties = take i parties }) delay meetings) where
     pub next-party_apart : IsFalse (list_any (clash airport.conflicts P) (party_hold p ∷ [])) → AreInTheWay airport (record { flights = fs; parties = take (suc i) parties }) delay meetings

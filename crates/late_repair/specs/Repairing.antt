@@ -14,8 +14,8 @@ use Rattle.taxi_base.specs.Walks.{Conditions, IsFeasibleWalk}
 use Rattle.taxi_base.specs.State.{State, party_named, holder_count, without, with_flight, flight_holds, conditions_of}
 use Rattle.taxi_base.specs.Faults.{conditions_in}
 use Rattle.taxi_base.specs.Late.{Delay, Meeting, IsFirstCommon, prolonged_hold, is_late, flight_meets, soonest_leave, steps_kept, IsRepaired}
-use Rattle.certificate.specs.declared.entries.Entry.{Entry}
-use Rattle.certificate.specs.Repairs.{names_in_turn, entries_told}
+use Rattle.replies.specs.declared.entries.Entry.{Entry}
+use Rattle.replies.specs.Repairs.{names_in_turn, entries_told}
 use Rattle.late_repair.specs.declared.delay.Hold as held
 use Rattle.late_repair.specs.declared.holder.Holder.{Holder}
 use Rattle.late_repair.specs.declared.holder.Holder.TheVariants as one

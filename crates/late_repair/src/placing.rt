@@ -2,7 +2,7 @@
 ghost use Rattle.std.specs.Prelude.{◌≡◌, ◌<◌, List, map, OnOk, IsFalse, None};
 ghost use Rattle.taxi_base.specs.State.{has_holder, holder_count, IsFeasibleState};
 ghost use Rattle.taxi_base.specs.Late.{Meeting, IsDelay, AreInTheWay, base_state};
-ghost use Rattle.certificate.specs.Repairs.{names_in_turn};
+ghost use Rattle.replies.specs.Repairs.{names_in_turn};
 ghost use Rattle.commitments.specs.Book.{Fits};
 ghost use Rattle.late_repair.specs.Repairing.{placed_at_once, CanBePlaced};
 ghost use Rattle.late_repair.specs.TakenOut.{name_of, taken_back, AreOut, ChangesOnly, ChangesTheirs};

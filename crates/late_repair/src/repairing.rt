@@ -3,7 +3,7 @@ ghost use Rattle.std.specs.Prelude.{◌≡◌, List, Option, Some, None, map, If
 ghost use Rattle.taxi_base.specs.declared.answers.Found.{Found};
 ghost use Rattle.taxi_base.specs.State.{State, IsFeasibleState, IsSound};
 ghost use Rattle.taxi_base.specs.Late.{Delay as Late, Meeting, IsDelay, AreInTheWay, base_state, IsTurnOf, AreTurns};
-ghost use Rattle.certificate.specs.Repairs.{delay_of, names_in_turn, request_at_turn, entry_told, entries_told};
+ghost use Rattle.replies.specs.Repairs.{delay_of, names_in_turn, request_at_turn, entry_told, entries_told};
 ghost use Rattle.commitments.specs.Book.{Fits};
 ghost use Rattle.commitments.specs.Room.{HasRoomForAll};
 ghost use Rattle.late_repair.specs.Repairing.{IsRepairedAs, WaitsForTurn};
@@ -16,9 +16,9 @@ use crate::taken_out::{TakenOut, take_back, take_out};
 use crate::turn::take_turn;
 use crate::who::names_in_turn;
 use airport_file::Airport;
-use certificate::{Entries, Entry};
 use commitments::Ledger;
 use place_cells::SearchRoom;
+use replies::{Entries, Entry};
 use std::alloc::Global;
 use taxi_base::{Memory, Name, Step, Time, under_way};
 

@@ -47,9 +47,7 @@ pub(crate) fn write_row(
 {
     let (name, class, from, to) = (row.name, row.class, row.from, row.to);
     let (segment, tail, head) = (row.segment, row.tail, row.head);
-    let enter = time_text(start, row.enter);
-    let leave = time_text(start, row.leave);
-    let until = time_text(start, row.until);
+    let (mut enter, mut leave, mut until) = (TimeRoom::new(), TimeRoom::new(), TimeRoom::new());
     let mut number = Buffer::new();
     let mut least = Buffer::new();
     let mut wait = Buffer::new();
@@ -65,9 +63,9 @@ pub(crate) fn write_row(
         direction_word(row.forward),
         tail.bytes(),
         head.bytes(),
-        enter.bytes(),
-        leave.bytes(),
-        until.bytes(),
+        time_text(start, row.enter, &mut enter),
+        time_text(start, row.leave, &mut leave),
+        time_text(start, row.until, &mut until),
         least.format(row.least).as_bytes(),
         wait.format(row.wait).as_bytes(),
         slack.format(row.slack).as_bytes(),
@@ -104,22 +102,29 @@ fn direction_word(forward: Option<bool>) -> &'static [u8]
     }
 }
 
-// A second as a number or, where a start is given, as a civil time.
-fn time_text(start: &Option<Start>, second: Time) -> ShortText
-    requires { second ≤ 604800 }
-    ensures { result ≡ time_word start.now second }
-{
-    match start {
-        Some(start) => start.later(second),
-        None => number_text(second),
+// Room for a second, as a number or as a civil time.
+#[derive(Drop)]
+struct TimeRoom {
+    digits: Buffer,
+    civil: Option<ShortText>,
+}
+
+impl TimeRoom {
+    fn new() -> TimeRoom {
+        TimeRoom {
+            digits: Buffer::new(),
+            civil: None,
+        }
     }
 }
 
-fn number_text(number: u32) -> ShortText
-    ensures { result ≡ decimal number }
+// A second as a number or, where a start is given, as a civil time.
+fn time_text<'a>(start: &Option<Start>, second: Time, room: &'a mut TimeRoom) -> &'a [u8]
+    requires { second ≤ 604800 }
+    ensures { result.now ≡ time_word start.now second }
 {
-    let mut digits = Buffer::new();
-    let mut text = ShortText::new();
-    text.push(digits.format(number).as_bytes());
-    text
+    match start {
+        Some(start) => room.civil.insert(start.later(second)).bytes(),
+        None => room.digits.format(second).as_bytes(),
+    }
 }

@@ -1,5 +1,5 @@
 -- The status that is due of files that are told.
-use Rattle.std.proofs.Common.{◌≡◌, ◌≤◌, inl, inr, ℕ, List, length, refl, sym, subst, Option, Some, Result, Ok}
+use Rattle.std.proofs.Common.{◌≤◌, inl, inr, ℕ, List, length, refl, sym, subst, Option, Some, Result, Ok}
 use Rattle.taxi_base.specs.Airport.{Airport}
 use Rattle.taxi_io.specs.Files.{Files, IsFile, IsLonger, file_of}
 use Rattle.airport_file.specs.Reading.{RecordFault}

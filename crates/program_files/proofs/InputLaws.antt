@@ -1,10 +1,11 @@
 -- Why a file that is not read whole ends the call.
-use Rattle.std.proofs.Common.{◌≡◌, ◌≤◌, ◌++◌, ◌∙◌, ℕ, List, Option, Ok, inr, refl, append_assoc, arith}
+use Rattle.std.proofs.Common.{◌≡◌, ◌≤◌, ◌++◌, ◌∙◌, ℕ, List, length, Option, Some, Result, Ok, inr, refl, sym, ap, append_assoc, arith}
 use Rattle.taxi_base.specs.Airport.{Airport}
 use Rattle.taxi_io.specs.Counts.{Rose}
-use Rattle.taxi_io.specs.Files.{Files, IsLonger, BeganMore}
+use Rattle.taxi_io.specs.Files.{Files, IsFile, IsLonger, BeganMore}
 use Rattle.taxi_io.specs.declared.trouble.ReadRefused.{ReadRefused}
 use Rattle.taxi_io.specs.declared.trouble.ReadRefused.TheVariants as refused
+use Rattle.airport_file.specs.Reading.{RecordFault, airport_of}
 use Rattle.program_files.specs.declared.stop.Stop.{Stop}
 use Rattle.program_files.specs.declared.stop.Stop.TheVariants as stop
 use Rattle.program_words.specs.Verb.{FileNames, Route, Check, Migrate, Import}
@@ -42,3 +43,22 @@ transcript_cause told names transcript airport commands refused.Memory before be
 -- some names were tried, and then others
 pub began-more : (before between after names others : List (List ℕ)) → BeganMore before between names → BeganMore between after others → BeganMore before after (names ++ others)
 began-more before between after names others one two = (rw one at two) ∙ append_assoc before names others
+
+-- ---- files that are told
+
+-- of a told airport file there is one judgement
+pub one-judgement : (files : Files) (name : List ℕ) (a b : Result Airport RecordFault) → IsJudged (Some files) name a → IsJudged (Some files) name b → a ≡ b
+one-judgement files name a b one two =
+    let x = one.file in
+    let y = two.file in
+    let same : one.bytes ≡ two.bytes = cc in
+    sym one.judged ∙ ap airport_of same ∙ two.judged
+
+-- a told file within a limit has no more bytes than that
+pub not-longer : (files : Files) (name bytes : List ℕ) (limit : ℕ) → IsFile (Some files) name bytes → length bytes ≤ limit → IsLonger (Some files) name limit → ⊥
+not-longer files name bytes limit file within longer =
+    let x = longer.1 in
+    let same : bytes ≡ longer.0 = cc in
+    let size = ap length same in
+    let more = longer.2 in
+    omega (arith, size, within, more)

@@ -10,7 +10,7 @@ use Rattle.taxi_base.specs.declared.answers.Refusal.{Refusal}
 use Rattle.taxi_base.specs.declared.answers.Refusal.TheVariants as refusal
 use Rattle.taxi_base.specs.Airport.{Airport}
 use Rattle.taxi_text.specs.Words.{words_of}
-use Rattle.certificate.specs.declared.block.Block.TheVariants.{Refused}
+use Rattle.replies.specs.declared.block.Block.TheVariants.{Refused}
 use Rattle.serde_json.specs.Data.{Data, Members, no_members, member, put}
 use Rattle.serde_json.specs.View.{items_of}
 use Rattle.serde_json.specs.Written.{has_float, items_have_float, members_have_float}

@@ -9,10 +9,10 @@ use Rattle.taxi_base.specs.declared.rows.FlightRow.{FlightRow}
 use Rattle.taxi_base.specs.Airport.{Airport}
 use Rattle.taxi_text.specs.Words.{words_of}
 use Rattle.airport_file.specs.Words.{class_word, segment_word, word_of_arc}
-use Rattle.certificate.specs.Texts.{kind_word}
-use Rattle.certificate.specs.declared.block.Block.TheVariants.{Filed, Cancelled, Route, NoRoute, Windows, Occupancy, Timetable, Batch, Late}
-use Rattle.certificate.specs.declared.entries.Entry.{Entry}
-use Rattle.certificate.specs.declared.entries.Entry.TheVariants as entry
+use Rattle.replies.specs.Texts.{kind_word}
+use Rattle.replies.specs.declared.block.Block.TheVariants.{Filed, Cancelled, Route, NoRoute, Windows, Occupancy, Timetable, Batch, Late}
+use Rattle.replies.specs.declared.entries.Entry.{Entry}
+use Rattle.replies.specs.declared.entries.Entry.TheVariants as entry
 use Rattle.serde_json.specs.Written.{compact_text}
 use Rattle.serde_json.proofs.OnLiterals.{serde_json_on_literals}
 use Rattle.reply_json.specs.Values.{text_value, word_value, list_value}

@@ -21,12 +21,12 @@ use Rattle.taxi_base.specs.Words.{is_name}
 use Rattle.taxi_base.specs.Airport.{Airport, AreNames, IsWellFormed, segment_of}
 use Rattle.taxi_base.proofs.NameDigits.{name-bytes}
 use Rattle.airport_file.specs.Words.{class_word, segment_word, word_of_arc}
-use Rattle.certificate.specs.Texts.{lines_text, kind_word, step_words, label_words, window_words, held_words, flight_words, route_lines, no_route_lines, entry_lines, block_lines, block_text}
-use Rattle.certificate.specs.Printable.{IsName, IsPrintableHeld, IsPrintableFlight, IsPrintableCause, IsPrintableRefusal, IsPrintableEntry, IsPrintable}
-use Rattle.certificate.specs.declared.block.Block.{Block}
-use Rattle.certificate.specs.declared.block.Block.TheVariants.{Refused, Filed, Cancelled, Route, NoRoute, Windows, Occupancy, Timetable, Batch, Late}
-use Rattle.certificate.specs.declared.entries.Entry.{Entry}
-use Rattle.certificate.specs.declared.entries.Entry.TheVariants as entry
+use Rattle.replies.specs.Texts.{lines_text, kind_word, step_words, label_words, window_words, held_words, flight_words, route_lines, no_route_lines, entry_lines, block_lines, block_text}
+use Rattle.replies.specs.Printable.{IsName, IsPrintableHeld, IsPrintableFlight, IsPrintableCause, IsPrintableRefusal, IsPrintableEntry, IsPrintable}
+use Rattle.replies.specs.declared.block.Block.{Block}
+use Rattle.replies.specs.declared.block.Block.TheVariants.{Refused, Filed, Cancelled, Route, NoRoute, Windows, Occupancy, Timetable, Batch, Late}
+use Rattle.replies.specs.declared.entries.Entry.{Entry}
+use Rattle.replies.specs.declared.entries.Entry.TheVariants as entry
 use Rattle.transcripts.specs.Runs.{done_line, blocks_text, transcript}
 use Rattle.serde_json.specs.Data.{Data}
 use Rattle.serde_json.specs.View.{items_of}

@@ -2,8 +2,8 @@
 use Rattle.std.specs.Prelude.{◌≡◌, ℕ, List, [], ◌∷◌, ◌++◌, codes, decimal, map, ⊤}
 use Rattle.taxi_base.specs.Airport.{Airport}
 use Rattle.taxi_text.specs.Words.{words_of}
-use Rattle.certificate.specs.declared.block.Block.{Block}
-use Rattle.certificate.specs.declared.block.Block.TheVariants.{Refused}
+use Rattle.replies.specs.declared.block.Block.{Block}
+use Rattle.replies.specs.declared.block.Block.TheVariants.{Refused}
 use Rattle.serde_json.specs.Data.{Data}
 use Rattle.serde_json.specs.Written.{compact_text}
 use Rattle.reply_json.specs.Values.{text_value, number_value, list_value, object_value}

@@ -1,8 +1,8 @@
 -- Which text of a block does an object give, and which transcript do the objects of a run?
 use Rattle.std.specs.Prelude.{◌≡◌, ℕ, List, [], ◌∷◌, ◌++◌, length, map, flat_map, codes, decimal, bytes_eq, Option, Some, ⊤, if◌then◌else◌}
 use Rattle.taxi_base.specs.Airport.{Airport}
-use Rattle.certificate.specs.declared.block.Block.{Block}
-use Rattle.certificate.specs.Texts.{lines_text}
+use Rattle.replies.specs.declared.block.Block.{Block}
+use Rattle.replies.specs.Texts.{lines_text}
 use Rattle.transcripts.specs.Runs.{done_line}
 use Rattle.serde_json.specs.Data.{Data, unsigned, number, string, array, Items, no_items, item}
 use Rattle.serde_json.specs.Find.{get}

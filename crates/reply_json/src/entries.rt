@@ -1,8 +1,8 @@
 //! What is told of several flights, one after the other.
 ghost use Rattle.std.specs.Prelude.{◌≡◌, ◌++◌, codes, OnOk, All};
 ghost use Rattle.taxi_base.specs.Airport.{Airport as Plain};
-ghost use Rattle.certificate.specs.Printable.{IsPrintableStep, IsPrintableLabel, IsPrintableEntry};
-ghost use Rattle.certificate.specs.declared.entries.Entry.TheVariants.{Route, NoRoute, Dropped};
+ghost use Rattle.replies.specs.Printable.{IsPrintableStep, IsPrintableLabel, IsPrintableEntry};
+ghost use Rattle.replies.specs.declared.entries.Entry.TheVariants.{Route, NoRoute, Dropped};
 ghost use Rattle.serde_json.specs.Written.{compact_text};
 ghost use Rattle.reply_json.specs.Values.{text_value};
 ghost use Rattle.reply_json.specs.Replies.{entry_object};
@@ -12,7 +12,7 @@ use crate::pieces::quoted_name;
 use crate::routes::write_second_and_steps;
 use crate::rows::Row;
 use airport_file::Airport;
-use certificate::Entry;
+use replies::Entry;
 use taxi_base::{LabelRow, Memory, Name, Step, Time};
 use taxi_text::push_bytes;
 

@@ -1,8 +1,8 @@
 //! The line of a command and its reply, and the last line.
 ghost use Rattle.std.specs.Prelude.{◌≡◌, ◌++◌, string_bytes, IfOk, OnOk};
-ghost use Rattle.certificate.specs.declared.block.Block.{Block as Plain};
-ghost use Rattle.certificate.specs.Printable.{IsPrintable};
-ghost use Rattle.certificate.specs.Texts.{block_text};
+ghost use Rattle.replies.specs.declared.block.Block.{Block as Plain};
+ghost use Rattle.replies.specs.Printable.{IsPrintable};
+ghost use Rattle.replies.specs.Texts.{block_text};
 ghost use Rattle.serde_json.specs.Written.{compact_text};
 ghost use Rattle.reply_json.specs.Lines.{command_object, object_line, done_line, IsObjectAt, IsNoRefusal};
 
@@ -14,8 +14,8 @@ use crate::short_replies::{write_cancelled, write_filed};
 use crate::words::words_text;
 use airport_file::Airport;
 use block_reader::{BlockRefused, read_block};
-use certificate::Block;
 use itoa::Buffer;
+use replies::Block;
 use std::alloc::Global;
 use taxi_base::Memory;
 use taxi_text::{ShortText, push_bytes};

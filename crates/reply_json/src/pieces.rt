@@ -2,7 +2,7 @@
 ghost use Rattle.std.specs.Prelude.{◌≡◌, ◌≤◌, ◌∷◌, [], length};
 ghost use Rattle.taxi_text.specs.Fields.{sign_of};
 ghost use Rattle.airport_file.specs.Words.{class_word, segment_word, word_of_arc};
-ghost use Rattle.certificate.specs.Printable.{HasArc, HasSegment, HasClass};
+ghost use Rattle.replies.specs.Printable.{HasArc, HasSegment, HasClass};
 ghost use Rattle.serde_json.specs.Written.{compact_text};
 ghost use Rattle.reply_json.specs.Values.{text_value};
 

@@ -1,7 +1,7 @@
 //! What is told of a refusal.
 ghost use Rattle.std.specs.Prelude.{◌≡◌, ◌∷◌, [], codes, string_bytes, IfOk, OnOk};
 ghost use Rattle.taxi_base.specs.Airport.{Airport as Plain};
-ghost use Rattle.certificate.specs.declared.block.Block.TheVariants.{Refused};
+ghost use Rattle.replies.specs.declared.block.Block.TheVariants.{Refused};
 ghost use Rattle.serde_json.specs.View.{view, members_view};
 ghost use Rattle.serde_json.specs.Written.{compact_text};
 ghost use Rattle.reply_json.specs.Values.{number_value, with_members};

@@ -1,8 +1,8 @@
 //! Reports, and what is told of several flights.
 ghost use Rattle.std.specs.Prelude.{◌≡◌, ◌++◌, codes, string_bytes, All, OnOk};
 ghost use Rattle.airport_file.specs.Words.{segment_word};
-ghost use Rattle.certificate.specs.Printable.{HasSegment, IsPrintableWindow, IsPrintableHeld, IsPrintableFlight, IsPrintableEntry};
-ghost use Rattle.certificate.specs.declared.block.Block.TheVariants.{Windows, Occupancy, Timetable, Batch, Late};
+ghost use Rattle.replies.specs.Printable.{HasSegment, IsPrintableWindow, IsPrintableHeld, IsPrintableFlight, IsPrintableEntry};
+ghost use Rattle.replies.specs.declared.block.Block.TheVariants.{Windows, Occupancy, Timetable, Batch, Late};
 ghost use Rattle.serde_json.specs.Written.{compact_text};
 ghost use Rattle.reply_json.specs.Values.{text_value};
 ghost use Rattle.reply_json.specs.Lines.{IsObjectAt};
@@ -11,7 +11,7 @@ use crate::lists::write_rows;
 use crate::pieces::{quoted_name, quoted_segment};
 use crate::place::{Place, write_command, write_line, write_words};
 use airport_file::Airport;
-use certificate::Entry;
+use replies::Entry;
 use taxi_base::{FlightRow, HeldRow, Memory, Name, Segment, Span};
 use taxi_text::{push_bytes, push_number};
 

@@ -1,7 +1,7 @@
 //! Routes, and that there is none.
 ghost use Rattle.std.specs.Prelude.{◌≡◌, ◌++◌, ◌∷◌, [], codes, decimal, map, string_bytes, All, OnOk};
-ghost use Rattle.certificate.specs.Printable.{IsPrintableStep, IsPrintableLabel};
-ghost use Rattle.certificate.specs.declared.block.Block.TheVariants.{Route, NoRoute};
+ghost use Rattle.replies.specs.Printable.{IsPrintableStep, IsPrintableLabel};
+ghost use Rattle.replies.specs.declared.block.Block.TheVariants.{Route, NoRoute};
 ghost use Rattle.serde_json.specs.Written.{compact_text};
 ghost use Rattle.reply_json.specs.Values.{text_value, list_value};
 ghost use Rattle.reply_json.specs.Replies.{label_object, step_object};

@@ -1,8 +1,8 @@
 //! Rows as objects.
 ghost use Rattle.std.specs.Prelude.{◌≡◌, ◌≤◌, ◌++◌, length, OnOk};
 ghost use Rattle.taxi_base.specs.Airport.{Airport as Plain};
-ghost use Rattle.certificate.specs.Texts.{kind_word};
-ghost use Rattle.certificate.specs.Printable.{IsPrintableStep, IsPrintableLabel, IsPrintableWindow, IsPrintableHeld, IsPrintableFlight};
+ghost use Rattle.replies.specs.Texts.{kind_word};
+ghost use Rattle.replies.specs.Printable.{IsPrintableStep, IsPrintableLabel, IsPrintableWindow, IsPrintableHeld, IsPrintableFlight};
 ghost use Rattle.serde_json.specs.Data.{Data};
 ghost use Rattle.serde_json.specs.Written.{compact_text};
 ghost use Rattle.reply_json.specs.Values.{word_value};

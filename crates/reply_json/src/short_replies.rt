@@ -1,6 +1,6 @@
 //! Replies without rows.
 ghost use Rattle.std.specs.Prelude.{◌≡◌, ◌∷◌, [], codes, string_bytes, OnOk};
-ghost use Rattle.certificate.specs.declared.block.Block.TheVariants.{Filed, Cancelled};
+ghost use Rattle.replies.specs.declared.block.Block.TheVariants.{Filed, Cancelled};
 ghost use Rattle.serde_json.specs.Written.{compact_text};
 ghost use Rattle.reply_json.specs.Values.{text_value};
 ghost use Rattle.reply_json.specs.Lines.{IsObjectAt};

@@ -1,5 +1,5 @@
 -- What a reroute asks for.
-use Rattle.std.proofs.Common.{◌≡◌, ◌∙◌, ℕ, ◌-◌, ◌<◌, ◌≤◌, ◌^◌, Bool, true, false, List, [], ◌∷◌, length, Option, Some, None, is_some, IsTrue, refl, sym, ap, subst, arith}
+use Rattle.std.proofs.Common.{◌≡◌, ◌∙◌, ℕ, ◌-◌, ◌≤◌, false, List, [], ◌∷◌, Option, Some, None, is_some, refl, sym, subst, arith}
 use Rattle.std.proofs.lemmas.List.Elements.{All-contains}
 use Rattle.taxi_base.specs.declared.answers.Request.{Request}
 use Rattle.taxi_base.specs.declared.answers.Request.TheVariants as request
@@ -10,8 +10,8 @@ use Rattle.taxi_base.specs.Airport.{Airport, IsWellFormed}
 use Rattle.taxi_base.specs.Walks.{Meets}
 use Rattle.taxi_base.specs.State.{State, flight_named, without, conditions_of, IsSound}
 use Rattle.taxi_text.specs.declared.command.Command.TheVariants as command
-use Rattle.certificate.specs.Refusals.{first_of, refused_if, is_filed, not_routed, already_done, already_moving}
-use Rattle.certificate.proofs.FlightLaws.{flight_named-there}
+use Rattle.replies.specs.Refusals.{first_of, refused_if, is_filed, not_routed, already_done, already_moving}
+use Rattle.replies.proofs.FlightLaws.{flight_named-there}
 use Rattle.reroute.proofs.FoundAnew.{departure-early}
 use Rattle.reply_reasons.specs.declared.asking.Asking.{Asking}
 use Rattle.reply_reasons.specs.Asking.{asking_on, IsEarly, IsAskedBy}

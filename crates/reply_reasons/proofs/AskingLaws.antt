@@ -1,24 +1,22 @@
--- What a command asks for, by what its words name, and that nothing is asked where it is refused.
-use Rattle.std.proofs.Common.{◌≡◌, ◌∙◌, ◌<◌, ℕ, List, [], ◌∷◌, length, Option, Some, None, option_map, option_and_then, IsFalse, refl, sym, ap, subst}
-use Rattle.std.specs.Prelude.{MatchOption, IfSome, All}
-use Rattle.std.specs.Option.{option_map_or}
+-- What a command asks for that nothing refuses, by what its words name.
+use Rattle.std.proofs.Common.{◌≡◌, ◌<◌, ℕ, List, [], ◌∷◌, length, Option, Some, None, IsFalse, refl, sym}
+use Rattle.std.specs.Prelude.{All}
 use Rattle.taxi_base.specs.declared.numbers.Node.{Node}
 use Rattle.taxi_base.specs.declared.numbers.Class.{Class}
 use Rattle.taxi_base.specs.declared.answers.Request.{Request}
 use Rattle.taxi_base.specs.declared.answers.Request.TheVariants as request
-use Rattle.taxi_base.specs.declared.answers.Refusal.{Refusal}
 use Rattle.taxi_base.specs.Airport.{Airport}
-use Rattle.taxi_base.specs.State.{State, without, has_holder}
+use Rattle.taxi_base.specs.State.{State, has_holder}
 use Rattle.taxi_text.specs.declared.command.Command.{Command}
 use Rattle.taxi_text.specs.declared.command.Command.TheVariants as command
 use Rattle.taxi_text.specs.declared.command.Asked.{Asked}
 use Rattle.taxi_text.specs.declared.command.AskedAny.{AskedAny}
-use Rattle.certificate.specs.Asked.{IsAskedInGrammar, Choice, arrival_any, departure_any, request_for}
-use Rattle.certificate.specs.Printable.{IsShort}
-use Rattle.certificate.specs.Refusals.{first_refusal}
-use Rattle.certificate.proofs.FlightLaws.{without-none}
-use Rattle.certificate.proofs.ChoiceNames.{nodes_named-are}
-use Rattle.certificate.proofs.RefusalLaws.{arrival-has_room, departure-has_room, arrival_any-has_room, departure_any-has_room}
+use Rattle.replies.specs.Asked.{IsAskedInGrammar, Choice, arrival_any, departure_any, request_for}
+use Rattle.replies.specs.Printable.{IsShort}
+use Rattle.replies.specs.Refusals.{first_refusal}
+use Rattle.replies.proofs.FlightLaws.{without-none}
+use Rattle.replies.proofs.ChoiceNames.{nodes_named-are}
+use Rattle.replies.proofs.RefusalLaws.{arrival-has_room, departure-has_room, arrival_any-has_room, departure_any-has_room}
 use Rattle.command_refusals.specs.declared.asking.Trip.{Trip}
 use Rattle.command_refusals.specs.declared.choosing.TripToAny.{TripToAny}
 use Rattle.command_refusals.specs.Named.{IsTripOf, IsTripOfAny}
@@ -27,18 +25,7 @@ use Rattle.reply_reasons.specs.declared.asking.Asking.{Asking}
 use Rattle.reply_reasons.specs.declared.asking.Way.TheVariants.{New, ToAny}
 use Rattle.reply_reasons.specs.Asking.{asking_any, asking_of, asking_due, IsTimely, IsAskedBy}
 
-none-then : {A B : Type 0} (o : Option A) → option_and_then (λ (a : A). let none : Option B = None in none) o ≡ None
-none-then None = refl
-none-then (Some a) = refl
-
 module _ (airport : Airport) (state : State) (command : Command) where
-  -- where it is refused
-  pub refused-none : (why : Refusal) → first_refusal airport state command ≡ Some why → asking_due airport state command ≡ None
-  refused-none why refused = rw refused (none-then (asking_of airport state command))
-
-  pub refused-asked : (why : Refusal) → first_refusal airport state command ≡ Some why → (asking : Option Asking) → asking ≡ None → IsAskedBy airport state command state asking
-  refused-asked why refused asking none = rw none (record { due = sym (refused-none why refused); others = refl; timely = tt })
-
   -- where it is not
   pub asked-due : (asking : Asking) → first_refusal airport state command ≡ None → asking_of airport state command ≡ Some asking → asking_due airport state command ≡ Some asking
   asked-due asking due is = rw (is, due) refl

@@ -2,10 +2,10 @@ pub mod AskingLaws
 pub mod SearchLaws
 pub mod SecondLaws
 pub mod PutBack
+pub mod FewerLaws
 pub mod LeftOutLaws
 pub mod TakenLaws
 pub mod StepTold
 pub mod WaitLaws
 pub mod AgainLaws
 pub mod WholeLaws
-pub mod TextLaws

@@ -1,5 +1,5 @@
 -- A holder that was left out and is put back: the state is as before, and while it is out it may be put back.
-use Rattle.std.proofs.Common.{◌≡◌, ◌≢◌, ◌∙◌, ℕ, zero, suc, ◌+◌, ◌<◌, ◌≤◌, Bool, false, List, [], ◌∷◌, length, Option, Some, None, is_some, IsTrue, IsFalse, refl, sym, ap, subst, arith, inl, inr}
+use Rattle.std.proofs.Common.{◌≡◌, ◌≢◌, ◌∙◌, ℕ, zero, suc, ◌+◌, ◌<◌, Bool, false, List, [], ◌∷◌, length, Some, IsTrue, IsFalse, refl, sym, ap, subst, arith, inl, inr}
 use Rattle.std.specs.Prelude.{All, AllPairs, bytes_eq, slice_get, IsSome}
 use Rattle.std.specs.List.{find}
 use Rattle.std.specs.Cmp.Lexicographic.{bytes_decides}

@@ -1,22 +1,19 @@
--- The hold that a step of a filed route asks for.
-use Rattle.std.proofs.Common.{◌≡◌, ◌∙◌, ℕ, zero, suc, ◌-◌, ◌<◌, Bool, true, false, List, [], ◌∷◌, length, Option, Some, None, option_map, option_and_then, IsTrue, refl, sym, ap, subst, inl, inr}
+-- Where a step of a filed route fails, the route is made, and the step is on a segment.
+use Rattle.std.proofs.Common.{◌≡◌, ◌∙◌, ℕ, zero, suc, ◌-◌, ◌<◌, Bool, true, false, List, [], ◌∷◌, length, Option, Some, None, IsTrue, refl, sym, subst, inl, inr}
 use Rattle.std.specs.Prelude.{slice_get, All, IfSome, IsSome, ◌⊎◌}
 use Rattle.std.proofs.lemmas.List.Elements.{All-head, All-tail}
-use Rattle.taxi_base.specs.declared.numbers.Class.{Class}
 use Rattle.taxi_base.specs.declared.rows.Step.{Step}
 use Rattle.taxi_base.specs.declared.answers.StepFault.{StepFault}
 use Rattle.taxi_base.specs.declared.answers.Refusal.{Refusal}
 use Rattle.taxi_base.specs.declared.answers.Refusal.TheVariants as refusal
-use Rattle.taxi_base.specs.Airport.{Airport, class_named, clearance_of, segment_of, arc_exists, layout_of}
-use Rattle.taxi_base.specs.Windows.{hold_of}
+use Rattle.taxi_base.specs.Airport.{Airport, segment_of, arc_exists, layout_of}
 use Rattle.taxi_base.specs.State.{State}
 use Rattle.taxi_base.proofs.AirportLaws.{arc_exists-segment}
 use Rattle.taxi_text.specs.declared.command.Filed.{Filed}
 use Rattle.taxi_text.specs.declared.command.Command.TheVariants as command
-use Rattle.certificate.specs.Asked.{route_filed}
-use Rattle.certificate.specs.Refusals.{first_refusal, first_of, refused_if, in_force, unknown_class, unknown_arc, full, step_fails}
-use Rattle.certificate.proofs.FiledLaws.{filed_steps-arcs}
-use Rattle.reply_reasons.specs.Taken.{step_asked}
+use Rattle.replies.specs.Asked.{route_filed}
+use Rattle.replies.specs.Refusals.{first_refusal, first_of, refused_if, in_force, unknown_class, unknown_arc, full, step_fails}
+use Rattle.replies.proofs.FiledLaws.{filed_steps-arcs}
 
 at-place : {A : Type 0} (P : A → Type 0) (xs : List A) (i : ℕ) (x : A) → All P xs → slice_get xs i ≡ Some x → P x
 at-place P [] i x all found = absurd (cc found)
@@ -53,33 +50,10 @@ file-made airport state filed fault refused = of (route_filed airport filed) ref
 
 -- ---- the step of a number
 
-module _ (airport : Airport) (filed : Filed) (number : ℕ) where
-  pub step-unasked : IfSome (route_filed airport filed) (λ steps. None ≡ slice_get steps (number - 1)) → step_asked airport filed number ≡ None
-  step-unasked none = of (class_named airport filed.class) (route_filed airport filed) none where
-    of : (c : Option Class) (r : Option (List Step)) → IfSome r (λ steps. None ≡ slice_get steps (number - 1))
-        → option_and_then (λ class. option_and_then (λ steps. option_map (hold_of airport.horizon (clearance_of airport class)) (slice_get steps (number - 1))) r) c ≡ None
-    of None r h = refl
-    of (Some class) None h = refl
-    of (Some class) (Some steps) h = ap (option_map (hold_of airport.horizon (clearance_of airport class))) (sym h)
-
-  pub class-unknown : class_named airport filed.class ≡ None → step_asked airport filed number ≡ None
-  class-unknown none = rw none refl
-
-  module _ (step : Step) (made : IsSome (route_filed airport filed)) (is : IfSome (route_filed airport filed) (λ steps. Some step ≡ slice_get steps (number - 1))) where
-    pub step-asked : (class : Class) → class_named airport filed.class ≡ Some class → step_asked airport filed number ≡ Some (hold_of airport.horizon (clearance_of airport class) step)
-    step-asked class known = of (class_named airport filed.class) (route_filed airport filed) known made is where
-      of : (c : Option Class) (r : Option (List Step)) → c ≡ Some class → IsSome r → IfSome r (λ steps. Some step ≡ slice_get steps (number - 1))
-          → option_and_then (λ class. option_and_then (λ steps. option_map (hold_of airport.horizon (clearance_of airport class)) (slice_get steps (number - 1))) r) c
-          ≡ Some (hold_of airport.horizon (clearance_of airport class) step)
-      of None r known some h = absurd (cc known)
-      of (Some k) None known some h = absurd (cc some)
-      of (Some k) (Some steps) known some h =
-          let same : k ≡ class = cc known in
-          ap (option_map (hold_of airport.horizon (clearance_of airport k))) (sym h) ∙ ap (λ (k : Class). Some (hold_of airport.horizon (clearance_of airport k) step)) same
-
-    pub step-segment : (segment_of step.arc).0 < length airport.segments
-    step-segment = of (route_filed airport filed) refl made is where
-      of : (r : Option (List Step)) → route_filed airport filed ≡ r → IsSome r → IfSome r (λ steps. Some step ≡ slice_get steps (number - 1)) → (segment_of step.arc).0 < length airport.segments
-      of None e some h = absurd (cc some)
-      of (Some steps) e some h =
-          arc_exists-segment airport step.arc (at-place (λ s. IsTrue (arc_exists (layout_of airport) s.arc)) steps (number - 1) step (filed_steps-arcs airport filed.start filed.steps steps e) (sym h))
+module _ (airport : Airport) (filed : Filed) (number : ℕ) (step : Step) (made : IsSome (route_filed airport filed)) (is : IfSome (route_filed airport filed) (λ steps. Some step ≡ slice_get steps (number - 1))) where
+  pub step-segment : (segment_of step.arc).0 < length airport.segments
+  step-segment = of (route_filed airport filed) refl made is where
+    of : (r : Option (List Step)) → route_filed airport filed ≡ r → IsSome r → IfSome r (λ steps. Some step ≡ slice_get steps (number - 1)) → (segment_of step.arc).0 < length airport.segments
+    of None e some h = absurd (cc some)
+    of (Some steps) e some h =
+        arc_exists-segment airport step.arc (at-place (λ s. IsTrue (arc_exists (layout_of airport) s.arc)) steps (number - 1) step (filed_steps-arcs airport filed.start filed.steps steps e) (sym h))

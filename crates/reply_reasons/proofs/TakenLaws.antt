@@ -1,5 +1,5 @@
 -- The step of a filed route, by its place; and what is told of a refusal.
-use Rattle.std.proofs.Common.{◌≡◌, ◌∙◌, ℕ, zero, suc, ◌+◌, ◌-◌, ◌==◌, Bool, false, List, [], ◌∷◌, Option, Some, None, option_map, option_and_then, if◌then◌else◌, refl, sym, ap, arith}
+use Rattle.std.proofs.Common.{◌≡◌, ◌∙◌, ℕ, zero, suc, ◌-◌, ◌==◌, Bool, false, List, [], ◌∷◌, Option, Some, None, option_map, if◌then◌else◌, refl, sym, ap, arith}
 use Rattle.std.specs.Prelude.{slice_get, IfSome, IsSome}
 use Rattle.std.specs.Option.{option_map_or}
 use Rattle.std.proofs.lemmas.Bool.Decides.{nat_tests}
@@ -8,8 +8,8 @@ use Rattle.taxi_base.specs.declared.numbers.Arc.{Arc}
 use Rattle.taxi_base.specs.Airport.{Airport, arc_named}
 use Rattle.taxi_text.specs.declared.command.Filed.{Filed}
 use Rattle.taxi_text.specs.declared.command.FiledStep.{FiledStep}
-use Rattle.certificate.specs.Asked.{filed_steps, route_filed}
-use Rattle.certificate.proofs.FiledLaws.{and_then-some, map-some}
+use Rattle.replies.specs.Asked.{filed_steps, route_filed}
+use Rattle.replies.proofs.FiledLaws.{and_then-some, map-some}
 use Rattle.reply_reasons.specs.Taken.{entered}
 
 -- the step at a place: by the arc of its pair, entered when the pair before is left

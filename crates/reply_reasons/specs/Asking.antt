@@ -11,8 +11,8 @@ use Rattle.taxi_base.specs.State.{State, flight_named, without}
 use Rattle.taxi_base.specs.Again.{retargeted}
 use Rattle.taxi_text.specs.declared.command.Command.{Command}
 use Rattle.taxi_text.specs.declared.command.Command.TheVariants as command
-use Rattle.certificate.specs.Asked.{arrival_named, departure_named, Choice, nodes_of, request_for, arrival_any_named, departure_any_named}
-use Rattle.certificate.specs.Refusals.{first_refusal}
+use Rattle.replies.specs.Asked.{arrival_named, departure_named, Choice, nodes_of, request_for, arrival_any_named, departure_any_named}
+use Rattle.replies.specs.Refusals.{first_refusal}
 use Rattle.sequence_exchange.specs.Serving.{IsShortRequest}
 use Rattle.reply_reasons.specs.declared.asking.Asking.{Asking}
 use Rattle.reply_reasons.specs.declared.asking.Way.{Way}

@@ -1,23 +1,22 @@
 -- Which lines explain the reply to a line?
-use Rattle.std.specs.Prelude.{ℕ, ◌≡◌, if◌then◌else◌, List, [], ◌∷◌, ◌++◌, map, Option, Some, None, MatchOption}
+use Rattle.std.specs.Prelude.{ℕ, ◌≡◌, ◌⊎◌, IsTrue, IsFalse, if◌then◌else◌, List, [], ◌∷◌, ◌++◌, map, Option, Some, None, MatchOption}
 use Rattle.std.specs.Option.{option_map_or}
 use Rattle.taxi_base.specs.declared.rows.Step.{Step}
 use Rattle.taxi_base.specs.declared.answers.Request.{Request}
-use Rattle.taxi_base.specs.declared.answers.Request.TheVariants as request
 use Rattle.taxi_base.specs.Airport.{Airport}
 use Rattle.taxi_base.specs.Walks.{begin_of, end_of}
 use Rattle.taxi_base.specs.State.{State, no_holder, without}
 use Rattle.taxi_text.specs.declared.command.Command.{Command}
 use Rattle.taxi_text.specs.Commands.{command_of}
-use Rattle.certificate.specs.Refusals.{is_departure}
-use Rattle.certificate.specs.Routed.{second_of}
+use Rattle.replies.specs.Refusals.{is_departure}
+use Rattle.replies.specs.Routed.{second_of}
 use Rattle.reply_reasons.specs.declared.asking.Asking.{Asking}
 use Rattle.reply_reasons.specs.declared.reason.Reason.{Reason}
 use Rattle.reply_reasons.specs.declared.reason.Reason.TheVariants as reason
 use Rattle.reply_reasons.specs.Asking.{asking_due, asking_freed}
 use Rattle.reply_reasons.specs.Routes.{IsFoundAmong, IsBestSecond, second_found, is_better}
 use Rattle.reply_reasons.specs.Waits.{route_reasons}
-use Rattle.reply_reasons.specs.Taken.{Taking, taking_due, AreTakenReasons}
+use Rattle.reply_reasons.specs.Taken.{taking_due, AreTakenReasons}
 
 -- ---- one holder left out
 
@@ -25,17 +24,24 @@ use Rattle.reply_reasons.specs.Taken.{Taking, taking_due, AreTakenReasons}
 abbrev pub holder_names : State → List (List ℕ)
 holder_names state = map (λ f. f.name) state.flights ++ map (λ p. p.name) state.parties
 
--- told where the second without a holder is better than the answer
-abbrev pub without_reason : Request → Option ℕ → List ℕ → Option ℕ → List Reason
-without_reason asked answer name None = []
-without_reason asked answer name (Some second) = if is_better asked second answer then reason.Without name second ∷ [] else []
+-- What is told of one holder: the best second with that one left out, where it is better than the answer; and nothing where no best second
+-- without it is better.
+abbrev pub IsWithout : Airport → Asking → State → Option ℕ → List ℕ → List Reason → Type 0
+IsWithout airport asking others answer name told =
+    ((second : ℕ) × IsBestSecond airport asking (without name others) (Some second) × IsTrue (is_better asking.request second answer) × (told ≡ reason.Without name second ∷ []))
+    ⊎ ((told ≡ []) × ((second : ℕ) → IsBestSecond airport asking (without name others) (Some second) → IsFalse (is_better asking.request second answer)))
 
--- of each of some holders in order, what is found with that one left out
+-- a line that tells of a better second than the answer without some holder, which is no better than with no holder at all
+abbrev pub IsGainWithin : Request → Option ℕ → Option ℕ → Reason → Type 0
+IsGainWithin asked answer alone (reason.Without holder second) = IsTrue (is_better asked second answer) × IsFalse (is_better asked second alone)
+IsGainWithin asked answer alone _ = ⊥
+
+-- of each of some holders in order
 abbrev pub AreWithout : Airport → Asking → State → Option ℕ → List (List ℕ) → List Reason → Type 0
 AreWithout airport asking others answer [] reasons = reasons ≡ []
 AreWithout airport asking others answer (name ∷ names) reasons =
-    (second : Option ℕ) × (later : List Reason) × IsBestSecond airport asking (without name others) second
-    × (reasons ≡ without_reason asking.request answer name second ++ later) × AreWithout airport asking others answer names later
+    (told : List Reason) × (later : List Reason) × IsWithout airport asking others answer name told × (reasons ≡ told ++ later)
+    × AreWithout airport asking others answer names later
 
 -- ---- with no limit on when to begin, or on how early to end
 
@@ -74,3 +80,10 @@ IsCommandExplained airport state command reasons =
 -- a filed route or a work party that a holder stands in the way of.
 abbrev pub IsExplained : Airport → State → List ℕ → List Reason → Type 0
 IsExplained airport state line reasons = MatchOption (command_of line) (reasons ≡ reason.Nothing ∷ []) (λ command. IsCommandExplained airport state command reasons)
+
+-- ---- no public clause cites these
+
+-- what is told of a holder by the second that is found with that one left out
+abbrev pub without_reason : Request → Option ℕ → List ℕ → Option ℕ → List Reason
+without_reason asked answer name None = []
+without_reason asked answer name (Some second) = if is_better asked second answer then reason.Without name second ∷ [] else []

@@ -1,5 +1,5 @@
 -- Which route is found for what a line asks, among other holders, and which of two seconds is better?
-use Rattle.std.specs.Prelude.{ℕ, ◌≡◌, Bool, true, false, nat_lt, if◌then◌else◌, List, ◌∷◌, Option, Some, None, option_map}
+use Rattle.std.specs.Prelude.{ℕ, ◌≡◌, Bool, true, false, nat_lt, if◌then◌else◌, List, Option, Some, None, option_map}
 use Rattle.taxi_base.specs.declared.numbers.Node.{Node}
 use Rattle.taxi_base.specs.declared.rows.Step.{Step}
 use Rattle.taxi_base.specs.declared.answers.Request.{Request}
@@ -13,9 +13,9 @@ use Rattle.taxi_base.specs.Walks.{Conditions}
 use Rattle.taxi_base.specs.State.{State}
 use Rattle.taxi_base.specs.Faults.{conditions_in}
 use Rattle.taxi_base.specs.Again.{AnswersAgain}
-use Rattle.certificate.specs.Asked.{AnswersRequest, arrival_any, departure_any, AnswersChoice}
-use Rattle.certificate.specs.Refusals.{is_departure}
-use Rattle.certificate.specs.Routed.{second_of}
+use Rattle.replies.specs.Asked.{AnswersRequest, arrival_any, departure_any, AnswersChoice}
+use Rattle.replies.specs.Refusals.{is_departure}
+use Rattle.replies.specs.Routed.{second_of}
 use Rattle.reply_reasons.specs.declared.asking.Asking.{Asking}
 use Rattle.reply_reasons.specs.declared.asking.Way.{Way}
 use Rattle.reply_reasons.specs.declared.asking.Way.TheVariants.{New, ToAny, On}
@@ -64,3 +64,8 @@ IsBestSecond airport asking others second = (route : Option (List Step)) × IsFo
 abbrev pub is_better : Request → ℕ → Option ℕ → Bool
 is_better asked second None = true
 is_better asked second (Some other) = if is_departure asked then nat_lt other second else nat_lt second other
+
+-- the same where there may be no second, which is better than nothing
+abbrev pub is_gain : Request → Option ℕ → Option ℕ → Bool
+is_gain asked None other = false
+is_gain asked (Some second) other = is_better asked second other

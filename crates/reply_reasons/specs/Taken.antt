@@ -1,11 +1,10 @@
 -- Which hold is a filed route or a work party refused that a holder stands in the way of, and what is held there meanwhile?
-use Rattle.std.specs.Prelude.{ℕ, ◌≡◌, ◌-◌, max, min, Bool, nat_lt, List, [], ◌∷◌, map, filter, slice_get, Option, Some, None, option_map, option_and_then, if◌then◌else◌, ◌==◌}
+use Rattle.std.specs.Prelude.{ℕ, ◌≡◌, ◌-◌, max, min, Bool, nat_lt, List, ◌∷◌, map, filter, slice_get, Option, Some, None, option_map, option_and_then, if◌then◌else◌, ◌==◌}
 use Rattle.std.specs.Option.{option_map_or}
 use Rattle.taxi_base.specs.declared.rows.Span.{Span}
 use Rattle.taxi_base.specs.declared.rows.HeldRow.{HeldRow}
 use Rattle.taxi_base.specs.declared.answers.StepCause.{StepCause}
-use Rattle.taxi_base.specs.declared.answers.StepCause.TheVariants.{ClassBarred, BadTurn, TooFast, PastHorizon, Taken}
-use Rattle.taxi_base.specs.declared.answers.StepFault.{StepFault}
+use Rattle.taxi_base.specs.declared.answers.StepCause.TheVariants.{Taken}
 use Rattle.taxi_base.specs.declared.answers.Refusal.{Refusal}
 use Rattle.taxi_base.specs.declared.answers.Refusal.TheVariants as refusal
 use Rattle.taxi_base.specs.Airport.{Airport, class_named, segment_named, clearance_of}
@@ -15,8 +14,8 @@ use Rattle.taxi_base.specs.Reports.{AreHeldRows}
 use Rattle.taxi_text.specs.declared.command.Filed.{Filed}
 use Rattle.taxi_text.specs.declared.command.Command.{Command}
 use Rattle.taxi_text.specs.declared.command.Command.TheVariants as command
-use Rattle.certificate.specs.Asked.{route_filed, party_of}
-use Rattle.certificate.specs.Refusals.{first_refusal}
+use Rattle.replies.specs.Asked.{route_filed, party_of}
+use Rattle.replies.specs.Refusals.{first_refusal}
 use Rattle.reply_reasons.specs.declared.reason.Reason.{Reason}
 use Rattle.reply_reasons.specs.declared.reason.Reason.TheVariants as reason
 

@@ -2,7 +2,7 @@
 use Rattle.std.specs.Prelude.{ℕ, List, [], ◌∷◌, flat_map, codes, decimal, Option, Some, None}
 use Rattle.taxi_base.specs.Airport.{Airport}
 use Rattle.airport_file.specs.Words.{segment_word, word_of_arc}
-use Rattle.certificate.specs.Texts.{line_text}
+use Rattle.replies.specs.Texts.{line_text}
 use Rattle.reply_reasons.specs.declared.reason.Reason.{Reason}
 use Rattle.reply_reasons.specs.declared.reason.Reason.TheVariants as reason
 

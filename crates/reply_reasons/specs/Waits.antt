@@ -1,5 +1,5 @@
 -- By how much is a route later, or sooner, than was asked, where does it wait, and for whom?
-use Rattle.std.specs.Prelude.{ℕ, ◌+◌, ◌-◌, ◌==◌, Bool, nat_lt, if◌then◌else◌, List, [], ◌∷◌, ◌++◌, length, flat_map, slice_get, Option, Some, None, option_and_then, unwrap_or}
+use Rattle.std.specs.Prelude.{ℕ, ◌+◌, ◌-◌, ◌==◌, nat_lt, if◌then◌else◌, List, [], ◌∷◌, ◌++◌, length, flat_map, slice_get, Option, Some, None, option_and_then, unwrap_or}
 use Rattle.std.specs.List.{range_with_len}
 use Rattle.taxi_base.specs.declared.numbers.Class.{Class}
 use Rattle.taxi_base.specs.declared.rows.Step.{Step}
@@ -8,8 +8,7 @@ use Rattle.taxi_base.specs.declared.answers.Request.TheVariants as request
 use Rattle.taxi_base.specs.Airport.{Airport, segment_of, seconds, clearance_of}
 use Rattle.taxi_base.specs.Windows.{hold_of}
 use Rattle.taxi_base.specs.State.{State}
-use Rattle.certificate.specs.Refusals.{is_departure}
-use Rattle.reply_reasons.specs.declared.asking.Asking.{Asking}
+use Rattle.replies.specs.Refusals.{is_departure}
 use Rattle.reply_reasons.specs.declared.reason.Reason.{Reason}
 use Rattle.reply_reasons.specs.declared.reason.Reason.TheVariants as reason
 use Rattle.reply_reasons.specs.InTheWay.{in_the_way}

@@ -2,10 +2,10 @@
 ghost use Rattle.std.specs.Prelude.{◌≡◌, None, IfOk};
 ghost use Rattle.taxi_base.specs.State.{IsSound};
 ghost use Rattle.taxi_text.specs.declared.command.Command.TheVariants as command;
-ghost use Rattle.certificate.specs.Asked.{IsInGrammar, IsAskedInGrammar};
-ghost use Rattle.certificate.specs.Printable.{IsShort};
+ghost use Rattle.replies.specs.Asked.{IsInGrammar, IsAskedInGrammar};
+ghost use Rattle.replies.specs.Printable.{IsShort};
 ghost use Rattle.commitments.specs.Book.{Fits};
-ghost use Rattle.certificate.specs.Asked.{arrival_any, departure_any};
+ghost use Rattle.replies.specs.Asked.{arrival_any, departure_any};
 ghost use Rattle.reply_reasons.specs.Asking.{IsAskedBy, asking_any};
 
 use crate::under_way::{asked_to_divert, asked_to_reroute};

@@ -3,7 +3,7 @@ ghost use Rattle.std.specs.Prelude.{◌≡◌, ◌<◌, ◌++◌, [], List as It
 ghost use Rattle.std.specs.Option.{option_map_or};
 ghost use Rattle.taxi_base.specs.declared.rows.Step.{Step as StepRow};
 ghost use Rattle.taxi_base.specs.State.{no_holder, IsSound};
-ghost use Rattle.certificate.specs.Asked.{IsInGrammar};
+ghost use Rattle.replies.specs.Asked.{IsInGrammar};
 ghost use Rattle.commitments.specs.Book.{Fits};
 ghost use Rattle.reply_reasons.specs.Asking.{IsTimely, freed, asking_freed};
 ghost use Rattle.reply_reasons.specs.Routes.{IsFoundAmong, IsBestSecond};
@@ -11,12 +11,11 @@ ghost use Rattle.reply_reasons.specs.Waits.{route_reasons};
 ghost use Rattle.reply_reasons.specs.Explained.{freed_reasons, span_reason, IsRouteExplained, IsCommandExplained, IsExplained};
 
 use crate::asking::{Asking, asked_by};
-use crate::left_out::push_left_out;
 use crate::reason::Reason;
-use crate::searching::find;
-use crate::seconds::{best_second, is_better, second_found};
+use crate::searching::Search;
+use crate::seconds::{Seconds, is_better, second_found};
 use crate::taken::{explain_refusal, nothing_to_explain};
-use crate::waits::push_waits;
+use crate::waits::RouteAmong;
 use airport_file::Airport;
 use commitments::Ledger;
 use place_cells::SearchRoom;
@@ -63,78 +62,64 @@ fn explain_command(
 }
 
 // What explains the reply to what a line asks for a flight, among the other holders.
-fn explain_route(
+fn explain_route<'a>(
     alloc: Global,
-    airport: &Airport,
+    airport: &'a Airport,
     others: &mut Ledger,
-    asking: &Asking,
+    asking: &'a Asking,
 ) -> Result<List<Reason>, Memory>
     requires fits { Fits airport.now others.old }
     requires unlifted { others.old.lifted ≡ None }
     requires timely { IsTimely airport.now asking.now.request asking.now.way }
     ensures { IfOk result (λ reasons. IsRouteExplained airport.now asking.now others.old.state reasons) }
 {
+    let search = Search {
+        alloc,
+        airport,
+        asking,
+    };
     let mut room = SearchRoom::new(alloc)?;
-    let route = find(alloc, &mut room, airport, others, asking, asking.request)?;
+    let route = search.find(&mut room, others, asking.request)?;
     let answer = second_found(&asking.request, &route);
     let mut reasons = List::new(alloc);
     reasons.push(Reason::Answer { second: answer })?;
-    let second = second_alone(alloc, &mut room, airport, asking)?;
-    reasons.push(Reason::Alone { second })?;
-    push_left_out(
-        &mut reasons,
-        alloc,
-        &mut room,
-        airport,
-        others,
-        asking,
-        answer,
-    )?;
-    push_freed(
-        &mut reasons,
-        alloc,
-        &mut room,
-        airport,
-        others,
-        asking,
-        answer,
-    )?;
+    let alone = search.second_alone(&mut room)?;
+    reasons.push(Reason::Alone { second: alone })?;
+    let seconds = Seconds { answer, alone };
+    search.push_left_out(&mut reasons, &mut room, others, seconds)?;
+    search.push_freed(&mut reasons, &mut room, others, answer)?;
     push_waits_of(&mut reasons, airport, others, asking, &route)?;
     Ok(reasons)
 }
 
-// The best second with no other holder.
-fn second_alone(
-    alloc: Global,
-    room: &mut SearchRoom,
-    airport: &Airport,
-    asking: &Asking,
-) -> Result<Option<Time>, Memory>
-    requires { IsTimely airport.now asking.now.request asking.now.way }
-    ensures { IfOk result (IsBestSecond airport.now asking.now no_holder) }
-{
-    let nobody = Ledger::new(alloc, airport)?;
-    best_second(alloc, room, airport, &nobody, asking)
-}
+impl<'a> Search<'a> {
+    // The best second with no other holder.
+    fn second_alone(&self, room: &mut SearchRoom) -> Result<Option<Time>, Memory>
+        requires { IsTimely self.now.airport.now self.now.asking.now.request self.now.asking.now.way }
+        ensures { IfOk result (IsBestSecond self.now.airport.now self.now.asking.now no_holder) }
+    {
+        let nobody = Ledger::new(self.alloc, self.airport)?;
+        self.best_second(room, &nobody)
+    }
 
-// Adds when the route begins and ends that is found with no limit on when to begin, or on how early to end, where it is better.
-fn push_freed(
-    reasons: &mut List<Reason>,
-    alloc: Global,
-    room: &mut SearchRoom,
-    airport: &Airport,
-    others: &Ledger,
-    asking: &Asking,
-    answer: Option<Time>,
-) -> Result<(), Memory>
-    requires fits { Fits airport.now others.now }
-    requires unlifted { others.now.lifted ≡ None }
-    requires timely { IsTimely airport.now asking.now.request asking.now.way }
-    ensures { OnOk result ((free : Option (Items StepRow)) × IsFoundAmong airport.now (asking_freed airport.now asking.now) others.now.state free × (reasons.new ≡ reasons.old ++ freed_reasons asking.now.request answer free)) }
-{
-    let request = freed(airport.horizon(), asking.request);
-    let route = find(alloc, room, airport, others, asking, request)?;
-    push_span(reasons, asking.request, &route, answer)
+    // Adds when the route begins and ends that is found with no limit on when to begin, or on how early to end, where it is better.
+    fn push_freed(
+        &self,
+        reasons: &mut List<Reason>,
+        room: &mut SearchRoom,
+        others: &Ledger,
+        answer: Option<Time>,
+    ) -> Result<(), Memory>
+        requires fits { Fits self.now.airport.now others.now }
+        requires unlifted { others.now.lifted ≡ None }
+        requires timely { IsTimely self.now.airport.now self.now.asking.now.request self.now.asking.now.way }
+        ensures { OnOk result ((free : Option (Items StepRow)) × IsFoundAmong self.now.airport.now (asking_freed self.now.airport.now self.now.asking.now) others.now.state free × (reasons.new ≡ reasons.old ++ freed_reasons self.now.asking.now.request answer free)) }
+    {
+        let asked = self.asking.request;
+        let request = freed(self.airport.horizon(), asked);
+        let route = self.find(room, others, request)?;
+        push_span(reasons, asked, &route, answer)
+    }
 }
 
 // The same request with no limit.
@@ -190,20 +175,26 @@ fn span_reason(request: Request, steps: &[Step]) -> Reason
 }
 
 // Adds where the route waits, where there is one.
-fn push_waits_of(
+fn push_waits_of<'a>(
     reasons: &mut List<Reason>,
-    airport: &Airport,
-    others: &Ledger,
+    airport: &'a Airport,
+    others: &'a Ledger,
     asking: &Asking,
-    route: &Option<List<Step>>,
+    route: &'a Option<List<Step>>,
 ) -> Result<(), Memory>
     requires fits { Fits airport.now others.now }
     requires unlifted { others.now.lifted ≡ None }
     ensures { OnOk result (reasons.new ≡ reasons.old ++ option_map_or (route_reasons airport.now asking.now.class others.now.state asking.now.request) route.now []) }
 {
-    let (class, request) = (asking.class, asking.request);
-    match route {
-        Some(steps) => push_waits(reasons, airport, others, class, request, steps.as_slice()),
-        None => Ok(()),
-    }
+    let Some(steps) = route else {
+        return Ok(());
+    };
+    let among = RouteAmong {
+        airport,
+        others,
+        class: asking.class,
+        request: asking.request,
+        steps: steps.as_slice(),
+    };
+    among.push_waits(reasons)
 }

@@ -5,6 +5,7 @@
 mod asking;
 mod explaining;
 mod in_the_way;
+mod laws;
 mod left_out;
 mod reason;
 mod searching;
@@ -16,5 +17,6 @@ mod waits;
 
 pub use asking::{Asking, Way};
 pub use explaining::explain;
+pub use laws::no_holder_is_worth_more_than_all;
 pub use reason::Reason;
 pub use text::write_reasons;

@@ -2,32 +2,37 @@
 ghost use Rattle.std.specs.Prelude.{◌≡◌, ◌<◌, length, None, IfOk, IfSome};
 ghost use Rattle.commitments.specs.Book.{Fits};
 ghost use Rattle.reply_reasons.specs.Asking.{IsTimely};
-ghost use Rattle.reply_reasons.specs.Routes.{second_found, is_better, IsBestSecond};
+ghost use Rattle.reply_reasons.specs.Routes.{second_found, is_better, is_gain, IsBestSecond};
 
-use crate::asking::Asking;
-use crate::searching::find;
-use airport_file::Airport;
+use crate::searching::Search;
 use commitments::Ledger;
 use place_cells::SearchRoom;
 use sequence_exchange::second_of;
-use std::alloc::Global;
 use taxi_base::{List, Memory, Request, Step, Time};
 
-/// The best second for what is asked, among the holders in force; none where there is no walk.
-pub(crate) fn best_second(
-    alloc: Global,
-    room: &mut SearchRoom,
-    airport: &Airport,
-    others: &Ledger,
-    asking: &Asking,
-) -> Result<Option<Time>, Memory>
-    requires fits { Fits airport.now others.now }
-    requires unlifted { others.now.lifted ≡ None }
-    requires timely { IsTimely airport.now asking.now.request asking.now.way }
-    ensures { IfOk result (IsBestSecond airport.now asking.now others.now.state) }
-{
-    let route = find(alloc, room, airport, others, asking, asking.request)?;
-    Ok(second_found(&asking.request, &route))
+/// The best second for what is asked among all holders, and the best with none in force.
+#[derive(Clone, Copy)]
+pub(crate) struct Seconds {
+    pub answer: Option<Time>,
+    pub alone: Option<Time>,
+}
+
+impl<'a> Search<'a> {
+    /// The best second for what is asked, among the holders in force; none where there is no walk.
+    pub(crate) fn best_second(
+        &self,
+        room: &mut SearchRoom,
+        others: &Ledger,
+    ) -> Result<Option<Time>, Memory>
+        requires fits { Fits self.now.airport.now others.now }
+        requires unlifted { others.now.lifted ≡ None }
+        requires timely { IsTimely self.now.airport.now self.now.asking.now.request self.now.asking.now.way }
+        ensures { IfOk result (IsBestSecond self.now.airport.now self.now.asking.now others.now.state) }
+    {
+        let request = self.asking.request;
+        let route = self.find(room, others, request)?;
+        Ok(second_found(&request, &route))
+    }
 }
 
 /// The second by which a route is told: an arrival's end, a departure's begin.
@@ -51,5 +56,15 @@ pub(crate) fn is_better(request: &Request, second: Time, other: Option<Time>) ->
     match request {
         Request::Departure { .. } => other < second,
         _ => second < other,
+    }
+}
+
+/// Whether there is a second that is better than another.
+pub(crate) fn is_gain(request: &Request, second: Option<Time>, other: Option<Time>) -> bool
+    ensures { result ≡ is_gain request.now second other }
+{
+    match second {
+        Some(second) => is_better(request, second, other),
+        None => false,
     }
 }

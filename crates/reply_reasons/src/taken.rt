@@ -2,8 +2,8 @@
 ghost use Rattle.std.specs.Prelude.{◌≡◌, ◌≤◌, ◌<◌, ◌-◌, ◌++◌, ◌∷◌, [], length, map, filter, slice_get, Some, None, IsSome, IfOk, IfSome, OnOk};
 ghost use Rattle.taxi_base.specs.declared.answers.Refusal.TheVariants as refusal;
 ghost use Rattle.taxi_text.specs.declared.command.Command.TheVariants as command;
-ghost use Rattle.certificate.specs.Asked.{IsInGrammar, route_filed};
-ghost use Rattle.certificate.specs.Refusals.{first_refusal};
+ghost use Rattle.replies.specs.Asked.{IsInGrammar, route_filed};
+ghost use Rattle.replies.specs.Refusals.{first_refusal};
 ghost use Rattle.commitments.specs.Book.{Fits};
 ghost use Rattle.command_refusals.specs.Accepted.{IsRefused, IsRefusedOrUnprepared};
 ghost use Rattle.reply_reasons.specs.declared.reason.Reason.TheVariants as reason;
@@ -20,6 +20,16 @@ use taxi_base::{
     HeldRow, List, Memory, Name, Refusal, Segment, Span, Step, StepCause, StepFault, Time,
 };
 use taxi_text::{Command, Filed, Shut};
+
+// A step that a holder stands in the way of, from a second on, and what it asks to hold.
+#[derive(Drop)]
+struct Taking {
+    step: u32,
+    at: Time,
+    by: Name,
+    segment: Segment,
+    span: Span,
+}
 
 /// What explains the refusal of a command that asks for no route: what is held where a holder stands in the way of a filed route or of a work
 /// party. There is nothing to explain of any other.
@@ -106,9 +116,14 @@ fn explain_step(
     let Some(step) = step_filed(airport, filed, fault.number) else {
         return nothing_to_explain(alloc);
     };
-    let span = step.held(airport.horizon(), airport.clearance(class));
-    let segment = step.arc.segment();
-    explain_taken(alloc, airport, ledger, fault.number, *at, by, segment, span)
+    let taking = Taking {
+        step: fault.number,
+        at: *at,
+        by: *by,
+        segment: step.arc.segment(),
+        span: step.held(airport.horizon(), airport.clearance(class)),
+    };
+    explain_taken(alloc, airport, ledger, &taking)
 }
 
 // The step of a number of a filed route whose arcs are all the airport's.
@@ -194,27 +209,34 @@ fn explain_shut(
         from: shut.from,
         until: shut.until,
     };
-    explain_taken(alloc, airport, ledger, fault.number, *at, by, segment, span)
+    let taking = Taking {
+        step: fault.number,
+        at: *at,
+        by: *by,
+        segment,
+        span,
+    };
+    explain_taken(alloc, airport, ledger, &taking)
 }
 
-// The refusal, and what is held of a segment and of those in conflict with it at a second of a span.
+// The refusal, and what is held of the segment and of those in conflict with it at a second of the span.
 fn explain_taken(
     alloc: Global,
     airport: &Airport,
     ledger: &Ledger,
-    step: u32,
-    at: Time,
-    by: &Name,
-    segment: Segment,
-    span: Span,
+    taking: &Taking,
 ) -> Result<List<Reason>, Memory>
-    requires { segment.0 < length airport.now.segments }
-    ensures { IfOk result (λ reasons. AreTakenReasons airport.now ledger.now.state (record { blocked = record { step = step; at = at; by = by.now }; hold = record { segment = segment; span = span } }) reasons) }
+    requires { taking.now.segment.0 < length airport.now.segments }
+    ensures { IfOk result (λ reasons. AreTakenReasons airport.now ledger.now.state (record { blocked = record { step = taking.now.step; at = taking.now.at; by = taking.now.by }; hold = record { segment = taking.now.segment; span = taking.now.span } }) reasons) }
 {
-    let rows = occupancy(alloc, airport, ledger, segment)?;
+    let rows = occupancy(alloc, airport, ledger, taking.segment)?;
     let mut reasons = List::new(alloc);
-    reasons.push(Reason::Refused { step, at, by: *by })?;
-    push_held(&mut reasons, rows.as_slice(), span)?;
+    reasons.push(Reason::Refused {
+        step: taking.step,
+        at: taking.at,
+        by: taking.by,
+    })?;
+    push_held(&mut reasons, rows.as_slice(), taking.span)?;
     Ok(reasons)
 }
 

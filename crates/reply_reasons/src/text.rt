@@ -1,7 +1,6 @@
 //! The text of an explanation.
 ghost use Rattle.std.specs.Prelude.{◌≡◌, ◌++◌, ◌∷◌, [], codes, decimal, flat_map, IfOk, OnOk};
-ghost use Rattle.airport_file.specs.Words.{segment_word, word_of_arc};
-ghost use Rattle.certificate.specs.Texts.{line_text, and_word, and_words};
+ghost use Rattle.replies.specs.Texts.{line_text, and_word, and_words};
 ghost use Rattle.reply_reasons.specs.Text.{second_word, holder_words, reason_words, reason_line, reasons_text};
 
 use crate::reason::Reason;
@@ -9,7 +8,7 @@ use airport_file::Airport;
 use airport_words::{arc_text, segment_text};
 use itoa::Buffer;
 use std::alloc::Global;
-use taxi_base::{Arc, Memory, Name, Segment, Time};
+use taxi_base::{Memory, Name, Time};
 use taxi_text::push_bytes;
 
 /// The text of the lines, one after the other. The only error is that memory ran out.
@@ -45,14 +44,26 @@ fn write_line(out: &mut Vec<u8>, airport: &Airport, reason: &Reason) -> Result<(
             arc,
             seconds,
             holder,
-        } => write_wait(out, airport, *step, *arc, *seconds, holder),
+        } => write_wait(
+            out,
+            *step,
+            arc_text(airport, *arc).bytes(),
+            *seconds,
+            holder,
+        ),
         Reason::Refused { step, at, by } => write_refused(out, *step, *at, by),
         Reason::Held {
             from,
             until,
             holder,
             segment,
-        } => write_held(out, airport, *from, *until, holder, *segment),
+        } => write_held(
+            out,
+            *from,
+            *until,
+            holder,
+            segment_text(airport, *segment).bytes(),
+        ),
         Reason::Nothing => push_bytes(out, b"nothing to explain\n"),
     }
 }
@@ -112,17 +123,16 @@ fn write_delay(
 
 fn write_wait(
     out: &mut Vec<u8>,
-    airport: &Airport,
     step: u64,
-    arc: Arc,
+    arc: &[u8],
     seconds: Time,
     holder: &Option<Name>,
 ) -> Result<(), Memory>
-    ensures { OnOk result (out.new.items ≡ out.old.items ++ line_text (codes "wait" ∷ decimal step ∷ word_of_arc airport.now arc ∷ decimal seconds ∷ holder_words holder.now)) }
+    ensures { OnOk result (out.new.items ≡ out.old.items ++ line_text (codes "wait" ∷ decimal step ∷ arc.now ∷ decimal seconds ∷ holder_words holder.now)) }
 {
     push_bytes(out, b"wait")?;
     push_decimal(out, step)?;
-    push_word(out, arc_text(airport, arc).bytes())?;
+    push_word(out, arc)?;
     push_decimal(out, u64::from(seconds))?;
     push_holder(out, holder)?;
     push_bytes(out, b"\n")?;
@@ -143,19 +153,18 @@ fn write_refused(out: &mut Vec<u8>, step: u32, at: Time, by: &Name) -> Result<()
 
 fn write_held(
     out: &mut Vec<u8>,
-    airport: &Airport,
     from: Time,
     until: Time,
     holder: &Name,
-    segment: Segment,
+    segment: &[u8],
 ) -> Result<(), Memory>
-    ensures { OnOk result (out.new.items ≡ out.old.items ++ line_text (codes "held" ∷ decimal from ∷ decimal until ∷ holder.now ∷ segment_word airport.now segment ∷ [])) }
+    ensures { OnOk result (out.new.items ≡ out.old.items ++ line_text (codes "held" ∷ decimal from ∷ decimal until ∷ holder.now ∷ segment.now ∷ [])) }
 {
     push_bytes(out, b"held")?;
     push_decimal(out, u64::from(from))?;
     push_decimal(out, u64::from(until))?;
     push_word(out, holder.bytes())?;
-    push_word(out, segment_text(airport, segment).bytes())?;
+    push_word(out, segment)?;
     push_bytes(out, b"\n")?;
     Ok(())
 }

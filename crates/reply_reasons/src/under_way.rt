@@ -2,7 +2,7 @@
 ghost use Rattle.std.specs.Prelude.{◌≡◌, ◌<◌, ◌∷◌, [], None, length};
 ghost use Rattle.taxi_base.specs.State.{IsSound};
 ghost use Rattle.taxi_text.specs.declared.command.Command.TheVariants as command;
-ghost use Rattle.certificate.specs.Refusals.{first_of, not_routed, not_arrival, already_done, already_moving};
+ghost use Rattle.replies.specs.Refusals.{first_of, not_routed, not_arrival, already_done, already_moving};
 ghost use Rattle.commitments.specs.Book.{Fits};
 ghost use Rattle.reply_reasons.specs.Asking.{IsAskedBy, asking_on};
 

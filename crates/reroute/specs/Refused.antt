@@ -1,22 +1,13 @@
 -- Why is a flight not routed anew?
-use Rattle.std.specs.Prelude.{ℕ, Bool, true, false, ◌&&◌, nat_le, if◌then◌else◌, List, Option, Some, None, is_some}
+use Rattle.std.specs.Prelude.{ℕ, Bool, ◌&&◌, nat_le, if◌then◌else◌, List, Option, Some, None, is_some}
 use Rattle.std.specs.Option.{option_map_or}
 use Rattle.taxi_base.specs.declared.numbers.Node.{Node}
-use Rattle.taxi_base.specs.declared.answers.Request.{Request}
-use Rattle.taxi_base.specs.declared.answers.Request.TheVariants as request
 use Rattle.taxi_base.specs.declared.answers.Flight.{Flight}
 use Rattle.taxi_base.specs.Walks.{begin_of, end_of}
 use Rattle.taxi_base.specs.State.{flight_named}
+use Rattle.replies.specs.Refusals.{is_filed, is_departure}
 use Rattle.reroute.specs.declared.refused.RerouteRefused.{RerouteRefused}
 use Rattle.reroute.specs.declared.refused.RerouteRefused.TheVariants.{NotInForce, NotRouted, NotArrival, AlreadyDone, AlreadyMoving}
-
-abbrev pub is_filed : Request → Bool
-is_filed request.Filed = true
-is_filed _ = false
-
-abbrev pub is_departure : Request → Bool
-is_departure (request.Departure from to time queue) = true
-is_departure _ = false
 
 -- Of a flight in force, from a time on: a route given by hand is not searched for anew, only an arrival is led to another
 -- node, what has ended stays, and so does a departure that has begun. The first of these counts.

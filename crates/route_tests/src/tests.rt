@@ -1,9 +1,9 @@
 //! What no clause of the crates below says: that memory suffices, and answers that were worked out by hand.
 mod cells;
 mod ledger;
-mod replies;
 mod searches;
 mod windows;
+mod worked_lines;
 
 use airport_file::Airport;
 use airport_tests::{read_text, small_text};

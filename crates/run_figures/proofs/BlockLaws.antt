@@ -8,11 +8,11 @@ use Rattle.taxi_base.specs.declared.answers.Refusal.{Refusal}
 use Rattle.taxi_base.specs.declared.answers.Refusal.TheVariants as refusal
 use Rattle.taxi_base.specs.Airport.{Airport}
 use Rattle.taxi_text.specs.Words.{words_of}
-use Rattle.certificate.specs.declared.block.Block.{Block}
-use Rattle.certificate.specs.declared.block.Block.TheVariants.{Refused, Filed, Cancelled, Route, NoRoute, Windows, Occupancy, Timetable, Batch, Late}
-use Rattle.certificate.specs.declared.entries.Entry.{Entry}
-use Rattle.certificate.specs.Texts.{block_text, lines_text, refusal_words}
-use Rattle.certificate.specs.Printable.{IsPrintable}
+use Rattle.replies.specs.declared.block.Block.{Block}
+use Rattle.replies.specs.declared.block.Block.TheVariants.{Refused, Filed, Cancelled, Route, NoRoute, Windows, Occupancy, Timetable, Batch, Late}
+use Rattle.replies.specs.declared.entries.Entry.{Entry}
+use Rattle.replies.specs.Texts.{block_text, lines_text, refusal_words}
+use Rattle.replies.specs.Printable.{IsPrintable}
 use Rattle.run_figures.specs.declared.counting.Count.{Count}
 use Rattle.run_figures.specs.declared.counting.ReplyCounts.{ReplyCounts}
 use Rattle.run_figures.specs.Counts.{reply_word, entry_word, refusal_word, reply_kinds, entry_kinds, refusal_kinds, refusals_of, entries_of, tallied, AreCounts}

@@ -15,8 +15,8 @@ use Rattle.taxi_base.specs.declared.answers.Flight.{Flight}
 use Rattle.taxi_base.specs.Airport.{Airport}
 use Rattle.taxi_base.specs.Walks.{Conditions, IsFeasibleStep, IsFeasibleWalk, begin_of, end_of}
 use Rattle.taxi_base.specs.State.{State, conditions_of, IsSound}
-use Rattle.certificate.specs.declared.block.Block.{Block}
-use Rattle.certificate.specs.declared.block.Block.TheVariants.{Refused, Filed, Cancelled, Route, NoRoute, Windows, Occupancy, Timetable, Batch, Late}
+use Rattle.replies.specs.declared.block.Block.{Block}
+use Rattle.replies.specs.declared.block.Block.TheVariants.{Refused, Filed, Cancelled, Route, NoRoute, Windows, Occupancy, Timetable, Batch, Late}
 use Rattle.plan_table.specs.Rows.{least_for}
 use Rattle.run_figures.specs.Counts.{reply_word, refusal_word, step_word, reply_kinds, refusal_kinds, refusals_of, how_many}
 use Rattle.run_figures.specs.Flights.{is_of, taxied_by, least_by, sums_of, waits_of}

@@ -7,8 +7,8 @@ use Rattle.taxi_base.specs.declared.rows.FlightKind.TheVariants.{Filed, Arrival,
 use Rattle.taxi_base.specs.Airport.{Airport}
 use Rattle.taxi_base.specs.State.{State}
 use Rattle.airport_file.specs.Words.{class_word, segment_word}
-use Rattle.certificate.specs.declared.block.Block.{Block}
-use Rattle.certificate.specs.Texts.{kind_word}
+use Rattle.replies.specs.declared.block.Block.{Block}
+use Rattle.replies.specs.Texts.{kind_word}
 use Rattle.run_figures.specs.declared.counting.Count.{Count}
 use Rattle.run_figures.specs.declared.counting.ReplyCounts.{ReplyCounts}
 use Rattle.run_figures.specs.declared.flights.Sums.{Sums}

@@ -1,9 +1,9 @@
 -- How are counts kept? No public clause but that of a reply's text cites this file.
 use Rattle.std.specs.Prelude.{ℕ, ◌≡◌, ◌+◌, Bool, ◌||◌, List, bytes_eq, codes, if◌then◌else◌}
 use Rattle.taxi_base.specs.Airport.{Airport}
-use Rattle.certificate.specs.declared.block.Block.{Block}
-use Rattle.certificate.specs.Texts.{block_text}
-use Rattle.certificate.specs.Printable.{IsPrintable}
+use Rattle.replies.specs.declared.block.Block.{Block}
+use Rattle.replies.specs.Texts.{block_text}
+use Rattle.replies.specs.Printable.{IsPrintable}
 use Rattle.run_figures.specs.declared.counting.Count.{Count}
 use Rattle.run_figures.specs.Counts.{count_of}
 

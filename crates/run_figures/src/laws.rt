@@ -5,8 +5,8 @@ ghost use Rattle.taxi_base.specs.declared.rows.FlightKind.{FlightKind};
 ghost use Rattle.taxi_base.specs.declared.answers.Refusal.TheVariants.{Memory};
 ghost use Rattle.taxi_base.specs.Airport.{Airport};
 ghost use Rattle.taxi_base.specs.State.{State, IsSound};
-ghost use Rattle.certificate.specs.declared.block.Block.{Block};
-ghost use Rattle.certificate.specs.declared.block.Block.TheVariants.{Refused};
+ghost use Rattle.replies.specs.declared.block.Block.{Block};
+ghost use Rattle.replies.specs.declared.block.Block.TheVariants.{Refused};
 ghost use Rattle.run_figures.specs.Counts.{reply_word, refusal_word, reply_kinds, refusal_kinds, refusals_of, how_many};
 ghost use Rattle.run_figures.specs.Flights.{is_of, sums_of, waits_of};
 

@@ -3,8 +3,8 @@ ghost use Rattle.std.specs.Prelude.{◌≡◌, ◌<◌, ◌≤◌, ◌++◌, ◌
 ghost use Rattle.taxi_base.specs.Airport.{IsWellFormed};
 ghost use Rattle.taxi_base.specs.State.{IsSound};
 ghost use Rattle.airport_file.specs.Words.{class_word};
-ghost use Rattle.certificate.specs.declared.block.Block.{Block as PlainBlock};
-ghost use Rattle.certificate.specs.Texts.{kind_word};
+ghost use Rattle.replies.specs.declared.block.Block.{Block as PlainBlock};
+ghost use Rattle.replies.specs.Texts.{kind_word};
 ghost use Rattle.run_figures.specs.Counts.{AreCounts};
 ghost use Rattle.run_figures.specs.Busy.{busy_seconds, segment_in};
 ghost use Rattle.run_figures.specs.Figures.{counts_text, tallies_text, sums_text, shift_line, class_text, kind_text, holders_text, busy_text, IsFigures};

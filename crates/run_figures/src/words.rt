@@ -3,7 +3,7 @@ ghost use Rattle.std.specs.Prelude.{◌≡◌, ◌∷◌, List, ℕ};
 ghost use Rattle.taxi_text.specs.Words.{words_of};
 ghost use Rattle.run_figures.specs.Counts.{entry_word, refusal_word, step_word};
 
-use certificate::Entry;
+use replies::Entry;
 use taxi_base::{Refusal, StepCause};
 use taxi_text::words;
 

@@ -1,18 +1,16 @@
--- What windows have where a span is joined to them, and where the seconds of some spans are cut out one by one.
-use Rattle.std.proofs.Common.{◌≡◌, ℕ, zero, suc, ◌+◌, ◌<◌, ◌≤◌, Bool, true, false, ◌&&◌, ◌||◌, not, get_or, set, take, drop, List, [], ◌∷◌, ◌++◌, length, max, min, cond, inl, inr, IsTrue, refl, sym, ◌∙◌, ap, arith}
+-- What windows have where a span is joined to them.
+use Rattle.std.proofs.Common.{◌≡◌, ℕ, zero, suc, ◌+◌, ◌<◌, ◌≤◌, Bool, true, false, ◌&&◌, ◌||◌, not, get_or, set, take, drop, List, [], ◌∷◌, ◌++◌, length, max, min, cond, inl, inr, refl, sym, ◌∙◌, ap, arith}
 use Rattle.std.specs.Prelude.{nat_lt, nat_le}
 use Rattle.std.specs.List.{list_any, insert, remove}
 use Rattle.std.proofs.lemmas.Bool.{cases_lt, cond_both, cond-true, cond-false, ltb-true, ltb-false, lt-ltb, le-ltb}
 use Rattle.std.proofs.lemmas.Bool.Decides.{nat_tests}
 use Rattle.std.proofs.lemmas.List.{drop_more, drop_all, set_split}
-use Rattle.std.proofs.lemmas.List.Folds.{list_any_more}
 use Rattle.taxi_base.specs.declared.numbers.Segment.{Segment}
 use Rattle.taxi_base.specs.declared.rows.Span.{Span}
 use Rattle.taxi_base.specs.Windows.{Hold, blocks, span_has, covers, AreApart}
 use Rattle.taxi_base.proofs.WindowsMade.{AreApart-lower}
 use Rattle.conflict_sets.specs.Conflicts.{AreConflicts}
 use Rattle.held_spans.specs.Holds.{held_at}
-use Rattle.segment_windows.specs.Cuts.{AreCut}
 use Rattle.segment_windows.specs.Joins.{joined, hull, AreRid, AreGivenBack}
 use Rattle.segment_windows.proofs.GapLaws.{held_in_all}
 
@@ -141,56 +139,6 @@ pub joined-all : (all now new : List Span) (place : ℕ) (whole : Span) → plac
     → all ≡ take place now ++ joined whole (drop place now) → new ≡ insert now place whole → new ≡ all
 joined-all all now new place whole few later same put =
     put ∙ insert-parts now place whole few ∙ ap (λ l. take place now ++ l) (sym (joined-rest now place whole later)) ∙ sym same
-
--- ---- cut out one by one
-
--- what counts of a test is what it says within the span
-within-same : (in_span a b : Bool) → (IsTrue in_span → a ≡ b) → (in_span && a) ≡ (in_span && b)
-within-same true a b same = same refl
-within-same false a b same = refl
-
-none-gone : (have in_span : Bool) → have ≡ (have && not (in_span && false))
-none-gone true true = refl
-none-gone true false = refl
-none-gone false in_span = refl
-
-pub rid-none : (span : Span) (windows : List Span) → AreApart 0 windows → AreRid (λ t. span_has span t && false) windows windows
-rid-none span windows apart = record { apart = apart; seconds = λ t. none-gone (covers windows t) (span_has span t) }
-
-both-gone : (have in_span first second : Bool) → ((have && not (in_span && first)) && not (in_span && second)) ≡ (have && not (in_span && (first || second)))
-both-gone false in_span first second = refl
-both-gone true false first second = refl
-both-gone true true true second = refl
-both-gone true true false second = refl
-
--- what some have of a span, and then what more have of it
-pub rid-more : (span : Span) (first second all : ℕ → Bool) (old now new : List Span) → ((t : ℕ) → all t ≡ (first t || second t)) → AreRid (λ t. span_has span t && first t) old now
-    → AreApart 0 new → ((t : ℕ) → covers new t ≡ (covers now t && not (span_has span t && second t))) → AreRid (λ t. span_has span t && all t) old new
-rid-more span first second all old now new is before apart then = record {
-  apart = apart;
-  seconds = λ t.
-      then t ∙ ap (λ b. b && not (span_has span t && second t)) (before.seconds t) ∙ both-gone (covers old t) (span_has span t) (first t) (second t)
-      ∙ ap (λ b. covers old t && not (span_has span t && b)) (sym (is t));
-}
-
--- one more span of some
-pub cut-next : (span held part : Span) (spans : List Span) (i : ℕ) (d : Span) (old now new : List Span) → i < length spans → get_or spans i d ≡ held
-    → ((t : ℕ) → span_has part t ≡ (span_has span t && span_has held t)) → AreRid (λ t. span_has span t && covers (take i spans) t) old now → AreCut true part now new
-    → AreRid (λ t. span_has span t && covers (take (i + 1) spans) t) old new
-cut-next span held part spans i d old now new on is common before cut =
-    rid-more span (covers (take i spans)) (span_has held) (covers (take (i + 1) spans)) old now new
-    (λ t. list_any_more (λ w. span_has w t) spans i d on ∙ ap (λ w. covers (take i spans) t || span_has w t) is) before cut.apart
-    (λ t. cut.seconds t ∙ ap (λ b. covers now t && not b) (common t))
-
--- what one more segment is held for
-pub segment-next : (span : Span) (holds : List Hold) (segments : List Segment) (i : ℕ) (d : Segment) (spans old now new : List Span) → i < length segments
-    → ((t : ℕ) → IsTrue (span_has span t) → covers spans t ≡ held_at holds (get_or segments i d) t)
-    → AreRid (λ t. span_has span t && list_any (λ s. held_at holds s t) (take i segments)) old now → AreRid (λ t. span_has span t && covers spans t) now new
-    → AreRid (λ t. span_has span t && list_any (λ s. held_at holds s t) (take (i + 1) segments)) old new
-segment-next span holds segments i d spans old now new on held before rid =
-    rid-more span (λ t. list_any (λ s. held_at holds s t) (take i segments)) (held_at holds (get_or segments i d)) (λ t. list_any (λ s. held_at holds s t) (take (i + 1) segments)) old now new
-    (λ t. list_any_more (λ s. held_at holds s t) segments i d on) before rid.apart
-    (λ t. rid.seconds t ∙ ap (λ b. covers now t && not b) (within-same (span_has span t) (covers spans t) (held_at holds (get_or segments i d) t) (held t)))
 
 -- ---- given back
 

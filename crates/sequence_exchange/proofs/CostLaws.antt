@@ -1,8 +1,7 @@
 -- What is due costs no less than nothing, so costs are whole seconds; and they are the same, by the wish at an entry's place and by that of its name.
-use Rattle.std.proofs.Common.{◌≡◌, ◌∙◌, ℕ, ◌+◌, ◌-◌, ◌*◌, ◌≤◌, ◌<◌, suc, List, [], ◌∷◌, ◌++◌, length, drop, get_or, drop-cons, refl, ap, subst, arith, Some}
+use Rattle.std.proofs.Common.{◌≡◌, ◌∙◌, ℕ, ◌+◌, ◌-◌, ◌*◌, ◌≤◌, List, [], ◌∷◌, ◌++◌, length, drop, refl, ap, subst, arith, Some}
 use Rattle.std.specs.Prelude.{All, pos}
 use Rattle.std.proofs.lemmas.Int.{ints}
-use Rattle.std.proofs.lemmas.List.{drop_all}
 use Rattle.std.proofs.lemmas.List.Elements.{All-head, All-tail}
 use Rattle.taxi_base.specs.declared.rows.Step.{Step}
 use Rattle.taxi_base.specs.declared.rows.LabelRow.{LabelRow}
@@ -15,15 +14,15 @@ use Rattle.taxi_base.specs.Walks.{Conditions, IsFeasibleWalk, Meets, begin_of, e
 use Rattle.taxi_base.specs.State.{State, with_flight}
 use Rattle.taxi_base.specs.Faults.{conditions_in}
 use Rattle.taxi_base.proofs.WalkLaws.{IsSomeAnd-value}
-use Rattle.certificate.specs.declared.entries.Entry.{Entry}
-use Rattle.certificate.specs.declared.entries.Entry.TheVariants as entry
-use Rattle.certificate.specs.declared.wish.Wish.{Wish}
-use Rattle.certificate.specs.declared.block.Block.TheVariants.{Route}
-use Rattle.certificate.specs.Printable.{IsShort}
-use Rattle.certificate.specs.Asked.{AnswersRequest}
-use Rattle.certificate.specs.Routed.{IsOf, second_of, found_reply, routed_flight}
-use Rattle.certificate.specs.Batches.{IsServedAs, IsServed, cost_of, cost_among, total_of, wish_named}
-use Rattle.certificate.proofs.FoundLaws.{found-meets, walk-end}
+use Rattle.replies.specs.declared.entries.Entry.{Entry}
+use Rattle.replies.specs.declared.entries.Entry.TheVariants as entry
+use Rattle.replies.specs.declared.wish.Wish.{Wish}
+use Rattle.replies.specs.declared.block.Block.TheVariants.{Route}
+use Rattle.replies.specs.Printable.{IsShort}
+use Rattle.replies.specs.Asked.{AnswersRequest}
+use Rattle.replies.specs.Routed.{IsOf, second_of, found_reply, routed_flight}
+use Rattle.replies.specs.Batches.{IsServedAs, IsServed, cost_of, cost_among, total_of, wish_named}
+use Rattle.replies.proofs.FoundLaws.{found-meets, walk-end}
 use Rattle.sequence_exchange.specs.Serving.{IsShortRequest, IsFairFor, AreFairFor, seconds_lost, all_seconds_lost}
 use Rattle.sequence_exchange.proofs.ServedLaws.{Told}
 
@@ -166,34 +165,3 @@ pub record IsCounting (wishes : List Wish) (entries : List Told) (place total : 
   pub whole : total + all_seconds_lost (drop place wishes) (drop place entries) ≡ all_seconds_lost wishes entries
   pub fair : AreFairFor (drop place wishes) (drop place entries)
   pub few : total ≤ place * 9999999
-
-module _ (wishes : List Wish) (entries : List Told) (place total : ℕ) (counting : IsCounting wishes entries place total) (d : Wish) (e : Told)
-    (here : place < length wishes) (there : place < length entries) where
-  next-fair : IsFairFor (get_or wishes place d).request (get_or entries place e).1 × AreFairFor (drop (suc place) wishes) (drop (suc place) entries)
-  next-fair = rw (drop-cons wishes place d, drop-cons entries place e) at counting.fair
-
-  next-seconds : all_seconds_lost (drop place wishes) (drop place entries)
-      ≡ seconds_lost (get_or wishes place d).request (get_or entries place e).1 + all_seconds_lost (drop (suc place) wishes) (drop (suc place) entries)
-  next-seconds = rw (drop-cons wishes place d, drop-cons entries place e) refl
-
-  pub counting-fair : IsFairFor (get_or wishes place d).request (get_or entries place e).1
-  counting-fair = next-fair.0
-
-  pub counting-short : IsShort (seconds_lost (get_or wishes place d).request (get_or entries place e).1)
-  counting-short = seconds-short (get_or wishes place d).request (get_or entries place e).1 counting-fair
-
-  pub counting-next : (next cost : ℕ) → next ≡ suc place → cost ≡ seconds_lost (get_or wishes place d).request (get_or entries place e).1 → IsCounting wishes entries next (total + cost)
-  counting-next next cost is cost_is = rw is (record {
-    whole = omega (arith, counting.whole, next-seconds, cost_is);
-    fair = next-fair.1;
-    few = omega (arith, counting.few, counting-short, cost_is);
-  })
-
-pub counting-first : (wishes : List Wish) (entries : List Told) → AreFairFor wishes entries → IsCounting wishes entries 0 0
-counting-first wishes entries fair = record { whole = omega arith; fair = fair; few = omega arith }
-
-pub counting-last : (wishes : List Wish) (entries : List Told) (place total : ℕ) → IsCounting wishes entries place total → length wishes ≤ place → total ≡ all_seconds_lost wishes entries
-counting-last wishes entries place total counting over =
-    let none : drop place wishes ≡ [] = drop_all place wishes over in
-    let nothing : all_seconds_lost (drop place wishes) (drop place entries) ≡ 0 = rw none refl in
-    omega (arith, counting.whole, nothing)

@@ -1,12 +1,10 @@
 -- One exchange: what stands before the place is kept, what stands from it on is served in the exchanged order, and put back where that is not cheaper.
 use Rattle.std.proofs.Common.{◌≡◌, ◌∙◌, ℕ, ◌+◌, ◌≤◌, ◌<◌, zero, suc, List, [], ◌∷◌, ◌++◌, length, take, drop, sym, ap, subst, arith}
-use Rattle.std.specs.Prelude.{All}
 use Rattle.std.proofs.lemmas.List.{take-append-drop, length-take, length-drop}
-use Rattle.std.proofs.lemmas.List.Elements.{All-tail}
 use Rattle.taxi_base.specs.Airport.{Airport, IsWellFormed}
 use Rattle.taxi_base.specs.State.{State, holder_count}
-use Rattle.certificate.specs.declared.wish.Wish.{Wish}
-use Rattle.certificate.specs.Batches.{IsServed, exchanged}
+use Rattle.replies.specs.declared.wish.Wish.{Wish}
+use Rattle.replies.specs.Batches.{IsServed, exchanged}
 use Rattle.sequence_exchange.specs.declared.order.Order.{Order}
 use Rattle.sequence_exchange.specs.Serving.{IsShortRequest, AreNew, AreFairFor, all_seconds_lost}
 use Rattle.sequence_exchange.specs.Orders.{CanBeServed, IsTotal, IsServedFrom, IsTakenOut, IsExchanged, IsKept}
@@ -15,11 +13,6 @@ use Rattle.sequence_exchange.proofs.OrderLaws.{exchanged-length, exchanged-befor
 use Rattle.sequence_exchange.proofs.NewLaws.{AreNew-exchanged, AreNew-take}
 use Rattle.sequence_exchange.proofs.CostLaws.{IsServed-fair, all_seconds-append}
 use Rattle.sequence_exchange.proofs.UndoneLaws.{AreNew-rest, count-rest}
-
-All-dropped : {X : Type 0} (P : X → Type 0) (k : ℕ) (xs : List X) → All P xs → All P (drop k xs)
-All-dropped P zero xs all = all
-All-dropped P (suc k) [] all = all
-All-dropped P (suc k) (x ∷ xs) all = All-dropped P k xs (All-tail P x xs all)
 
 can_be-exchanged : (before : State) (k : ℕ) (wishes : List Wish) → CanBeServed before wishes → CanBeServed before (exchanged k wishes)
 can_be-exchanged before k wishes can = record {
@@ -77,11 +70,6 @@ module _ (airport : Airport) (well : IsWellFormed airport) (before : State) (pla
   pub rest-few : holder_count mid + length (drop place (exchanged place order.wishes.items)) ≤ 4096
   rest-few =
       omega (arith, count-rest airport place before (exchanged place order.wishes.items) (take place order.entries.items) mid front_others, exchanged-length place order.wishes.items, taken.whole.can_be.few)
-
-  pub rest-asked : All (λ w. IsShortRequest w.request) (drop place (exchanged place order.wishes.items))
-  rest-asked =
-      All-dropped (λ (w : Wish). IsShortRequest w.request) place (exchanged place order.wishes.items)
-      (exchanged-All (λ (w : Wish). IsShortRequest w.request) place order.wishes.items taken.whole.can_be.asked)
 
   -- and the old ones again
   pub old-new : AreNew mid (drop place order.wishes.items)

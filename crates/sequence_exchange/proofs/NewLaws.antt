@@ -1,5 +1,5 @@
 -- New flights: those that are not yet served stay new while others are served, and what was served is taken out by its name.
-use Rattle.std.proofs.Common.{◌≡◌, ◌≢◌, ◌∙◌, ℕ, ◌+◌, ◌≤◌, zero, suc, List, [], ◌∷◌, take, drop, refl, sym, ap, subst, arith, IsFalse, IsTrue, Option, Some, None, is_some, inl, inr}
+use Rattle.std.proofs.Common.{◌≡◌, ◌≢◌, ◌∙◌, ℕ, ◌+◌, ◌≤◌, zero, suc, List, [], ◌∷◌, take, refl, sym, ap, subst, arith, IsFalse, IsTrue, Option, Some, None, is_some, inl, inr}
 use Rattle.std.specs.Prelude.{All, bytes_eq, IfSome, IfNone}
 use Rattle.std.specs.Cmp.Lexicographic.{bytes_decides}
 use Rattle.std.proofs.lemmas.Bool.{cases_Bool, or_parts, or_from, both_ways}
@@ -11,12 +11,12 @@ use Rattle.taxi_base.proofs.NameLaws.{differ-turned, All-put_in, length-put_in}
 use Rattle.taxi_base.proofs.NamedLists as lists
 use Rattle.taxi_base.proofs.FlightNames.{differ}
 use Rattle.taxi_base.proofs.StateLaws.{no_holder-flights}
-use Rattle.certificate.specs.declared.entries.Entry.{Entry}
-use Rattle.certificate.specs.declared.entries.Entry.TheVariants as entry
-use Rattle.certificate.specs.declared.wish.Wish.{Wish}
-use Rattle.certificate.specs.Routed.{routed_flight}
-use Rattle.certificate.specs.Batches.{exchanged, EndsAt, settled, exchanging}
-use Rattle.certificate.proofs.FlightLaws.{without-none}
+use Rattle.replies.specs.declared.entries.Entry.{Entry}
+use Rattle.replies.specs.declared.entries.Entry.TheVariants as entry
+use Rattle.replies.specs.declared.wish.Wish.{Wish}
+use Rattle.replies.specs.Routed.{routed_flight}
+use Rattle.replies.specs.Batches.{exchanged, EndsAt, settled, exchanging}
+use Rattle.replies.proofs.FlightLaws.{without-none}
 use Rattle.sequence_exchange.specs.Serving.{AreNew}
 use Rattle.sequence_exchange.proofs.ServedLaws.{after_entry}
 use Rattle.sequence_exchange.proofs.OrderLaws.{exchanged-All}
@@ -145,11 +145,6 @@ AreNew-take state zero wishes new = tt
 AreNew-take state (suc k) [] new = new
 AreNew-take state (suc k) (wish ∷ wishes) new =
     (new.0, All-taken (λ (o : Wish). IsFalse (bytes_eq o.name wish.name)) k wishes new.1, AreNew-take state k wishes new.2)
-
-pub AreNew-drop : (state : State) (k : ℕ) (wishes : List Wish) → AreNew state wishes → AreNew state (drop k wishes)
-AreNew-drop state zero wishes new = new
-AreNew-drop state (suc k) [] new = new
-AreNew-drop state (suc k) (wish ∷ wishes) new = AreNew-drop state k wishes new.2
 
 -- ---- in the order at which the exchange ends
 

@@ -3,7 +3,7 @@ use Rattle.std.proofs.Common.{◌≡◌, ◌∙◌, ℕ, ◌+◌, ◌<◌, zero,
 use Rattle.std.specs.Prelude.{All, swap}
 use Rattle.std.proofs.lemmas.List.{take-append-drop}
 use Rattle.std.proofs.lemmas.List.Elements.{All-head, All-tail, All-cons}
-use Rattle.certificate.specs.Batches.{exchanged}
+use Rattle.replies.specs.Batches.{exchanged}
 
 module _ {X : Type 0} where
   pub exchanged-length : (k : ℕ) (xs : List X) → length (exchanged k xs) ≡ length xs

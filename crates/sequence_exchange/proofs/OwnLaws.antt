@@ -5,8 +5,8 @@ use Rattle.std.specs.Cmp.Lexicographic.{bytes_decides}
 use Rattle.std.proofs.lemmas.List.Elements.{All-head, All-tail, All-cons, All-nil}
 use Rattle.taxi_base.specs.State.{State}
 use Rattle.taxi_base.proofs.NameLaws.{differ-turned}
-use Rattle.certificate.specs.declared.wish.Wish.{Wish}
-use Rattle.certificate.specs.Batches.{wish_named}
+use Rattle.replies.specs.declared.wish.Wish.{Wish}
+use Rattle.replies.specs.Batches.{wish_named}
 use Rattle.sequence_exchange.specs.Serving.{AreNew}
 use Rattle.sequence_exchange.proofs.CostLaws.{AreOwn}
 

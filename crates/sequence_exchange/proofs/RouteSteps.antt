@@ -7,7 +7,7 @@ use Rattle.taxi_base.specs.declared.answers.Request.{Request}
 use Rattle.taxi_base.specs.Airport.{IsWellFormed, arc_exists, layout_of}
 use Rattle.taxi_base.specs.Walks.{Conditions, IsFeasibleStep, Meets}
 use Rattle.taxi_base.proofs.WalkLaws.{Meets-IsFeasibleWalk, IsFeasibleWalk-steps}
-use Rattle.certificate.proofs.FoundLaws.{walk-few, walk-some}
+use Rattle.replies.proofs.FoundLaws.{walk-few}
 
 module _ (c : Conditions) (request : Request) (steps : List Step) where
   pub met-arcs : Meets c request steps → All (λ s. IsTrue (arc_exists (layout_of c.airport) s.arc)) steps
@@ -16,6 +16,3 @@ module _ (c : Conditions) (request : Request) (steps : List Step) where
 
   pub met-few : IsWellFormed c.airport → Meets c request steps → length steps < 2 ^ 32
   met-few rules met = omega (arith, walk-few c rules steps (Meets-IsFeasibleWalk c request steps met), rules.horizon.1)
-
-  pub met-some : Meets c request steps → 0 < length steps
-  met-some met = walk-some c steps (Meets-IsFeasibleWalk c request steps met)

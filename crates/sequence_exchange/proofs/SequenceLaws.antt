@@ -5,8 +5,8 @@ use Rattle.std.proofs.lemmas.Bool.{cases_lt}
 use Rattle.std.proofs.lemmas.Int.{ints}
 use Rattle.taxi_base.specs.Airport.{Airport}
 use Rattle.taxi_base.specs.State.{State}
-use Rattle.certificate.specs.declared.wish.Wish.{Wish}
-use Rattle.certificate.specs.Batches.{exchanged, ComesTo, IsCheaper, IsAsCheap, EndsAt, settled, exchanging, IsSequenced, wish_named}
+use Rattle.replies.specs.declared.wish.Wish.{Wish}
+use Rattle.replies.specs.Batches.{exchanged, ComesTo, IsCheaper, IsAsCheap, EndsAt, settled, exchanging, IsSequenced, wish_named}
 use Rattle.commitments.specs.Book.{Book, Fits}
 use Rattle.sequence_exchange.specs.declared.order.Order.{Order}
 use Rattle.sequence_exchange.specs.Serving.{AreNew}

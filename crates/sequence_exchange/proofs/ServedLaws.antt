@@ -7,12 +7,12 @@ use Rattle.taxi_base.specs.declared.answers.Found.{Found}
 use Rattle.taxi_base.specs.declared.answers.Found.TheVariants as found
 use Rattle.taxi_base.specs.Airport.{Airport}
 use Rattle.taxi_base.specs.State.{State, with_flight}
-use Rattle.certificate.specs.declared.entries.Entry.{Entry}
-use Rattle.certificate.specs.declared.entries.Entry.TheVariants as entry
-use Rattle.certificate.specs.declared.wish.Wish.{Wish}
-use Rattle.certificate.specs.declared.block.Block.TheVariants.{Route, NoRoute}
-use Rattle.certificate.specs.Routed.{IsOf, found_reply, routed_flight}
-use Rattle.certificate.specs.Batches.{IsServedAs, IsServed}
+use Rattle.replies.specs.declared.entries.Entry.{Entry}
+use Rattle.replies.specs.declared.entries.Entry.TheVariants as entry
+use Rattle.replies.specs.declared.wish.Wish.{Wish}
+use Rattle.replies.specs.declared.block.Block.TheVariants.{Route, NoRoute}
+use Rattle.replies.specs.Routed.{IsOf, found_reply, routed_flight}
+use Rattle.replies.specs.Batches.{IsServedAs, IsServed}
 
 abbrev pub Told : Type 0
 Told = List ℕ × Entry
@@ -76,6 +76,3 @@ module _ (airport : Airport) where
   IsServed-split (suc k) state (wish ∷ wishes) (told ∷ entries) after served =
       let rest = IsServed-split k served.0 wishes entries after served.2 in
       (rest.0, (served.0, served.1, rest.1), rest.2)
-
-  pub IsServed-single : (state : State) (wish : Wish) (told : Told) (after : State) → IsServedAs airport state wish told after → IsServed airport state (wish ∷ []) (told ∷ []) after
-  IsServed-single state wish told after served = (after, served, refl)

@@ -2,7 +2,7 @@
 use Rattle.std.proofs.Common.{◌≡◌, ◌∙◌, ℕ, ◌+◌, ◌≤◌, ◌<◌, suc, List, [], ◌∷◌, ◌++◌, length, take, drop, get_or, drop-cons, refl, sym, ap, subst, arith, IsFalse, true, false, None}
 use Rattle.std.specs.Prelude.{Result, Ok, Err, OnOk, OnErr, is_err}
 use Rattle.std.proofs.Math.Seq.{take-suc}
-use Rattle.std.proofs.lemmas.List.{take_all, drop_all, length-drop}
+use Rattle.std.proofs.lemmas.List.{length-drop}
 use Rattle.taxi_base.specs.declared.rows.Step.{Step}
 use Rattle.taxi_base.specs.declared.rows.LabelRow.{LabelRow}
 use Rattle.taxi_base.specs.declared.answers.Found.{Found}
@@ -11,18 +11,18 @@ use Rattle.taxi_base.specs.Airport.{Airport}
 use Rattle.taxi_base.specs.Walks.{Meets}
 use Rattle.taxi_base.specs.Faults.{conditions_in}
 use Rattle.taxi_base.specs.State.{State, with_flight, has_holder, holder_count}
-use Rattle.certificate.specs.declared.entries.Entry.{Entry}
-use Rattle.certificate.specs.declared.entries.Entry.TheVariants as entry
-use Rattle.certificate.specs.declared.wish.Wish.{Wish}
-use Rattle.certificate.specs.Asked.{AnswersRequest}
-use Rattle.certificate.specs.declared.block.Block.TheVariants.{Route}
-use Rattle.certificate.specs.Routed.{second_of, found_reply, routed_flight}
-use Rattle.certificate.specs.Batches.{IsServedAs, IsServed}
-use Rattle.certificate.proofs.FoundLaws.{found-meets}
-use Rattle.certificate.proofs.ServedLaws.{served-by}
+use Rattle.replies.specs.declared.entries.Entry.{Entry}
+use Rattle.replies.specs.declared.entries.Entry.TheVariants as entry
+use Rattle.replies.specs.declared.wish.Wish.{Wish}
+use Rattle.replies.specs.Asked.{AnswersRequest}
+use Rattle.replies.specs.declared.block.Block.TheVariants.{Route}
+use Rattle.replies.specs.Routed.{found_reply, routed_flight}
+use Rattle.replies.specs.Batches.{IsServedAs, IsServed}
+use Rattle.replies.proofs.FoundLaws.{found-meets}
+use Rattle.replies.proofs.ServedLaws.{served-by}
 use Rattle.commitments.specs.Book.{Book, Fits}
 use Rattle.sequence_exchange.specs.Serving.{AreNew}
-use Rattle.sequence_exchange.proofs.ServedLaws.{Told, IsServed-length, IsServed-append}
+use Rattle.sequence_exchange.proofs.ServedLaws.{Told, IsServed-append}
 use Rattle.sequence_exchange.proofs.UndoneLaws.{AreNew-rest, count-rest}
 
 -- what an answer that is no error ensures
@@ -37,16 +37,6 @@ is-err (Err e) some p = p
 
 module _ (airport : Airport) where
   -- ---- one flight
-
-  -- a route that is found is served, and so is that there is none
-  pub route-served : (state : State) (wish : Wish) (second : ℕ) (steps : List Step) (labels : List LabelRow) (after : State)
-      → AnswersRequest (conditions_in airport wish.class state) wish.request (found.Route steps labels) → second ≡ second_of wish.request steps
-      → after ≡ with_flight (routed_flight wish.name wish.class wish.request steps) state → IsServedAs airport state wish (wish.name, entry.Route second steps labels) after
-  route-served state wish second steps labels after answers told is = rw told (refl, record { found = found.Route steps labels; answers = answers; reply = (refl, is) })
-
-  pub no_route-served : (state : State) (wish : Wish) (labels : List LabelRow) (after : State) → AnswersRequest (conditions_in airport wish.class state) wish.request (found.NoRoute labels)
-      → after ≡ state → IsServedAs airport state wish (wish.name, entry.NoRoute labels) after
-  no_route-served state wish labels after answers is = (refl, record { found = found.NoRoute labels; answers = answers; reply = (refl, is) })
 
   -- its route does what was asked
   pub served-met : (state : State) (wish : Wish) (name : List ℕ) (second : ℕ) (steps : List Step) (labels : List LabelRow) (after : State)
@@ -85,9 +75,6 @@ module _ (airport : Airport) where
     pub unlifted : book.lifted ≡ None
     pub fits : Fits airport book
 
-  pub serving-first : (wishes : List Wish) (entries : List Told) (book : Book) → entries ≡ [] → book.lifted ≡ None → Fits airport book → IsServing wishes entries 0 book.state book
-  serving-first wishes entries book none unlifted fits = rw none (record { served = refl; unlifted = unlifted; fits = fits })
-
   pub serving-next : (wishes : List Wish) (entries more : List Told) (place next : ℕ) (now : State) (old new : Book) (wish : Wish) (told : Entry) → next ≡ suc place → place < length wishes
       → wish ≡ get_or wishes place wish → IsServing wishes entries place now old → IsServedAs airport old.state wish (wish.name, told) new.state → more ≡ entries ++ (wish.name, told) ∷ []
       → new.lifted ≡ None → Fits airport new → IsServing wishes more next now new
@@ -98,10 +85,6 @@ module _ (airport : Airport) where
     fits = fits;
   })
 
-  pub serving-last : (wishes : List Wish) (entries : List Told) (place : ℕ) (now : State) (book : Book) → IsServing wishes entries place now book → length wishes ≤ place
-      → IsServed airport now wishes entries book.state
-  serving-last wishes entries place now book serving over = rw (take_all place wishes over) at serving.served
-
   -- ---- all of them again
 
   pub record IsPuttingBack (wishes : List Wish) (entries : List Told) (place : ℕ) (now : State) (book : Book) : Type 0 where
@@ -109,9 +92,6 @@ module _ (airport : Airport) where
     pub later : (after : State) → IsServed airport now wishes entries after → IsServed airport book.state (drop place wishes) (drop place entries) after
     pub unlifted : book.lifted ≡ None
     pub fits : Fits airport book
-
-  pub putting-first : (wishes : List Wish) (entries : List Told) (book : Book) → book.lifted ≡ None → Fits airport book → IsPuttingBack wishes entries 0 book.state book
-  putting-first wishes entries book unlifted fits = record { served = refl; later = λ after served. served; unlifted = unlifted; fits = fits }
 
   module _ (wishes : List Wish) (entries : List Told) (place : ℕ) (now : State) (book : Book) (putting : IsPuttingBack wishes entries place now book) (wish : Wish) (told : Told)
       (low : place < length wishes) (there : place < length entries) (at_place : wish ≡ get_or wishes place wish) (here : told ≡ get_or entries place told) where
@@ -131,9 +111,6 @@ module _ (airport : Airport) where
         let named : told.0 ≡ wish.name = (served-by airport book.state wish told later.0 told_as).named in
         record { mid = later.0; told_as = told_as; named_as = subst (λ (n : List ℕ). IsServedAs airport book.state wish (n, told.1) later.0) named told_as; rest = later.2 }
 
-    pub putting-served : (after : State) → IsServed airport now wishes entries after → (mid : State) × IsServedAs airport book.state wish (wish.name, told.1) mid
-    putting-served after served = let next = putting-as after served in (next.mid, next.named_as)
-
     pub putting-next : (next : ℕ) (new : Book) (after : State) → next ≡ suc place → IsServed airport now wishes entries after
         → ((mid : State) → IsServedAs airport book.state wish (wish.name, told.1) mid → new.state ≡ mid) → new.lifted ≡ None → Fits airport new
         → IsPuttingBack wishes entries next now new
@@ -151,9 +128,3 @@ module _ (airport : Airport) where
           unlifted = unlifted;
           fits = fits;
         })
-
-  pub putting-last : (wishes : List Wish) (entries : List Told) (place : ℕ) (now : State) (book : Book) → IsPuttingBack wishes entries place now book → length wishes ≤ place
-      → (after : State) → IsServed airport now wishes entries after → book.state ≡ after
-  putting-last wishes entries place now book putting over after served =
-      let same : length entries ≡ length wishes = IsServed-length airport now wishes entries after served in
-      sym (rw (drop_all place wishes over, drop_all place entries (omega (arith, same, over))) at (putting.later after served))

@@ -6,15 +6,15 @@ use Rattle.std.proofs.lemmas.List.Sorted.{All-permutation, length_permutation}
 use Rattle.taxi_base.specs.Airport.{Airport}
 use Rattle.taxi_base.specs.State.{State, has_holder, holder_count, IsSound}
 use Rattle.taxi_base.proofs.StateLaws.{IsSound-with_flight}
-use Rattle.certificate.specs.declared.entries.Entry.{Entry}
-use Rattle.certificate.specs.declared.entries.Entry.TheVariants as entry
-use Rattle.certificate.specs.declared.wish.Wish.{Wish}
-use Rattle.certificate.specs.Printable.{IsName}
-use Rattle.certificate.specs.Replies.{HaveNames}
-use Rattle.certificate.specs.Routed.{routed_flight}
-use Rattle.certificate.specs.Batches.{IsServedAs, IsServed, IsSequenced}
-use Rattle.certificate.proofs.HolderNames.{with_flight-names}
-use Rattle.certificate.proofs.OrderLaws.{ends-permutation}
+use Rattle.replies.specs.declared.entries.Entry.{Entry}
+use Rattle.replies.specs.declared.entries.Entry.TheVariants as entry
+use Rattle.replies.specs.declared.wish.Wish.{Wish}
+use Rattle.replies.specs.Printable.{IsName}
+use Rattle.replies.specs.Replies.{HaveNames}
+use Rattle.replies.specs.Routed.{routed_flight}
+use Rattle.replies.specs.Batches.{IsServedAs, IsServed, IsSequenced}
+use Rattle.replies.proofs.HolderNames.{with_flight-names}
+use Rattle.replies.proofs.OrderLaws.{ends-permutation}
 use Rattle.sequence_exchange.specs.Serving.{AreNew}
 use Rattle.sequence_exchange.proofs.ServedLaws.{Told, after_entry, IsServedAs-after}
 use Rattle.sequence_exchange.proofs.NewLaws.{AreNew-after, count-after, AreNew-ends}

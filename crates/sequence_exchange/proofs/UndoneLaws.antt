@@ -5,9 +5,9 @@ use Rattle.std.proofs.lemmas.List.{take_all}
 use Rattle.taxi_base.specs.declared.answers.Flight.{Flight}
 use Rattle.taxi_base.specs.Airport.{Airport}
 use Rattle.taxi_base.specs.State.{State, flight_named, without, holder_count}
-use Rattle.certificate.specs.declared.wish.Wish.{Wish}
-use Rattle.certificate.specs.Batches.{IsServedAs, IsServed}
-use Rattle.certificate.proofs.ServedLaws.{served-by}
+use Rattle.replies.specs.declared.wish.Wish.{Wish}
+use Rattle.replies.specs.Batches.{IsServedAs, IsServed}
+use Rattle.replies.proofs.ServedLaws.{served-by}
 use Rattle.commitments.specs.Book.{Book, Fits}
 use Rattle.sequence_exchange.specs.Serving.{AreNew}
 use Rattle.sequence_exchange.proofs.ServedLaws.{Told, after_entry, IsServedAs-after, IsServed-length}
@@ -105,9 +105,3 @@ module _ (airport : Airport) where
     under before (wish ∷ wishes) are_new low served =
         undone-one k before (wish ∷ wishes) entries old.state new.state wish told o low are_new served (subst (λ (t : Told). o ≡ flight_named t.0 old.state.flights) here found)
         (subst (λ (t : Told). IfSome o (λ _. new.state ≡ without t.0 old.state)) here gone) (as_before o kept)
-
-  pub undoing-last : (entries : List Told) (left : ℕ) (now : State) (book : Book) → IsUndoing entries left now book → left ≤ 0 → (before : State) (wishes : List Wish) → AreNew before wishes
-      → IsServed airport before wishes entries now → book.state ≡ before
-  undoing-last entries left now book undoing none before wishes new served =
-      let zero_left : left ≡ 0 = omega (arith, none) in
-      rw zero_left at (undoing.under before wishes new served)

@@ -2,7 +2,7 @@
 ghost use Rattle.std.specs.Prelude.{◌≡◌, ◌≤◌, length};
 ghost use Rattle.sequence_exchange.specs.Serving.{IsFairFor, AreFairFor, seconds_lost, all_seconds_lost};
 
-use certificate::{Entry, Wish};
+use replies::{Entry, Wish};
 use taxi_base::{Name, Request};
 
 /// What it costs where there is no route.

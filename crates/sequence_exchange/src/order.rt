@@ -1,7 +1,7 @@
 //! An order in which flights are served.
 ghost use Rattle.std.specs.Prelude.{◌≡◌, ◌+◌, ◌<◌, ◌≤◌, ◌++◌, length, take, All, IfOk, OnErr, IsTrue, IsFalse, None};
 ghost use Rattle.taxi_base.specs.State.{State, holder_count};
-ghost use Rattle.certificate.specs.Batches.{IsServed};
+ghost use Rattle.replies.specs.Batches.{IsServed};
 ghost use Rattle.commitments.specs.Book.{Fits};
 ghost use Rattle.sequence_exchange.specs.Serving.{IsShortRequest, AreNew, AreFairFor, all_seconds_lost};
 ghost use Rattle.sequence_exchange.specs.Orders.{IsServedFrom, IsTakenOut, IsExchanged, IsKept};
@@ -9,9 +9,9 @@ ghost use Rattle.sequence_exchange.specs.Orders.{IsServedFrom, IsTakenOut, IsExc
 use crate::costs::total_cost;
 use crate::serving::{put_back, serve_all, take_out};
 use airport_file::Airport;
-use certificate::{Entry, Wish};
 use commitments::Ledger;
 use place_cells::SearchRoom;
+use replies::{Entry, Wish};
 use std::alloc::Global;
 use taxi_base::{Memory, Name};
 

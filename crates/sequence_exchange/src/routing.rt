@@ -2,17 +2,17 @@
 ghost use Rattle.std.specs.Prelude.{◌≡◌, ◌<◌, length, IfOk, None};
 ghost use Rattle.taxi_base.specs.Walks.{begin_of, end_of};
 ghost use Rattle.taxi_base.specs.Faults.{conditions_in};
-ghost use Rattle.certificate.specs.Asked.{AnswersRequest};
-ghost use Rattle.certificate.specs.Routed.{second_of};
+ghost use Rattle.replies.specs.Asked.{AnswersRequest};
+ghost use Rattle.replies.specs.Routed.{second_of};
 ghost use Rattle.commitments.specs.Book.{Fits};
 ghost use Rattle.sequence_exchange.specs.Serving.{IsShortRequest};
 
 use airport_file::Airport;
 use backward_search::{Departure, depart};
-use certificate::Wish;
 use commitments::Ledger;
 use forward_search::{Start, arrive};
 use place_cells::SearchRoom;
+use replies::Wish;
 use std::alloc::Global;
 use taxi_base::{Found, Memory, Request, Step, Time, begin_of, end_of};
 

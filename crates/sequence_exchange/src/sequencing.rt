@@ -1,17 +1,17 @@
 //! The order in which the exchange of neighbours ends.
 ghost use Rattle.std.specs.Prelude.{ℕ, ◌≡◌, ◌+◌, ◌≤◌, length, List, All, IfOk, OnErr, None};
 ghost use Rattle.taxi_base.specs.State.{State, holder_count};
-ghost use Rattle.certificate.specs.declared.wish.Wish.{Wish as WishSeen};
-ghost use Rattle.certificate.specs.Batches.{IsSequenced};
+ghost use Rattle.replies.specs.declared.wish.Wish.{Wish as WishSeen};
+ghost use Rattle.replies.specs.Batches.{IsSequenced};
 ghost use Rattle.commitments.specs.Book.{Fits};
 ghost use Rattle.sequence_exchange.specs.Serving.{IsShortRequest, AreNew};
 
 use crate::order::Order;
 use crate::serving::take_out;
 use airport_file::Airport;
-use certificate::{Entries, Wish};
 use commitments::Ledger;
 use place_cells::SearchRoom;
+use replies::{Entries, Wish};
 use std::alloc::Global;
 use taxi_base::Memory;
 

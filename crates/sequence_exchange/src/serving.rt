@@ -3,17 +3,17 @@ ghost use Rattle.std.specs.Prelude.{◌≡◌, ◌+◌, ◌<◌, ◌≤◌, ◌^
 ghost use Rattle.taxi_base.specs.Walks.{Meets};
 ghost use Rattle.taxi_base.specs.State.{State, has_holder, holder_count, with_flight};
 ghost use Rattle.taxi_base.specs.Faults.{conditions_in};
-ghost use Rattle.certificate.specs.declared.wish.Wish.{Wish as WishSeen};
-ghost use Rattle.certificate.specs.Routed.{routed_flight};
-ghost use Rattle.certificate.specs.Batches.{IsServedAs, IsServed};
+ghost use Rattle.replies.specs.declared.wish.Wish.{Wish as WishSeen};
+ghost use Rattle.replies.specs.Routed.{routed_flight};
+ghost use Rattle.replies.specs.Batches.{IsServedAs, IsServed};
 ghost use Rattle.commitments.specs.Book.{Fits};
 ghost use Rattle.sequence_exchange.specs.Serving.{IsShortRequest, AreNew};
 
 use crate::routing::{find_route, second_of};
 use airport_file::Airport;
-use certificate::{Entry, Wish};
 use commitments::Ledger;
 use place_cells::SearchRoom;
+use replies::{Entry, Wish};
 use std::alloc::Global;
 use taxi_base::{Flight, Found, List, Memory, Name, Step};
 

@@ -1,9 +1,9 @@
 -- The status that is due, where the files are told: each outcome has it.
-use Rattle.std.proofs.Common.{◌≡◌, ◌≤◌, ◌⊎◌, inl, inr, ℕ, List, length, refl, sym, subst, Option, Some, None, Result, Ok, Err}
+use Rattle.std.proofs.Common.{◌≡◌, ◌⊎◌, inl, inr, ℕ, List, refl, sym, subst, Option, Some, None, Result, Ok, Err}
 use Rattle.taxi_base.specs.Airport.{Airport}
 use Rattle.taxi_text.specs.Lines.{commands_of}
 use Rattle.taxi_io.specs.Counts.{Rose}
-use Rattle.taxi_io.specs.Files.{Files, IsFile, IsLonger, file_of}
+use Rattle.taxi_io.specs.Files.{Files, file_of}
 use Rattle.airport_file.specs.Reading.{RecordFault}
 use Rattle.schedule_import.specs.declared.import.ScheduleRefused.{ScheduleRefused as WhyRefused}
 use Rattle.schedule_import.specs.declared.import.ScheduleRefused.TheVariants as why
@@ -11,7 +11,7 @@ use Rattle.schedule_import.specs.Schedule.{import_of}
 use Rattle.program_files.specs.declared.status.Status.{Status}
 use Rattle.program_files.specs.declared.status.Status.TheVariants as status
 use Rattle.program_words.specs.Verb.{FileNames, Traffic, Verb, Route, Check, Generate, Migrate, Import}
-use Rattle.program_files.specs.Inputs.{airport_limit, commands_limit, transcript_limit, IsJudged, AreAccepted, IsRefused, IsReadFault, IsRunTooLarge, IsTooLarge}
+use Rattle.program_files.specs.Inputs.{airport_limit, transcript_limit, IsRefused, IsReadFault, IsTooLarge}
 use Rattle.text_verbs.specs.Texts.{IsImported}
 use Rattle.taxi_cli.specs.Outcomes.{IsDoneText, IsWrongText, IsScheduleRefusedText}
 use Rattle.program_files.specs.Due.{IsDueOfFile}

@@ -1,5 +1,5 @@
 -- From runs to the headline.
-use Rattle.std.proofs.Common.{◌≡◌, ◌≤◌, ◌↔◌, ◌⊎◌, inl, inr, ◌∷◌, ◌∙◌, [], ℕ, List, length, map, get_or, All, IsTrue, Option, Some, None, is_some, option_and_then, Result, Ok, Err, refl, sym, ap, subst, arith, bytes_eq}
+use Rattle.std.proofs.Common.{◌≡◌, ◌⊎◌, inl, inr, ◌∷◌, ◌∙◌, [], ℕ, List, length, map, get_or, All, IsTrue, Option, Some, None, is_some, option_and_then, Ok, Err, refl, sym, ap, subst, arith, bytes_eq}
 use Rattle.std.specs.Prelude.{⊤, MatchOption, IsPermutation, flat_map}
 use Rattle.std.specs.Cmp.Lexicographic.{bytes_decides}
 use Rattle.std.proofs.lemmas.Bool.{cases_Bool}
@@ -23,32 +23,31 @@ use Rattle.taxi_text.specs.declared.command.Command.TheVariants as command
 use Rattle.taxi_text.specs.Commands.{command_of}
 use Rattle.taxi_text.specs.Lines.{commands_of}
 use Rattle.taxi_io.specs.Counts.{Rose}
-use Rattle.taxi_io.specs.Files.{Files, IsFile, IsLonger}
+use Rattle.taxi_io.specs.Files.{Files}
 use Rattle.taxi_io.specs.Written.{Grew, GrewInPart}
-use Rattle.airport_file.specs.Reading.{RecordFault, airport_of}
 use Rattle.airport_file.proofs.AcceptedLaws.{accepted-well}
-use Rattle.certificate.specs.declared.block.Block.{Block}
-use Rattle.certificate.specs.declared.block.Block.TheVariants as block
-use Rattle.certificate.specs.declared.entries.Entry.{Entry}
-use Rattle.certificate.specs.declared.entries.Entry.TheVariants as entry
-use Rattle.certificate.specs.declared.wish.Wish.{Wish}
-use Rattle.certificate.specs.Printable.{IsPrintable, IsTold}
-use Rattle.certificate.specs.Asked.{asked_in}
-use Rattle.certificate.specs.Batches.{wishes_of, wish_named, names_of, TellsBatch}
-use Rattle.certificate.specs.Repairs.{TellsRepair}
-use Rattle.certificate.specs.CarriedOut.{second_of, IsCarriedOut}
-use Rattle.certificate.specs.Refusals.{first_refusal}
-use Rattle.certificate.specs.Replies.{IsAnswered, HaveNames}
-use Rattle.certificate.specs.Passes.{KeepsReply, IsAsAskedAlone, IsAsAsked, IsOfDueForm, IsFormOf, IsBestTold, TellsBest}
-use Rattle.certificate.specs.declared.rule.Rule.TheVariants as rule
-use Rattle.certificate.specs.Sought.{Sought, sought_of, sought_wish, IsWalkFor}
-use Rattle.certificate.specs.Turns.{Turn, told_of, told_in, after_told, turns_of}
-use Rattle.certificate.proofs.PassLaws.{reply-passes}
-use Rattle.certificate.proofs.BestLaws.{passed-best}
-use Rattle.certificate.proofs.BatchNames.{wishes-names}
-use Rattle.certificate.proofs.EntryTurns.{block_of, turns_from, turns-cons}
-use Rattle.certificate.proofs.BatchTurns.{wish-sought, batch-turns}
-use Rattle.certificate.proofs.TurnLaws.{all-one, one_turn}
+use Rattle.replies.specs.declared.block.Block.{Block}
+use Rattle.replies.specs.declared.block.Block.TheVariants as block
+use Rattle.replies.specs.declared.entries.Entry.{Entry}
+use Rattle.replies.specs.declared.entries.Entry.TheVariants as entry
+use Rattle.replies.specs.declared.wish.Wish.{Wish}
+use Rattle.replies.specs.Printable.{IsPrintable, IsTold}
+use Rattle.replies.specs.Asked.{asked_in}
+use Rattle.replies.specs.Batches.{wishes_of, wish_named, names_of, TellsBatch}
+use Rattle.replies.specs.Repairs.{TellsRepair}
+use Rattle.replies.specs.CarriedOut.{second_of, IsCarriedOut}
+use Rattle.replies.specs.Refusals.{first_refusal}
+use Rattle.replies.specs.Replies.{IsAnswered, HaveNames}
+use Rattle.replies.specs.Passes.{KeepsReply, IsAsAskedAlone, IsAsAsked, IsOfDueForm, IsFormOf, IsBestTold, TellsBest}
+use Rattle.replies.specs.declared.rule.Rule.TheVariants as rule
+use Rattle.replies.specs.Sought.{Sought, sought_of, sought_wish, IsWalkFor}
+use Rattle.replies.specs.Turns.{Turn, told_of, told_in, after_told, turns_of}
+use Rattle.replies.proofs.PassLaws.{reply-passes}
+use Rattle.replies.proofs.BestLaws.{passed-best}
+use Rattle.replies.proofs.BatchNames.{wishes-names}
+use Rattle.replies.proofs.EntryTurns.{block_of, turns_from, turns-cons}
+use Rattle.replies.proofs.BatchTurns.{wish-sought, batch-turns}
+use Rattle.replies.proofs.TurnLaws.{all-one, one_turn}
 use Rattle.program_files.specs.declared.status.Status.{Status}
 use Rattle.program_files.specs.declared.status.Status.TheVariants as status
 use Rattle.program_words.specs.Verb.{FileNames, Verb, Route}
@@ -56,6 +55,7 @@ use Rattle.transcripts.specs.Runs.{InTurn, IsRun, blocks_text, done_line, transc
 use Rattle.transcript_check.specs.Checks.{IsPassedRun}
 use Rattle.taxi_cli.proofs.DueLaws.{large-is}
 use Rattle.program_files.specs.Inputs.{airport_limit, commands_limit, IsJudged, AreAccepted, IsRunTooLarge}
+use Rattle.program_files.proofs.InputLaws.{one-judgement, not-longer}
 use Rattle.taxi_cli.specs.Outcomes.{IsTranscript}
 use Rattle.taxi_cli.specs.Endings.{Call, IsDueText, IsCutShort, Ends}
 use Rattle.taxi_cli.specs.Headline.{IsBestWalk, AnswersSearch, AnswersCommand, AnswersAll, IsWholeAnswer, Headline}
@@ -309,23 +309,6 @@ whole-answer told names text t = record {
 }
 
 -- ---- the call
-
--- of a told airport file there is one judgement
-pub one-judgement : (files : Files) (name : List ℕ) (a b : Result Airport RecordFault) → IsJudged (Some files) name a → IsJudged (Some files) name b → a ≡ b
-one-judgement files name a b one two =
-    let x = one.file in
-    let y = two.file in
-    let same : one.bytes ≡ two.bytes = cc in
-    sym one.judged ∙ ap airport_of same ∙ two.judged
-
--- a told file within a limit has no more bytes than that
-pub not-longer : (files : Files) (name bytes : List ℕ) (limit : ℕ) → IsFile (Some files) name bytes → length bytes ≤ limit → IsLonger (Some files) name limit → ⊥
-not-longer files name bytes limit file within longer =
-    let x = longer.1 in
-    let same : bytes ≡ longer.0 = cc in
-    let size = ap length same in
-    let more = longer.2 in
-    omega (arith, size, within, more)
 
 not-large : (files : Files) (names : FileNames) (airport : Airport) (commands : List ℕ) → AreAccepted (Some files) names airport commands → IsRunTooLarge (Some files) names → ⊥
 not-large files names airport commands accepted (inl longer) = not-longer files names.airport accepted.accepted.bytes airport_limit accepted.accepted.file accepted.accepted.within longer

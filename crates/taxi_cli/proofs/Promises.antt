@@ -2,13 +2,13 @@
 use Rattle.std.proofs.Common.{◌≡◌, ◌≤◌, ◌∷◌, [], inl, inr, ℕ, List, Option, refl, ap}
 use Rattle.taxi_io.specs.Written.{Output}
 use Rattle.taxi_io.proofs.Pieces.{grew-nothing, handed-nothing}
-use Rattle.command_run.specs.Answered.{Told}
+use Rattle.command_run.specs.Answered.{Told, LinesAreAnswered, IsPrompt}
 use Rattle.program_files.specs.declared.status.Status.TheVariants.{Memory}
 use Rattle.program_words.specs.Verb.{FileNames, Verb}
 use Rattle.taxi_cli.specs.Endings.{Call, Ends}
 use Rattle.taxi_cli.specs.Exit.{KeepsPromises}
 use Rattle.taxi_cli.proofs.HeadlineLaws.{headline-asked}
-use Rattle.taxi_cli.proofs.RunEndings.{memory-pace}
+use Rattle.command_run.proofs.PaceLaws.{memory-pace}
 
 pub no-words : (call : Call) (asked : Option Verb) (left : FileNames → Told) (tried : List (List ℕ)) (Unread : Type 0) → Unread → call.taken.1 ≡ call.taken.0
     → call.reads.0 ≤ call.reads.1 → call.writes.0 ≤ call.writes.1 → KeepsPromises call asked left (tried, tried) Unread Memory
@@ -19,7 +19,7 @@ no-words call asked left tried Unread unread nothing reads writes = record {
   complete = λ files told no_read no_write. inr refl;
   headline = λ names is. headline-asked call asked names Memory ends is;
   made = λ traffic is. (unread, λ no_write. inr refl);
-  pace = λ names is begun. memory-pace call names (left names) Memory refl;
+  pace = λ names is begun. memory-pace LinesAreAnswered IsPrompt call names (left names) Memory refl;
   first = λ names is begun. record { fault = λ other. absurd (cc other); large = λ other. absurd (cc other); late = λ other. absurd (cc other) };
   handed = λ names is. record {
     texts = [] ∷ [];

@@ -3,13 +3,13 @@ use Rattle.std.specs.Prelude.{◌≡◌, ◌⊎◌, ℕ, List, Option, Some, Non
 use Rattle.taxi_base.specs.Airport.{Airport}
 use Rattle.taxi_text.specs.Lines.{commands_of}
 use Rattle.taxi_io.specs.Files.{Files, file_of}
-use Rattle.certificate.specs.declared.block.Block.{Block}
+use Rattle.replies.specs.declared.block.Block.{Block}
 use Rattle.schedule_import.specs.declared.import.ScheduleRefused.{ScheduleRefused as WhyRefused}
 use Rattle.schedule_import.specs.Schedule.{import_of}
 use Rattle.transcript_check.specs.declared.failure.Failure.{Failure}
 use Rattle.program_files.specs.declared.status.Status.{Status}
 use Rattle.program_files.specs.declared.status.Status.TheVariants.{Done, Usage, Wrong, ScheduleRefused}
-use Rattle.program_words.specs.Verb.{FileNames, Verb, Route, Check, Generate, Migrate, Import}
+use Rattle.program_words.specs.Verb.{Verb, Route, Check, Generate, Migrate, Import}
 use Rattle.transcript_check.specs.Checks.{IsRight, IsWrongAt}
 use Rattle.program_files.specs.Inputs.{transcript_limit}
 use Rattle.program_files.specs.Due.{IsDueOfFile, IsDueOfAirport, IsDueOfRun}

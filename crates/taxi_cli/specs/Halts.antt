@@ -3,7 +3,7 @@ use Rattle.std.specs.Prelude.{◌≡◌, ◌<◌, ◌⊎◌, ℕ, List, ◌++◌
 use Rattle.taxi_base.specs.Airport.{Airport}
 use Rattle.taxi_base.specs.State.{State, no_holder}
 use Rattle.taxi_io.specs.Files.{Files, IsFile, IsLonger}
-use Rattle.certificate.specs.declared.block.Block.{Block}
+use Rattle.replies.specs.declared.block.Block.{Block}
 use Rattle.transcripts.specs.Runs.{IsRun, blocks_text}
 use Rattle.command_run.specs.Ended.{ended_commands_of}
 use Rattle.program_words.specs.Verb.{FileNames, Verb, Route}

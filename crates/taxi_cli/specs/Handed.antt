@@ -4,7 +4,7 @@ use Rattle.taxi_base.specs.Airport.{Airport}
 use Rattle.taxi_base.specs.State.{State, no_holder}
 use Rattle.taxi_io.specs.Files.{Files}
 use Rattle.taxi_io.specs.Written.{AreHanded, AreHandedInPart}
-use Rattle.certificate.specs.declared.block.Block.{Block}
+use Rattle.replies.specs.declared.block.Block.{Block}
 use Rattle.transcripts.specs.Runs.{IsRun, done_line}
 use Rattle.command_run.specs.Answered.{texts_of}
 use Rattle.program_files.specs.declared.status.Status.{Status}

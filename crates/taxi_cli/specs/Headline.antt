@@ -19,15 +19,15 @@ use Rattle.taxi_text.specs.Lines.{commands_of}
 use Rattle.taxi_io.specs.Counts.{Rose}
 use Rattle.taxi_io.specs.Files.{Files}
 use Rattle.taxi_io.specs.Written.{Grew, GrewInPart}
-use Rattle.certificate.specs.declared.block.Block.{Block}
-use Rattle.certificate.specs.declared.block.Block.TheVariants.{Refused, Route, NoRoute}
-use Rattle.certificate.specs.Asked.{asked_in}
-use Rattle.certificate.specs.Refusals.{first_refusal}
-use Rattle.certificate.specs.Repairs.{TellsRepair}
-use Rattle.certificate.specs.Replies.{IsReply}
-use Rattle.certificate.specs.Passes.{IsPassed}
-use Rattle.certificate.specs.Sought.{Sought, sought_of, IsWalkFor}
-use Rattle.certificate.specs.Turns.{Turn, told_in, turns_of}
+use Rattle.replies.specs.declared.block.Block.{Block}
+use Rattle.replies.specs.declared.block.Block.TheVariants.{Refused, Route, NoRoute}
+use Rattle.replies.specs.Asked.{asked_in}
+use Rattle.replies.specs.Refusals.{first_refusal}
+use Rattle.replies.specs.Repairs.{TellsRepair}
+use Rattle.replies.specs.Replies.{IsReply}
+use Rattle.replies.specs.Passes.{IsPassed}
+use Rattle.replies.specs.Sought.{Sought, sought_of, IsWalkFor}
+use Rattle.replies.specs.Turns.{Turn, told_in, turns_of}
 use Rattle.program_files.specs.declared.status.Status.{Status}
 use Rattle.program_files.specs.declared.status.Status.TheVariants.{Done, WriteFault, Memory}
 use Rattle.program_words.specs.Verb.{FileNames}

@@ -4,7 +4,7 @@ use Rattle.taxi_base.specs.Airport.{Airport}
 use Rattle.taxi_base.specs.State.{State, no_holder}
 use Rattle.taxi_text.specs.Lines.{commands_of}
 use Rattle.taxi_io.specs.Files.{Files}
-use Rattle.certificate.specs.declared.block.Block.{Block}
+use Rattle.replies.specs.declared.block.Block.{Block}
 use Rattle.schedule_import.specs.declared.import.ScheduleRefused.TheVariants.{FirstRow, BadStart}
 use Rattle.generated_run.specs.declared.summary.Summary.{Summary}
 use Rattle.generated_run.specs.Summaries.{IsSummary, six_lines}

@@ -7,12 +7,12 @@ use Rattle.taxi_base.specs.State.{State, IsSound}
 use Rattle.taxi_text.specs.declared.command.Command.{Command}
 use Rattle.taxi_text.specs.declared.command.Command.TheVariants as command
 use Rattle.taxi_text.specs.Commands.{command_of, EndsInList}
-use Rattle.certificate.specs.declared.block.Block.TheVariants.{Refused}
-use Rattle.certificate.specs.CarriedOut.{Reply}
-use Rattle.certificate.specs.Replies.{refused, NeedsNoMemory, IsDue, IsReply, as_due, no_memory, HaveNames, IsAnswered}
-use Rattle.certificate.specs.Passes.{IsPassed}
-use Rattle.certificate.proofs.ReplyLaws.{IsAnswered-sound, due-command, due-bad_line}
-use Rattle.certificate.proofs.PassLaws.{reply-passes}
+use Rattle.replies.specs.declared.block.Block.TheVariants.{Refused}
+use Rattle.replies.specs.CarriedOut.{Reply}
+use Rattle.replies.specs.Replies.{refused, NeedsNoMemory, IsDue, IsReply, as_due, no_memory, HaveNames, IsAnswered}
+use Rattle.replies.specs.Passes.{IsPassed}
+use Rattle.replies.proofs.ReplyLaws.{IsAnswered-sound, due-command, due-bad_line}
+use Rattle.replies.proofs.PassLaws.{reply-passes}
 use Rattle.taxi_engine.specs.Engine.{EngineState, MayWantMemory, WantsMemory, Answers}
 use Rattle.taxi_engine.specs.Done.{IsDone, IsDoneOrMemory}
 

@@ -15,19 +15,19 @@ use Rattle.taxi_text.specs.declared.command.BatchRequest.{BatchRequest}
 use Rattle.taxi_text.specs.declared.command.BatchRequest.TheVariants as requested
 use Rattle.taxi_text.specs.declared.command.Command.TheVariants as command
 use Rattle.taxi_text.specs.Commands.{is_batch_count}
-use Rattle.certificate.specs.declared.entries.Entry.{Entry}
-use Rattle.certificate.specs.declared.entries.Entry.TheVariants as entry
-use Rattle.certificate.specs.declared.wish.Wish.{Wish}
-use Rattle.certificate.specs.declared.block.Block.TheVariants.{Batch}
-use Rattle.certificate.specs.Printable.{IsShort, IsName, HasArc, IsPrintableStep, IsPrintableLabel, IsPrintableEntry}
-use Rattle.certificate.specs.Printed.{IsWritableEntry}
-use Rattle.certificate.specs.Asked.{asked_in, IsAskedInGrammar, arrival_named, departure_named}
-use Rattle.certificate.specs.Refusals.{first_refusal}
-use Rattle.certificate.specs.Batches.{wish_of, wishes_of, names_of, IsSequenced}
-use Rattle.certificate.proofs.FiledLaws.{and_then-some, map-some}
-use Rattle.certificate.proofs.OrderLaws.{ends-permutation}
-use Rattle.certificate.proofs.BatchNames.{wish-is, wishes-many, wishes-all, batch-free}
-use Rattle.certificate.proofs.BatchPrintable.{HasShortTime, IsFineWish, wishes-fine, served-printable}
+use Rattle.replies.specs.declared.entries.Entry.{Entry}
+use Rattle.replies.specs.declared.entries.Entry.TheVariants as entry
+use Rattle.replies.specs.declared.wish.Wish.{Wish}
+use Rattle.replies.specs.declared.block.Block.TheVariants.{Batch}
+use Rattle.replies.specs.Printable.{IsShort, IsName, HasArc, IsPrintableStep, IsPrintableLabel, IsPrintableEntry}
+use Rattle.block_writer.specs.Printed.{IsWritableEntry}
+use Rattle.replies.specs.Asked.{asked_in, IsAskedInGrammar, arrival_named, departure_named}
+use Rattle.replies.specs.Refusals.{first_refusal}
+use Rattle.replies.specs.Batches.{wish_of, wishes_of, names_of, IsSequenced}
+use Rattle.replies.proofs.FiledLaws.{and_then-some, map-some}
+use Rattle.replies.proofs.OrderLaws.{ends-permutation}
+use Rattle.replies.proofs.BatchNames.{wish-is, wishes-many, wishes-all, batch-free}
+use Rattle.replies.proofs.BatchPrintable.{HasShortTime, IsFineWish, wishes-fine, served-printable}
 use Rattle.sequence_exchange.specs.Serving.{IsShortRequest, AreNew}
 use Rattle.taxi_engine.specs.Engine.{EngineState}
 use Rattle.taxi_engine.specs.Done.{IsDoneOrMemory}

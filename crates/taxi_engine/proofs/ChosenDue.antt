@@ -15,12 +15,12 @@ use Rattle.taxi_base.proofs.WalkLaws.{conditions_among-bounded}
 use Rattle.taxi_text.specs.declared.command.AskedAny.{AskedAny}
 use Rattle.taxi_text.specs.declared.command.Command.{Command}
 use Rattle.taxi_text.specs.declared.command.Command.TheVariants as command
-use Rattle.certificate.specs.Printable.{HasArc}
-use Rattle.certificate.specs.Asked.{Choice, arrival_any, departure_any, AnswersChoice}
-use Rattle.certificate.specs.Refusals.{first_refusal}
-use Rattle.certificate.specs.CarriedOut.{chosen_reply}
-use Rattle.certificate.specs.Replies.{refused}
-use Rattle.certificate.proofs.FoundLaws.{labels_of_chosen, chosen-printable}
+use Rattle.replies.specs.Printable.{HasArc}
+use Rattle.replies.specs.Asked.{Choice, arrival_any, departure_any, AnswersChoice}
+use Rattle.replies.specs.Refusals.{first_refusal}
+use Rattle.replies.specs.CarriedOut.{chosen_reply}
+use Rattle.replies.specs.Replies.{refused}
+use Rattle.replies.proofs.FoundLaws.{labels_of_chosen, chosen-printable}
 use Rattle.command_refusals.specs.declared.choosing.TripToAny.{TripToAny}
 use Rattle.taxi_engine.specs.Engine.{EngineState, MayWantMemory}
 use Rattle.command_refusals.specs.Accepted.{IsRefused}

@@ -9,10 +9,10 @@ use Rattle.taxi_base.specs.State.{State, parties_without, without}
 use Rattle.taxi_base.specs.Reports.{AreHeldRows}
 use Rattle.taxi_text.specs.declared.command.Command.{Command}
 use Rattle.taxi_text.specs.declared.command.Command.TheVariants as command
-use Rattle.certificate.specs.declared.block.Block.TheVariants.{Refused, Cancelled, Windows, Occupancy}
-use Rattle.certificate.specs.Refusals.{is_in_force, is_at_work, first_refusal}
-use Rattle.certificate.specs.CarriedOut.{windows_among}
-use Rattle.certificate.specs.Replies.{IsDueTo}
+use Rattle.replies.specs.declared.block.Block.TheVariants.{Refused, Cancelled, Windows, Occupancy}
+use Rattle.replies.specs.Refusals.{is_in_force, is_at_work, first_refusal}
+use Rattle.replies.specs.CarriedOut.{windows_among}
+use Rattle.replies.specs.Replies.{IsDueTo}
 
 module _ (airport : Airport) (state : State) where
   pub refusal-due : (c : Command) (why : Refusal) → first_refusal airport state c ≡ Some why → IsDueTo airport state c (Refused why) state

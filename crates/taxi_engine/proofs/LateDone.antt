@@ -7,15 +7,15 @@ use Rattle.taxi_base.specs.Airport.{Airport, IsWellFormed}
 use Rattle.taxi_base.specs.State.{State, IsSound}
 use Rattle.taxi_base.specs.Late.{Delay}
 use Rattle.taxi_text.specs.declared.command.Command.TheVariants as command
-use Rattle.certificate.specs.declared.entries.Entry.{Entry}
-use Rattle.certificate.specs.declared.block.Block.TheVariants.{Late}
-use Rattle.certificate.specs.Printable.{IsName, IsPrintable, IsPrintableEntry}
-use Rattle.certificate.specs.Printed.{IsWritableEntry}
-use Rattle.certificate.specs.Refusals.{first_refusal}
-use Rattle.certificate.specs.Replies.{HaveNames}
-use Rattle.certificate.specs.Repairs.{delay_of, IsRepairTold}
-use Rattle.certificate.proofs.LateKept.{late-kept}
-use Rattle.certificate.proofs.LatePrintable.{late-printable, repair-names}
+use Rattle.replies.specs.declared.entries.Entry.{Entry}
+use Rattle.replies.specs.declared.block.Block.TheVariants.{Late}
+use Rattle.replies.specs.Printable.{IsName, IsPrintable, IsPrintableEntry}
+use Rattle.block_writer.specs.Printed.{IsWritableEntry}
+use Rattle.replies.specs.Refusals.{first_refusal}
+use Rattle.replies.specs.Replies.{HaveNames}
+use Rattle.replies.specs.Repairs.{delay_of, IsRepairTold}
+use Rattle.replies.proofs.LateKept.{late-kept}
+use Rattle.replies.proofs.LatePrintable.{late-printable, repair-names}
 use Rattle.late_repair.specs.Repairing.{IsRepairedAs}
 use Rattle.taxi_engine.specs.Engine.{EngineState}
 use Rattle.taxi_engine.specs.Done.{IsDoneOrMemory}

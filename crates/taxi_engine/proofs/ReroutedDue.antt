@@ -13,9 +13,9 @@ use Rattle.taxi_base.specs.State.{State, flight_named, with_route}
 use Rattle.taxi_base.specs.Again.{retargeted}
 use Rattle.taxi_text.specs.declared.command.Command.{Command}
 use Rattle.taxi_text.specs.declared.command.Command.TheVariants as command
-use Rattle.certificate.specs.Refusals.{refused_if, first_of, not_routed, not_arrival, already_done, already_moving, first_refusal}
-use Rattle.certificate.specs.CarriedOut.{Reply, found_reply, IsCarriedOut}
-use Rattle.certificate.specs.Replies.{refused}
+use Rattle.replies.specs.Refusals.{refused_if, first_of, not_routed, not_arrival, already_done, already_moving, first_refusal}
+use Rattle.replies.specs.CarriedOut.{Reply, found_reply, IsCarriedOut}
+use Rattle.replies.specs.Replies.{refused}
 use Rattle.reroute.specs.declared.refused.RerouteRefused.{RerouteRefused}
 use Rattle.reroute.specs.declared.refused.RerouteRefused.TheVariants as reroute
 use Rattle.reroute.specs.Refused.{flight_refusal, again_refusal}

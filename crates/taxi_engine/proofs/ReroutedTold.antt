@@ -18,13 +18,13 @@ use Rattle.taxi_base.specs.Again.{retargeted}
 use Rattle.taxi_base.proofs.FlightNames.{find-named}
 use Rattle.taxi_base.proofs.StateLaws.{IsSound-with_route}
 use Rattle.taxi_base.proofs.WalkLaws.{Meets-IsFeasibleWalk, IsSomeAnd-value}
-use Rattle.certificate.specs.declared.block.Block.TheVariants.{Route, NoRoute}
-use Rattle.certificate.specs.Printable.{IsName, HasArc}
-use Rattle.certificate.specs.CarriedOut.{Reply, second_of, found_reply}
-use Rattle.certificate.specs.Replies.{HaveNames}
-use Rattle.certificate.proofs.FlightLaws.{flight_named-there}
-use Rattle.certificate.proofs.HolderNames.{with_flight-names, without-names}
-use Rattle.certificate.proofs.FoundLaws.{labels_of, found_again-meets, second-retargeted}
+use Rattle.replies.specs.declared.block.Block.TheVariants.{Route, NoRoute}
+use Rattle.replies.specs.Printable.{IsName, HasArc}
+use Rattle.replies.specs.CarriedOut.{Reply, second_of, found_reply}
+use Rattle.replies.specs.Replies.{HaveNames}
+use Rattle.replies.proofs.FlightLaws.{flight_named-there}
+use Rattle.replies.proofs.HolderNames.{with_flight-names, without-names}
+use Rattle.replies.proofs.FoundLaws.{labels_of, found_again-meets, second-retargeted}
 use Rattle.commitments.specs.Book.{Book, lifted_flight}
 use Rattle.reroute.specs.declared.refused.RerouteRefused.{RerouteRefused}
 use Rattle.reroute.specs.declared.refused.RerouteRefused.TheVariants as reroute
@@ -89,9 +89,6 @@ module _ (airport : Airport) (state : State) (name : List ℕ) (time : ℕ) (to 
         (record { old = old.0; in_force = old.1; class = refl; met = subst (λ (r : Request). Meets (conditions_of airport state old.0) r steps) (sym asked) met })
 
     -- what is told of it is the reply to what was found
-    told : Flight → Reply
-    told f = record { block = Route f.name (second_of f.request f.steps) f.steps labels; after = with_flight f (without f.name state) }
-
     reply-same : record { block = Route flight.name (second_of flight.request flight.steps) flight.steps labels; after = with_flight flight (without flight.name state) }
         ≡ found_reply state name old.0.request (λ steps. with_route old.0 (retargeted old.0.request old.2.target) steps state) (found.Route steps labels)
     reply-same =

@@ -13,9 +13,9 @@ use Rattle.taxi_base.specs.Windows.{Hold}
 use Rattle.taxi_base.specs.Walks.{IsFeasibleStep, conditions_among}
 use Rattle.taxi_base.specs.Again.{AnswersAgain}
 use Rattle.taxi_base.proofs.WalkLaws.{IsFeasibleWalk-steps, conditions_among-bounded}
-use Rattle.certificate.specs.Printable.{HasArc, IsPrintableLabel}
-use Rattle.certificate.specs.Asked.{AnswersRequest}
-use Rattle.certificate.proofs.FoundLaws.{walk-few, walk-some, ArePrintableLabels, labels_of, found-printable, found_again-printable}
+use Rattle.replies.specs.Printable.{HasArc, IsPrintableLabel}
+use Rattle.replies.specs.Asked.{AnswersRequest}
+use Rattle.replies.proofs.FoundLaws.{walk-few, walk-some, ArePrintableLabels, labels_of, found-printable, found_again-printable}
 use Rattle.taxi_engine.specs.Routed.{IsWalkOn}
 
 module _ (airport : Airport) (steps : List Step) (on : IsWalkOn airport steps) where

@@ -8,9 +8,9 @@ use Rattle.taxi_base.specs.State.{with_flight}
 use Rattle.taxi_base.specs.Faults.{conditions_in}
 use Rattle.taxi_text.specs.declared.command.Asked.{Asked}
 use Rattle.taxi_text.specs.declared.command.Command.TheVariants as command
-use Rattle.certificate.specs.Asked.{AnswersRequest}
-use Rattle.certificate.specs.Refusals.{first_refusal}
-use Rattle.certificate.specs.CarriedOut.{found_reply, routed_flight}
+use Rattle.replies.specs.Asked.{AnswersRequest}
+use Rattle.replies.specs.Refusals.{first_refusal}
+use Rattle.replies.specs.CarriedOut.{found_reply, routed_flight}
 use Rattle.command_refusals.specs.declared.asking.Trip.{Trip}
 use Rattle.taxi_engine.specs.Engine.{EngineState}
 use Rattle.taxi_engine.specs.Done.{IsDoneOrMemory}

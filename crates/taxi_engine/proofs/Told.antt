@@ -7,8 +7,8 @@ use Rattle.taxi_base.specs.State.{holds_in}
 use Rattle.taxi_base.proofs.WindowLaws.{AreWindows-same}
 use Rattle.window_store.specs.Store.{spans_at}
 use Rattle.commitments.specs.Book.{Book, Fits}
-use Rattle.certificate.specs.CarriedOut.{windows_among}
-use Rattle.certificate.proofs.WindowsTold.{windows_among-are}
+use Rattle.replies.specs.CarriedOut.{windows_among}
+use Rattle.replies.proofs.WindowsTold.{windows_among-are}
 use Rattle.sequence_exchange.proofs.SearchedLaws.{all_stand}
 
 pub windows-told : (airport : Airport) (book : Book) (segment : Segment) → Fits airport book → book.lifted ≡ None → segment.0 < length airport.segments

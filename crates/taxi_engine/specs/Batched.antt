@@ -2,11 +2,11 @@
 use Rattle.std.specs.Prelude.{ℕ, ◌⊎◌, List}
 use Rattle.taxi_base.specs.declared.answers.Refusal.TheVariants as refusal
 use Rattle.taxi_base.specs.State.{State}
-use Rattle.certificate.specs.declared.entries.Entry.{Entry}
-use Rattle.certificate.specs.declared.wish.Wish.{Wish}
-use Rattle.certificate.specs.declared.block.Block.TheVariants.{Batch}
-use Rattle.certificate.specs.Batches.{IsSequenced}
-use Rattle.certificate.specs.Replies.{refused}
+use Rattle.replies.specs.declared.entries.Entry.{Entry}
+use Rattle.replies.specs.declared.wish.Wish.{Wish}
+use Rattle.replies.specs.declared.block.Block.TheVariants.{Batch}
+use Rattle.replies.specs.Batches.{IsSequenced}
+use Rattle.replies.specs.Replies.{refused}
 use Rattle.taxi_engine.specs.Engine.{EngineState}
 use Rattle.taxi_engine.specs.Done.{IsDone}
 

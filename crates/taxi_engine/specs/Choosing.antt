@@ -4,9 +4,9 @@ use Rattle.taxi_base.specs.declared.numbers.Class.{Class}
 use Rattle.taxi_base.specs.declared.answers.Chosen.{Chosen}
 use Rattle.taxi_base.specs.declared.answers.Refusal.TheVariants as refusal
 use Rattle.taxi_base.specs.declared.collections.Memory.{Memory}
-use Rattle.certificate.specs.Asked.{Choice, arrival_any, departure_any}
-use Rattle.certificate.specs.CarriedOut.{chosen_reply}
-use Rattle.certificate.specs.Replies.{refused}
+use Rattle.replies.specs.Asked.{Choice, arrival_any, departure_any}
+use Rattle.replies.specs.CarriedOut.{chosen_reply}
+use Rattle.replies.specs.Replies.{refused}
 use Rattle.command_refusals.specs.declared.choosing.TripToAny.{TripToAny}
 use Rattle.taxi_engine.specs.declared.choosing.Movement.{Movement}
 use Rattle.taxi_engine.specs.declared.choosing.Movement.TheVariants.{Arrival, Departure}

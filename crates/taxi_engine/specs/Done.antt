@@ -2,9 +2,9 @@
 use Rattle.std.specs.Prelude.{◌≡◌, ◌⊎◌}
 use Rattle.taxi_base.specs.declared.answers.Refusal.TheVariants as refusal
 use Rattle.taxi_text.specs.declared.command.Command.{Command}
-use Rattle.certificate.specs.Texts.{block_text}
-use Rattle.certificate.specs.CarriedOut.{Reply}
-use Rattle.certificate.specs.Replies.{refused, IsDueTo}
+use Rattle.replies.specs.Texts.{block_text}
+use Rattle.replies.specs.CarriedOut.{Reply}
+use Rattle.replies.specs.Replies.{refused, IsDueTo}
 use Rattle.taxi_engine.specs.Engine.{EngineState, MayWantMemory}
 
 -- the reply is written, and the state is that afterwards

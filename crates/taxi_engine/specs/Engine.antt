@@ -6,13 +6,13 @@ use Rattle.taxi_base.specs.State.{State}
 use Rattle.taxi_text.specs.declared.command.Command.{Command}
 use Rattle.taxi_text.specs.declared.command.Command.TheVariants as command
 use Rattle.taxi_text.specs.Commands.{command_of}
-use Rattle.certificate.specs.declared.block.Block.{Block}
-use Rattle.certificate.specs.declared.block.Block.TheVariants.{Refused}
-use Rattle.certificate.specs.Texts.{block_text}
-use Rattle.certificate.specs.Printable.{IsPrintable}
-use Rattle.certificate.specs.Refusals.{first_refusal}
-use Rattle.certificate.specs.Replies.{IsDue, IsAnswered}
-use Rattle.certificate.specs.Passes.{IsPassed}
+use Rattle.replies.specs.declared.block.Block.{Block}
+use Rattle.replies.specs.declared.block.Block.TheVariants.{Refused}
+use Rattle.replies.specs.Texts.{block_text}
+use Rattle.replies.specs.Printable.{IsPrintable}
+use Rattle.replies.specs.Refusals.{first_refusal}
+use Rattle.replies.specs.Replies.{IsDue, IsAnswered}
+use Rattle.replies.specs.Passes.{IsPassed}
 
 -- the airport, the flights in force and the work parties, and the text of the last reply
 pub record EngineState : Type 0 where

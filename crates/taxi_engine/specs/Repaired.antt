@@ -2,9 +2,9 @@
 use Rattle.std.specs.Prelude.{ℕ, ◌⊎◌, List}
 use Rattle.taxi_base.specs.declared.answers.Refusal.TheVariants as refusal
 use Rattle.taxi_base.specs.State.{State}
-use Rattle.certificate.specs.declared.block.Block.{Block}
-use Rattle.certificate.specs.Repairs.{IsRepairTold}
-use Rattle.certificate.specs.Replies.{refused}
+use Rattle.replies.specs.declared.block.Block.{Block}
+use Rattle.replies.specs.Repairs.{IsRepairTold}
+use Rattle.replies.specs.Replies.{refused}
 use Rattle.taxi_engine.specs.Engine.{EngineState}
 use Rattle.taxi_engine.specs.Done.{IsDone}
 

@@ -11,8 +11,8 @@ use Rattle.taxi_base.specs.Airport.{Airport}
 use Rattle.taxi_base.specs.Walks.{Meets}
 use Rattle.taxi_base.specs.State.{State, flight_named, with_route, conditions_of}
 use Rattle.taxi_base.specs.Again.{retargeted, AnswersAgain}
-use Rattle.certificate.specs.CarriedOut.{found_reply}
-use Rattle.certificate.specs.Replies.{refused}
+use Rattle.replies.specs.CarriedOut.{found_reply}
+use Rattle.replies.specs.Replies.{refused}
 use Rattle.reroute.specs.declared.refused.RerouteRefused.{RerouteRefused}
 use Rattle.reroute.specs.declared.refused.RerouteRefused.TheVariants as reroute
 use Rattle.reroute.specs.Refused.{again_refusal}

@@ -9,8 +9,8 @@ use Rattle.taxi_base.specs.declared.collections.Memory.{Memory}
 use Rattle.taxi_base.specs.Airport.{Airport}
 use Rattle.taxi_base.specs.Walks.{Conditions, IsFeasibleWalk}
 use Rattle.taxi_base.specs.State.{State, holder_count, has_holder, with_flight}
-use Rattle.certificate.specs.CarriedOut.{Reply, found_reply, routed_flight}
-use Rattle.certificate.specs.Replies.{refused}
+use Rattle.replies.specs.CarriedOut.{Reply, found_reply, routed_flight}
+use Rattle.replies.specs.Replies.{refused}
 use Rattle.taxi_engine.specs.Engine.{EngineState}
 use Rattle.taxi_engine.specs.Done.{IsDone}
 

@@ -2,8 +2,8 @@
 ghost use Rattle.std.specs.Prelude.{◌≡◌, ◌<◌, length, None, All, IfOk};
 ghost use Rattle.taxi_base.specs.Faults.{conditions_in};
 ghost use Rattle.taxi_text.specs.declared.command.Command.TheVariants as command;
-ghost use Rattle.certificate.specs.Printable.{IsShort, IsName};
-ghost use Rattle.certificate.specs.Asked.{arrival_any, departure_any, request_for, AnswersChoice};
+ghost use Rattle.replies.specs.Printable.{IsShort, IsName};
+ghost use Rattle.replies.specs.Asked.{arrival_any, departure_any, request_for, AnswersChoice};
 ghost use Rattle.commitments.specs.Book.{Fits};
 ghost use Rattle.taxi_engine.specs.Done.{IsDoneOrMemory};
 ghost use Rattle.taxi_engine.specs.Routed.{IsNew};

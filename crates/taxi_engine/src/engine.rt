@@ -1,8 +1,8 @@
 //! The engine.
 ghost use Rattle.std.specs.Prelude.{◌≡◌, [], None, IfOk};
 ghost use Rattle.taxi_base.specs.State.{no_holder, IsSound};
-ghost use Rattle.certificate.specs.Asked.{IsInGrammar};
-ghost use Rattle.certificate.specs.Replies.{refused};
+ghost use Rattle.replies.specs.Asked.{IsInGrammar};
+ghost use Rattle.replies.specs.Replies.{refused};
 ghost use Rattle.commitments.specs.Book.{Fits};
 ghost use Rattle.taxi_engine.specs.Engine.{Answers};
 ghost use Rattle.taxi_engine.specs.Done.{IsDone, IsDoneOrMemory};
@@ -32,7 +32,7 @@ impl Model for Engine {
     ghost use Rattle.std.specs.Prelude.{◌≡◌, None};
     ghost use Rattle.taxi_base.specs.State.{IsSound};
     ghost use Rattle.commitments.specs.Book.{Fits};
-    ghost use Rattle.certificate.specs.Replies.{HaveNames};
+    ghost use Rattle.replies.specs.Replies.{HaveNames};
     ghost use Rattle.taxi_engine.specs.Engine.{EngineState};
 
     ghost Value = { EngineState };
@@ -80,6 +80,7 @@ impl Engine {
     pub fn into_parts(self) -> (Airport, Ledger)
         ensures airport { result.0 ≡ self.airport }
         ensures state { result.1.state ≡ self.state }
+        ensures sound { IsSound self.airport self.state }
         ensures fits { Fits self.airport result.1 }
         ensures unlifted { result.1.lifted ≡ None }
     {

@@ -1,7 +1,7 @@
 //! A route given by hand: its flight goes in force, or it is refused.
 ghost use Rattle.std.specs.Prelude.{◌≤◌, length};
 ghost use Rattle.taxi_text.specs.declared.command.Command.TheVariants.{File};
-ghost use Rattle.certificate.specs.Printable.{IsName};
+ghost use Rattle.replies.specs.Printable.{IsName};
 ghost use Rattle.taxi_engine.specs.Done.{IsDoneOrMemory};
 
 use crate::Engine;

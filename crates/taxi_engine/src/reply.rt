@@ -1,12 +1,13 @@
 //! The text of a reply.
 ghost use Rattle.std.specs.Prelude.{◌≡◌, [], All, OnOk};
-ghost use Rattle.certificate.specs.Texts.{block_text};
-ghost use Rattle.certificate.specs.declared.block.Block.TheVariants.{Route};
-ghost use Rattle.certificate.specs.Printable.{HasArc};
-ghost use Rattle.certificate.specs.Printed.{IsWritable};
+ghost use Rattle.replies.specs.Texts.{block_text};
+ghost use Rattle.replies.specs.declared.block.Block.TheVariants.{Route};
+ghost use Rattle.replies.specs.Printable.{HasArc};
+ghost use Rattle.block_writer.specs.Printed.{IsWritable};
 
 use airport_file::Airport;
-use certificate::{Block, print_block, print_route};
+use block_writer::{print_block, print_route};
+use replies::Block;
 use std::alloc::Global;
 use std::marker::Model;
 use taxi_base::{LabelRow, Memory, Name, Step, Time};

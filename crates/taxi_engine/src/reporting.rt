@@ -4,17 +4,17 @@ ghost use Rattle.taxi_base.specs.declared.rows.HeldRow.{HeldRow};
 ghost use Rattle.taxi_base.specs.State.{IsSound};
 ghost use Rattle.taxi_base.specs.Reports.{timetable_rows, AreHeldRows};
 ghost use Rattle.taxi_text.specs.declared.command.Command.TheVariants as asked;
-ghost use Rattle.certificate.specs.declared.block.Block.TheVariants as block;
-ghost use Rattle.certificate.specs.Texts.{block_text};
-ghost use Rattle.certificate.specs.Replies.{HaveNames};
+ghost use Rattle.replies.specs.declared.block.Block.TheVariants as block;
+ghost use Rattle.replies.specs.Texts.{block_text};
+ghost use Rattle.replies.specs.Replies.{HaveNames};
 ghost use Rattle.taxi_engine.specs.Done.{IsDoneOrMemory};
 
 use crate::Engine;
 use crate::reply::ReplyText;
 use airport_file::Airport;
-use certificate::Block;
 use commitments::Ledger;
 use ledger_reports::{occupancy, timetable};
+use replies::Block;
 use std::alloc::Global;
 use taxi_base::{Memory, Name, Refusal, Segment};
 

@@ -2,9 +2,9 @@
 ghost use Rattle.std.specs.Prelude.{◌≡◌, IsSome, IfSome, All};
 ghost use Rattle.taxi_base.specs.State.{flight_named, with_flight, without};
 ghost use Rattle.taxi_text.specs.declared.command.Command.TheVariants as command;
-ghost use Rattle.certificate.specs.declared.block.Block.TheVariants as block;
-ghost use Rattle.certificate.specs.Printable.{HasArc};
-ghost use Rattle.certificate.specs.CarriedOut.{second_of};
+ghost use Rattle.replies.specs.declared.block.Block.TheVariants as block;
+ghost use Rattle.replies.specs.Printable.{HasArc};
+ghost use Rattle.replies.specs.CarriedOut.{second_of};
 ghost use Rattle.taxi_engine.specs.Done.{IsDoneOrMemory};
 ghost use Rattle.taxi_engine.specs.Routed.{IsToldOrMemory};
 ghost use Rattle.taxi_engine.specs.Rerouted.{refusal_told, request_to, IsOnAnother, IsToldAgain};

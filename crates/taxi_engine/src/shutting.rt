@@ -1,6 +1,6 @@
 //! A segment shut by a work party, and opened again.
 ghost use Rattle.taxi_text.specs.declared.command.Command.TheVariants.{Work, WorkDone};
-ghost use Rattle.certificate.specs.Printable.{IsName};
+ghost use Rattle.replies.specs.Printable.{IsName};
 ghost use Rattle.taxi_engine.specs.Done.{IsDoneAsDue, IsDoneOrMemory};
 
 use crate::Engine;

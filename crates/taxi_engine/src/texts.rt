@@ -1,11 +1,12 @@
 //! The texts of short replies.
 ghost use Rattle.std.specs.Prelude.{◌≡◌, ◌≤◌, length, false};
 ghost use Rattle.taxi_base.specs.Walks.{begin_of, end_of};
-ghost use Rattle.certificate.specs.declared.block.Block.TheVariants.{Refused, Filed, Cancelled};
-ghost use Rattle.certificate.specs.Texts.{is_long, block_text};
+ghost use Rattle.replies.specs.declared.block.Block.TheVariants.{Refused, Filed, Cancelled};
+ghost use Rattle.replies.specs.Texts.{is_long, block_text};
 
 use airport_file::Airport;
-use certificate::{Block, print_short};
+use block_writer::print_short;
+use replies::Block;
 use taxi_base::{Flight, Name, Party, Refusal, begin_of, end_of};
 use taxi_text::ShortText;
 

@@ -1,9 +1,9 @@
 //! The report of a segment's windows.
 ghost use Rattle.std.specs.Prelude.{◌≡◌, ◌<◌, length, None, IfOk, OnOk};
-ghost use Rattle.certificate.specs.declared.block.Block.TheVariants.{Windows};
-ghost use Rattle.certificate.specs.Texts.{block_text};
+ghost use Rattle.replies.specs.declared.block.Block.TheVariants.{Windows};
+ghost use Rattle.replies.specs.Texts.{block_text};
 ghost use Rattle.taxi_text.specs.declared.command.Command.TheVariants as asked;
-ghost use Rattle.certificate.specs.CarriedOut.{windows_among};
+ghost use Rattle.replies.specs.CarriedOut.{windows_among};
 ghost use Rattle.window_store.specs.Store.{spans_at};
 ghost use Rattle.commitments.specs.Book.{Fits};
 ghost use Rattle.taxi_engine.specs.Done.{IsDoneOrMemory};
@@ -11,8 +11,8 @@ ghost use Rattle.taxi_engine.specs.Done.{IsDoneOrMemory};
 use crate::Engine;
 use crate::reply::ReplyText;
 use airport_file::Airport;
-use certificate::Block;
 use commitments::Ledger;
+use replies::Block;
 use std::alloc::Global;
 use taxi_base::{List, Memory, Name, Refusal, Segment, Span};
 use window_store::WindowStore;

@@ -9,14 +9,19 @@ use Rattle.taxi_io.specs.Counts.{Rose}
 use Rattle.taxi_io.specs.Files.{Files, IsFile, Begins}
 use Rattle.taxi_io.specs.Written.{Output, Grew, AreHanded}
 use Rattle.taxi_io.proofs.Pieces.{grew-nothing, handed-nothing, handed-on, handed-all, handed-longer}
-use Rattle.certificate.specs.declared.block.Block.{Block}
+use Rattle.replies.specs.declared.block.Block.{Block}
 use Rattle.transcripts.specs.Runs.{IsRun}
 use Rattle.command_run.specs.declared.refused.RunRefused.{RunRefused}
 use Rattle.command_run.specs.declared.refused.RunRefused.TheVariants as refused
 use Rattle.command_run.specs.Ended.{ended_lines_of, commands_among}
 use Rattle.command_run.specs.Halts.{HaltsWith}
-use Rattle.command_run.specs.Told.{numbered_among, lines_within, texts_told, all_told, IsWholeTold, IsHaltedTold, IsCutTold, IsStoppedTold}
+use Rattle.command_run.specs.HowFar.{Told, Pieces, Outputs}
+use Rattle.command_run.specs.Pace.{commands_left}
+use Rattle.command_run.specs.RunEnds.{HasOutcome}
+use Rattle.command_run.specs.Told.{numbered_among, lines_within, texts_told, all_told, AreTold, IsWholeTold, IsHaltedTold, IsCutTold, IsPromptTold, IsStoppedTold}
 use Rattle.command_run.proofs.BegunFiles.{begun-file, taken-file}
+use Rattle.command_run.proofs.PaceLaws.{HasKept, run-pace}
+use Rattle.command_run.proofs.Told.{nothing-told}
 use Rattle.reply_json.specs.Lines.{done_line}
 use Rattle.program_files.specs.declared.status.Status.{Status}
 use Rattle.program_files.specs.declared.status.Status.TheVariants as status
@@ -33,7 +38,8 @@ use Rattle.tool_words.specs.Verb.{Json}
 use Rattle.taxi_tools.specs.Endings.{IsDueText, Ends}
 use Rattle.taxi_tools.specs.Handed.{AreJsonTexts, IsInPieces}
 use Rattle.taxi_tools.specs.Objects.{object_of}
-use Rattle.taxi_tools.specs.RunEnds.{HasOutcome, IsRunEnd}
+use Rattle.taxi_tools.specs.RunEnds.{AreStopped, IsRunEnd}
+use Rattle.taxi_tools.specs.Pace.{ObjectsKeepPace}
 
 -- the lines of a file whose commands are answered, by whether it is longer than a command file may be
 abbrev lines_if : List ℕ → Bool → List (List ℕ)
@@ -262,28 +268,46 @@ module _ (call : Call) (names : FileNames) (airport : Airport) (accepted : IsJud
 
 -- ---- the call as a whole
 
-run-outcome : (call : Call) (names : FileNames) (airport : Airport) (accepted : IsJudged call.files names.airport (Ok airport)) (rest left : Option (List ℕ)) (between : Output)
-    (before mid : ℕ) (ended : Status) (outcome : Result ℕ RunRefused) → Begins call.files names.commands rest → call.writes.0 ≤ mid → mid ≤ call.writes.1 → call.reads.0 ≤ before
-    → HasOutcome (record { files = call.files; reads = (before, call.reads.1); writes = call.writes; left = left; taken = call.taken }) airport rest between mid ended outcome
+-- what was told where the run was stopped
+kept : (airport : Airport) (left : Told) (given : Pieces) (written : Outputs) (why : RunRefused) → AreStopped airport commands_limit left given written why
+    → HasKept (AreTold object_of) (IsPromptTold object_of) airport left given written why
+kept airport left given written refused.ReadFault stopped = stopped.0
+kept airport left given written refused.TooLarge stopped = stopped.0
+kept airport left given written refused.WriteFault stopped = stopped.1 refl
+kept airport left given written refused.Memory stopped = tt
+
+run-outcome : (call : Call) (names : FileNames) (airport : Airport) (accepted : IsJudged call.files names.airport (Ok airport)) (rest left : Option (List ℕ)) (first : List (List ℕ)) (between : Output)
+    (told : Option Files) (begun : Bool) (before mid : ℕ) (ended : Status) (outcome : Result ℕ RunRefused) → Begins call.files names.commands rest → call.writes.0 ≤ mid → mid ≤ call.writes.1 → call.reads.0 ≤ before
+    → HasOutcome (IsWholeTold object_of airport commands_limit) (AreStopped airport commands_limit) done_line
+    (record { files = told; reads = (before, call.reads.1); writes = call.writes; begun = begun; left = left; given = call.given; taken = call.taken }) rest first between mid ended outcome
     → Ends call (Some (Json names)) ended × IsInPieces call names ended
-run-outcome call names airport accepted rest left between before mid ended (Ok count) begins later after earlier has = (
+run-outcome call names airport accepted rest left first between told begun before mid ended (Ok count) begins later after earlier has = (
   whole-ends call names airport accepted rest left between begins mid later count ended has.0 has.1,
   whole-handed call names airport accepted rest left between begins count ended (mid, call.writes.1) has.0 has.1,
 )
-run-outcome call names airport accepted rest left between before mid ended (Err why) begins later after earlier has = (
-  halt-ends call names airport accepted rest left between begins mid later why ended before has.0 has.2 earlier has.3 after has.1,
-  halt-handed call names airport accepted rest left between why ended (mid, call.writes.1) has.0 has.1,
+run-outcome call names airport accepted rest left first between told begun before mid ended (Err why) begins later after earlier has = (
+  halt-ends call names airport accepted rest left between begins mid later why ended before has.0.0 has.2 earlier has.3 after has.1,
+  halt-handed call names airport accepted rest left between why ended (mid, call.writes.1) has.0.0 has.1,
 )
 
--- how the run ends ends the call
-pub run-ends : (call : Call) (names : FileNames) (airport : Airport) (told : Option Files) (left : Option (List ℕ)) (before : ℕ) (ended : Status)
+-- how the run ends ends the call, and it keeps pace with its command file
+pub run-ends : (call : Call) (names : FileNames) (airport : Airport) (told : Option Files) (begun : Bool) (left : Option (List ℕ)) (before : ℕ) (ended : Status)
     → IsJudged call.files names.airport (Ok airport) → told ≡ call.files → call.reads.0 ≤ before
-    → IsRunEnd (record { files = told; reads = (before, call.reads.1); writes = call.writes; left = left; taken = call.taken }) airport names.commands ended
-    → Ends call (Some (Json names)) ended × IsInPieces call names ended
-run-ends call names airport told left before ended accepted same earlier (inl stopped) = (
-  begin-ends call names stopped.why ended before stopped.cause earlier stopped.stops,
-  stop-handed call names stopped.why ended stopped.stops,
-)
-run-ends call names airport told left before ended accepted same earlier (inr run) =
-    run-outcome call names airport accepted run.rest left run.between before run.mid ended run.outcome
-    (subst (λ (t : Option Files). Begins t names.commands run.rest) same run.begins) run.later run.after earlier run.has
+    → IsRunEnd (record { files = told; reads = (before, call.reads.1); writes = call.writes; begun = begun; left = left; given = call.given; taken = call.taken }) airport names.commands ended
+    → Ends call (Some (Json names)) ended × ObjectsKeepPace call names (commands_left call.files names begun left) ended × IsInPieces call names ended
+run-ends call names airport told begun left before ended accepted same earlier ends =
+    let both = of ends in (
+      both.0,
+      run-pace (AreTold object_of) (IsPromptTold object_of) (λ airport now. nothing-told object_of airport now no_holder refl) AreStopped kept done_line call names airport told begun left (before, call.reads.1) ended accepted same ends,
+      both.1,
+    )
+  where
+    of : IsRunEnd (record { files = told; reads = (before, call.reads.1); writes = call.writes; begun = begun; left = left; given = call.given; taken = call.taken }) airport names.commands ended
+        → Ends call (Some (Json names)) ended × IsInPieces call names ended
+    of (inl stopped) = (
+      begin-ends call names stopped.why ended before stopped.cause earlier stopped.stops,
+      stop-handed call names stopped.why ended stopped.stops,
+    )
+    of (inr run) =
+        run-outcome call names airport accepted run.rest left run.first run.between told begun before run.mid ended run.outcome
+        (subst (λ (t : Option Files). Begins t names.commands run.rest) same run.begins) run.later run.after earlier run.has

@@ -4,12 +4,12 @@ use Rattle.taxi_io.specs.Counts.{Rose}
 use Rattle.taxi_io.specs.Written.{AreHandedInPart, Handed}
 use Rattle.airport_file.specs.Reading.{RecordFault}
 use Rattle.program_files.specs.declared.status.Status.{Status}
-use Rattle.program_files.specs.declared.status.Status.TheVariants.{Done, Usage, AirportRefused, ReadFault, TooLarge}
+use Rattle.program_files.specs.declared.status.Status.TheVariants.{Done, Usage, AirportRefused, ReadFault, TooLarge, Wrong}
 use Rattle.program_files.specs.Call.{Call, EndsAs}
 use Rattle.program_files.specs.Lines.{refusal_line}
 use Rattle.tool_words.specs.Usage.{usage_line}
 use Rattle.tool_words.specs.Verb.{Verb}
-use Rattle.taxi_tools.specs.Outcomes.{IsDoneText}
+use Rattle.taxi_tools.specs.Outcomes.{IsDoneText, IsWrongText}
 use Rattle.taxi_tools.specs.Reads.{IsRefused}
 use Rattle.taxi_tools.specs.Halts.{IsFaultText, IsLargeText}
 
@@ -20,6 +20,7 @@ IsDueText call (Some asked) Done text = IsDoneText call.files asked text
 IsDueText call (Some asked) AirportRefused text = (fault : RecordFault) × IsRefused call.files asked fault × (text ≡ refusal_line fault)
 IsDueText call (Some asked) ReadFault text = Rose call.reads.0 call.reads.1 × IsFaultText call.files asked text
 IsDueText call (Some asked) TooLarge text = IsLargeText call.files asked text
+IsDueText call (Some asked) Wrong text = IsWrongText call.files asked text
 IsDueText call _ _ text = ⊥
 
 abbrev pub Ends : Call → Option Verb → Status → Type 0

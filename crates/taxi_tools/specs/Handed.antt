@@ -5,7 +5,7 @@ use Rattle.taxi_base.specs.State.{State, no_holder}
 use Rattle.taxi_text.specs.Lines.{lines_of}
 use Rattle.taxi_io.specs.Files.{Files}
 use Rattle.taxi_io.specs.Written.{AreHanded, AreHandedInPart}
-use Rattle.certificate.specs.declared.block.Block.{Block}
+use Rattle.replies.specs.declared.block.Block.{Block}
 use Rattle.transcripts.specs.Runs.{IsRun}
 use Rattle.command_run.specs.Ended.{commands_among}
 use Rattle.command_run.specs.Told.{numbered_among, texts_told}

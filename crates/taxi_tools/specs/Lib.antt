@@ -3,6 +3,7 @@ pub mod Outcomes
 pub mod Reads
 pub mod Halts
 pub mod Handed
+pub mod Pace
 pub mod RunEnds
 pub mod Endings
 pub mod Due

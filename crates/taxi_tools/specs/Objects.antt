@@ -4,7 +4,7 @@ use Rattle.taxi_base.specs.Airport.{Airport}
 use Rattle.taxi_base.specs.State.{State, no_holder}
 use Rattle.taxi_text.specs.Lines.{lines_of, commands_of}
 use Rattle.taxi_io.specs.Files.{Files}
-use Rattle.certificate.specs.declared.block.Block.{Block}
+use Rattle.replies.specs.declared.block.Block.{Block}
 use Rattle.transcripts.specs.Runs.{IsRun}
 use Rattle.command_run.specs.Ended.{ended_lines_of, ended_commands_of}
 use Rattle.command_run.specs.Told.{Telling, all_told}

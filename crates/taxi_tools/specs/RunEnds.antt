@@ -1,57 +1,19 @@
 -- How does `json` end at an accepted airport? No public clause cites this file.
-use Rattle.std.specs.Prelude.{◌≡◌, ◌≤◌, ◌⊎◌, ℕ, List, Option, Result, Ok, Err}
+use Rattle.std.specs.Prelude.{◌≡◌, ℕ, List}
 use Rattle.taxi_base.specs.Airport.{Airport}
-use Rattle.taxi_io.specs.Counts.{Rose}
-use Rattle.taxi_io.specs.Files.{Files, Begins}
-use Rattle.taxi_io.specs.Written.{Output}
 use Rattle.command_run.specs.declared.refused.RunRefused.{RunRefused}
 use Rattle.command_run.specs.declared.refused.RunRefused.TheVariants as refused
-use Rattle.command_run.specs.Answered.{Outputs}
-use Rattle.command_run.specs.Halts.{HaltsWith}
-use Rattle.command_run.specs.Told.{IsWholeTold, IsStoppedTold}
+use Rattle.command_run.specs.HowFar.{Told, Pieces, Outputs}
+use Rattle.command_run.specs.RunEnds.{RunCall, IsRunEndBy}
+use Rattle.command_run.specs.Told.{IsWholeTold, IsStoppedTold, IsPromptTold}
 use Rattle.reply_json.specs.Lines.{done_line}
 use Rattle.program_files.specs.declared.status.Status.{Status}
-use Rattle.program_files.specs.declared.status.Status.TheVariants as status
-use Rattle.program_files.specs.LastLine.{EndsWith}
-use Rattle.program_files.specs.declared.stop.Stop.{Stop}
-use Rattle.program_files.specs.Inputs.{commands_limit}
-use Rattle.program_files.specs.Stops.{IsCauseOfBegin, StopsWith}
 use Rattle.taxi_tools.specs.Objects.{object_of}
 
--- what a run at an airport finds, and what it leaves: the counts of faults of the shelf and of the sink, what is left of the file that is
--- begun, and what the sink took
-pub record RunCall : Type 0 where
-  pub files : Option Files
-  pub reads : ℕ × ℕ
-  pub writes : ℕ × ℕ
-  pub left : Option (List ℕ)
-  pub taken : Outputs
-
--- the command file can't be begun
-pub record IsUnbegun (call : RunCall) (ended : Status) : Type 0 where
-  pub why : Stop
-  pub cause : IsCauseOfBegin call.reads why
-  pub stops : StopsWith why call.writes call.taken ended
-
--- what was told, and how the last line decided the status, by what the sink had taken and its count of faults between
-abbrev pub HasOutcome : RunCall → Airport → Option (List ℕ) → Output → ℕ → Status → Result ℕ RunRefused → Type 0
-HasOutcome call airport rest between mid ended (Ok count) =
-    IsWholeTold object_of airport commands_limit (rest, call.left) (call.taken.0, between) count
-    × EndsWith (done_line count) status.Done (mid, call.writes.1) (between, call.taken.1) ended
-HasOutcome call airport rest between mid ended (Err why) =
-    IsStoppedTold object_of airport commands_limit (rest, call.left) (call.taken.0, between) why × HaltsWith why (mid, call.writes.1) (between, call.taken.1) ended
-    × (why ≡ refused.ReadFault → Rose call.reads.0 call.reads.1) × (why ≡ refused.WriteFault → Rose call.writes.0 mid)
-
--- the command file of this name was begun, and its commands were told
-pub record IsBegunRun (call : RunCall) (airport : Airport) (name : List ℕ) (ended : Status) : Type 0 where
-  pub rest : Option (List ℕ)
-  pub begins : Begins call.files name rest
-  pub between : Output
-  pub mid : ℕ
-  pub later : call.writes.0 ≤ mid
-  pub after : mid ≤ call.writes.1
-  pub outcome : Result ℕ RunRefused
-  pub has : HasOutcome call airport rest between mid ended outcome
+-- how much was told where the run didn't come to the end of its file, and that a failed write was prompt
+abbrev pub AreStopped : Airport → ℕ → Told → Pieces → Outputs → RunRefused → Type 0
+AreStopped airport limit left given written why =
+    IsStoppedTold object_of airport limit left written why × (why ≡ refused.WriteFault → IsPromptTold object_of airport left given written)
 
 abbrev pub IsRunEnd : RunCall → Airport → List ℕ → Status → Type 0
-IsRunEnd call airport name ended = IsUnbegun call ended ⊎ IsBegunRun call airport name ended
+IsRunEnd = IsRunEndBy (IsWholeTold object_of) AreStopped done_line

@@ -4,6 +4,7 @@
 ghost use Rattle.std.specs.Prelude.{◌≡◌, ℕ, List, IfErr};
 ghost use Rattle.std.specs.IoError.{error_kind};
 ghost use Rattle.std.specs.Process.{exit_status};
+ghost use Rattle.command_run.specs.Pace.{commands_left};
 ghost use Rattle.program_files.specs.Call.{call_of};
 ghost use Rattle.program_files.specs.Exit.{number_of};
 ghost use Rattle.program_words.specs.Given.{words_given};
@@ -11,6 +12,7 @@ ghost use Rattle.tool_words.specs.Verb.{IsNamed, asked_by};
 ghost use Rattle.taxi_tools.specs.Exit.{KeepsPromises};
 
 mod airport_tools;
+mod explanations;
 mod object_teller;
 mod objects;
 mod reply_counter;
@@ -37,7 +39,8 @@ fn call<S: Shelf, K: Sink>(
     out: &mut K,
 ) -> ExitCode
     requires known { (name : List ℕ) → IsNamed (asked_by (words_given given)) name → S.knows shelf.old name }
-    ensures promises { (status : Status) × (exit_status result ≡ number_of status) × KeepsPromises (call_of S.files S.faults S.given K.faults K.written (shelf.old, shelf.new) (out.old, out.new)) (asked_by (words_given given)) (S.tried shelf.old, S.tried shelf.new) (shelf.new ≡ shelf.old) status }
+    ensures promises { (status : Status) × (exit_status result ≡ number_of status) × KeepsPromises (call_of S.files S.faults S.given K.faults K.written (shelf.old, shelf.new) (out.old, out.new)) (asked_by (words_given given))
+        (λ names. commands_left (S.files shelf.old) names (S.begun shelf.new) (S.rest shelf.new)) (S.tried shelf.old, S.tried shelf.new) (shelf.new ≡ shelf.old) status }
     ensures memory { IfErr given (λ error. error_kind error ≡ ErrorKind.OutOfMemory → exit_status result ≡ number_of Status.Memory) }
 {
     match words_after_name(alloc, given) {

@@ -1,8 +1,9 @@
 //! The verb `json`.
-ghost use Rattle.std.specs.Prelude.{◌≡◌, ◌≤◌, ◌∷◌, [], Some, IfOk, IfErr, IsErrOf, IsTrue};
+ghost use Rattle.std.specs.Prelude.{◌≡◌, ◌≤◌, ◌∷◌, [], true, Some, IfOk, IfErr, IsErrOf, IsTrue};
 ghost use Rattle.taxi_io.specs.Counts.{Rose};
 ghost use Rattle.taxi_io.specs.Files.{BeganMore};
-ghost use Rattle.command_run.specs.Told.{IsWholeTold, IsStoppedTold};
+ghost use Rattle.command_run.specs.Pace.{commands_left};
+ghost use Rattle.command_run.specs.Told.{IsWholeTold};
 ghost use Rattle.program_files.specs.Call.{call_of};
 ghost use Rattle.program_files.specs.Inputs.{commands_limit};
 ghost use Rattle.tool_words.specs.Verb.{Json, names_of};
@@ -10,7 +11,8 @@ ghost use Rattle.taxi_tools.specs.Endings.{Ends};
 ghost use Rattle.taxi_tools.specs.Handed.{IsInPieces};
 ghost use Rattle.taxi_tools.specs.Objects.{object_of};
 ghost use Rattle.taxi_tools.specs.Order.{IsInOrder};
-ghost use Rattle.taxi_tools.specs.RunEnds.{IsRunEnd};
+ghost use Rattle.taxi_tools.specs.Pace.{KeepsPace};
+ghost use Rattle.taxi_tools.specs.RunEnds.{AreStopped, IsRunEnd};
 
 use crate::object_teller::ObjectTeller;
 use airport_file::Airport;
@@ -33,6 +35,8 @@ pub(crate) fn json<S: Shelf, K: Sink>(
     requires airport { S.knows shelf.old airport.now }
     requires commands { S.knows shelf.old commands.now }
     ensures ends { Ends (call_of S.files S.faults S.given K.faults K.written (shelf.old, shelf.new) (out.old, out.new)) (Some (Json (names_of airport.now commands.now))) result }
+    ensures pace { KeepsPace (call_of S.files S.faults S.given K.faults K.written (shelf.old, shelf.new) (out.old, out.new)) (Some (Json (names_of airport.now commands.now)))
+        (λ names. commands_left (S.files shelf.old) names (S.begun shelf.new) (S.rest shelf.new)) (S.tried shelf.old, S.tried shelf.new) result }
     ensures handed { IsInPieces (call_of S.files S.faults S.given K.faults K.written (shelf.old, shelf.new) (out.old, out.new)) (names_of airport.now commands.now) result }
     ensures order { IsInOrder (S.files shelf.old) (Some (Json (names_of airport.now commands.now))) (S.tried shelf.old) (S.tried shelf.new) }
     ensures reads_later { S.faults shelf.old ≤ S.faults shelf.new }
@@ -57,7 +61,9 @@ fn json_at<S: Shelf, K: Sink>(
       files = S.files shelf.old;
       reads = (S.faults shelf.old, S.faults shelf.new);
       writes = (K.faults out.old, K.faults out.new);
+      begun = S.begun shelf.new;
       left = S.rest shelf.new;
+      given = S.given shelf.new;
       taken = (K.written out.old, K.written out.new);
     }) airport commands.now result }
     ensures tried { BeganMore (S.tried shelf.old) (S.tried shelf.new) (commands.now ∷ []) }
@@ -82,9 +88,10 @@ fn run_teller<S: Shelf, K: Sink>(
 ) -> Result<u64, RunRefused>
     requires { IsTrue (S.begun shelf.old) }
     ensures whole { IfOk result (IsWholeTold object_of airport commands_limit (S.rest shelf.old, S.rest shelf.new) (K.written out.old, K.written out.new)) }
-    ensures stopped { IfErr result (IsStoppedTold object_of airport commands_limit (S.rest shelf.old, S.rest shelf.new) (K.written out.old, K.written out.new)) }
+    ensures stopped { IfErr result (AreStopped airport commands_limit (S.rest shelf.old, S.rest shelf.new) (S.given shelf.old, S.given shelf.new) (K.written out.old, K.written out.new)) }
     ensures read_fault { IsErrOf result RunRefused.ReadFault → Rose (S.faults shelf.old) (S.faults shelf.new) }
     ensures write_fault { IsErrOf result RunRefused.WriteFault → Rose (K.faults out.old) (K.faults out.new) }
+    ensures begun { S.begun shelf.new ≡ true }
     ensures tried { S.tried shelf.new ≡ S.tried shelf.old }
     ensures reads_later { S.faults shelf.old ≤ S.faults shelf.new }
     ensures writes_later { K.faults out.old ≤ K.faults out.new }

@@ -1,7 +1,7 @@
 //! The engine as a counter of its replies.
 ghost use Rattle.std.specs.Prelude.{◌≡◌, [], List, IfOk};
 ghost use Rattle.taxi_base.specs.State.{no_holder};
-ghost use Rattle.certificate.specs.declared.block.Block.{Block};
+ghost use Rattle.replies.specs.declared.block.Block.{Block};
 ghost use Rattle.run_figures.specs.Counts.{AreCounts};
 ghost use Rattle.taxi_tools.specs.Outcomes.{IsTextAfter};
 

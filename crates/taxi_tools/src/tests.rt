@@ -100,6 +100,8 @@ fn shelf_of(alloc: Global) -> Result<MemoryShelf, AllocError> {
     let commands = Vec::from_slice(alloc, two_flights())?;
     files.push((String::from_str(alloc, "airport.csv")?, airport))?;
     files.push((String::from_str(alloc, "commands.txt")?, commands))?;
+    let arrival = Vec::from_slice(alloc, b"arrival F1 M R S1 100 0\n")?;
+    files.push((String::from_str(alloc, "arrival.txt")?, arrival))?;
     Ok(MemoryShelf::new(files, 4096, Vec::new(alloc)))
 }
 
@@ -183,5 +185,16 @@ fn replies_are_objects(rt: HostRuntime) -> Result<(), Fail> {
         "json airport.csv commands.txt",
         Status::Done,
         their_objects(),
+    )
+}
+
+#[test]
+fn a_reply_is_explained(rt: HostRuntime) -> Result<(), Fail> {
+    expect_call(
+        &rt,
+        rt.alloc(),
+        "explain airport.csv arrival.txt 1",
+        Status::Done,
+        b"answer none\nalone none\n",
     )
 }

@@ -2,18 +2,21 @@
 ghost use Rattle.std.specs.Prelude.{◌≡◌, ◌⊎◌, ◌≤◌, ℕ, List, map, string_bytes, Some, None, MatchResult};
 ghost use Rattle.taxi_io.specs.Counts.{Rose};
 ghost use Rattle.taxi_io.specs.Files.{Files};
+ghost use Rattle.command_run.specs.Pace.{commands_left};
 ghost use Rattle.program_files.specs.Call.{call_of};
 ghost use Rattle.program_files.specs.LastLine.{EndsWith};
 ghost use Rattle.program_files.specs.Stops.{StopsWith};
-ghost use Rattle.tool_words.specs.Verb.{IsNamed, asked_by};
+ghost use Rattle.tool_words.specs.Verb.{IsNamed, CountsFromOne, asked_by};
 ghost use Rattle.tool_words.specs.LentWords.{asked_for};
 ghost use Rattle.taxi_tools.specs.Due.{IsDueOf};
 ghost use Rattle.taxi_tools.specs.Endings.{Ends};
 ghost use Rattle.taxi_tools.specs.Handed.{IsHandedOver};
 ghost use Rattle.taxi_tools.specs.Order.{IsInOrder};
+ghost use Rattle.taxi_tools.specs.Pace.{KeepsPace};
 ghost use Rattle.taxi_tools.specs.CarriedOut.{IsCarriedOut};
 
 use crate::airport_tools::output_of_airport;
+use crate::explanations::{output_of_command, write_explanation};
 use crate::objects::json;
 use crate::run_tools::output_of_run;
 use program_files::{Status, Stop, write_last, write_stop};
@@ -46,6 +49,10 @@ pub fn tools<S: Shelf, K: Sink>(
     // It hands its whole output over as one piece, and with `json` each object as one.
     ensures handed { IsHandedOver (call_of S.files S.faults S.given K.faults K.written (shelf.old, shelf.new) (out.old, out.new)) (asked_by (map string_bytes words.now)) result }
 
+    // With `json` each object is written before more of the command file is taken, and none until that file is begun.
+    ensures pace { KeepsPace (call_of S.files S.faults S.given K.faults K.written (shelf.old, shelf.new) (out.old, out.new)) (asked_by (map string_bytes words.now))
+        (λ names. commands_left (S.files shelf.old) names (S.begun shelf.new) (S.rest shelf.new)) (S.tried shelf.old, S.tried shelf.new) result }
+
     ensures order { IsInOrder (S.files shelf.old) (asked_by (map string_bytes words.now)) (S.tried shelf.old) (S.tried shelf.new) }
     ensures reads_later { S.faults shelf.old ≤ S.faults shelf.new }
     ensures writes_later { K.faults out.old ≤ K.faults out.new }
@@ -64,7 +71,9 @@ fn carry_out<S: Shelf, K: Sink>(
     out: &mut K,
 ) -> Status
     requires known { (name : List ℕ) → IsNamed (Some (asked_for asked.now)) name → S.knows shelf.old name }
-    ensures { IsCarriedOut (call_of S.files S.faults S.given K.faults K.written (shelf.old, shelf.new) (out.old, out.new)) (asked_for asked.now) (S.tried shelf.old, S.tried shelf.new) result }
+    requires counted { CountsFromOne (Some (asked_for asked.now)) }
+    ensures { IsCarriedOut (call_of S.files S.faults S.given K.faults K.written (shelf.old, shelf.new) (out.old, out.new)) (asked_for asked.now)
+        (λ names. commands_left (S.files shelf.old) names (S.begun shelf.new) (S.rest shelf.new)) (S.tried shelf.old, S.tried shelf.new) result }
 {
     match asked {
         Verb::OfAirport { airport, tool } => {
@@ -75,6 +84,17 @@ fn carry_out<S: Shelf, K: Sink>(
             commands,
             tool,
         } => write_output(out, output_of_run(alloc, shelf, airport, commands, tool)),
+        Verb::Explain {
+            airport,
+            commands,
+            number,
+        } => {
+            write_explanation(
+                out,
+                output_of_command(alloc, shelf, airport, commands, *number),
+                *number,
+            )
+        }
         Verb::Json { airport, commands } => json(alloc, airport, commands, shelf, out),
     }
 }

@@ -1,9 +1,10 @@
 //! What words ask for.
 ghost use Rattle.std.specs.Prelude.{◌≡◌, map, string_bytes};
-ghost use Rattle.tool_words.specs.Verb.{asked_by, asked_of_one, asked_of_two, asked_of_three, start_of};
+ghost use Rattle.tool_words.specs.Verb.{asked_by, asked_of_one, asked_of_two, asked_of_three, start_of, command_number, counted_from_one};
 ghost use Rattle.tool_words.specs.LentWords.{asked_as};
 
 use civil_times::Start;
+use taxi_text::read_number;
 
 /// What is asked of an airport alone.
 #[derive(Clone, Copy)]
@@ -36,6 +37,12 @@ pub enum Verb<'a> {
         airport: &'a str,
         commands: &'a str,
         tool: RunTool,
+    },
+    /// Why the reply to one of the commands is as it is. They are counted from 1.
+    Explain {
+        airport: &'a str,
+        commands: &'a str,
+        number: u32,
     },
     /// Each reply of a run as a JSON object, as the lines of the commands come.
     Json {
@@ -103,6 +110,14 @@ fn asked_of_three<'a>(
         "plan" => RunTool::Plan {
             start: Some(start_of(third)?),
         },
+        "explain" => {
+            let number = command_number(third)?;
+            return Some(Verb::Explain {
+                airport,
+                commands,
+                number,
+            });
+        }
         _ => return None,
     };
     Some(Verb::OfRun {
@@ -117,4 +132,19 @@ fn start_of(word: &str) -> Option<Start>
     ensures { result ≡ start_of word.now }
 {
     Start::read(word.as_bytes())
+}
+
+// The number of a command that a word names.
+fn command_number(word: &str) -> Option<u32>
+    ensures { result ≡ command_number word.now }
+{
+    let number = read_number(word.as_bytes())?;
+    counted_from_one(number)
+}
+
+// A number that counts from 1.
+fn counted_from_one(number: u32) -> Option<u32>
+    ensures { result ≡ counted_from_one number }
+{
+    if number == 0 { None } else { Some(number) }
 }

@@ -7,11 +7,11 @@ use Rattle.taxi_base.specs.Airport.{Airport, IsWellFormed}
 use Rattle.taxi_base.specs.State.{State, no_holder, IsSound}
 use Rattle.taxi_base.proofs.StateLaws.{IsClashFree-feasible}
 use Rattle.taxi_text.specs.Lines.{lines_of, is_skipped}
-use Rattle.certificate.specs.declared.block.Block.{Block}
-use Rattle.certificate.specs.Texts.{block_text}
-use Rattle.certificate.specs.Printable.{IsPrintable}
-use Rattle.certificate.specs.Passes.{IsPassed}
-use Rattle.certificate.proofs.BestLaws.{passed-best, passed-sound}
+use Rattle.replies.specs.declared.block.Block.{Block}
+use Rattle.replies.specs.Texts.{block_text}
+use Rattle.replies.specs.Printable.{IsPrintable}
+use Rattle.replies.specs.Passes.{IsPassed}
+use Rattle.replies.proofs.BestLaws.{passed-best, passed-sound}
 use Rattle.block_reader.specs.Read.{BeginsWith}
 use Rattle.transcript_check.specs.declared.failure.Failure.{Failure}
 use Rattle.transcript_check.specs.declared.failure.Failure.TheVariants.{Form}

@@ -3,11 +3,11 @@ use Rattle.std.proofs.Common.{◌≡◌, ◌+◌, ◌++◌, ◌∷◌, ◌∙◌
 use Rattle.std.proofs.lemmas.List.Elements.{All-head, All-tail}
 use Rattle.taxi_base.specs.Airport.{Airport, IsWellFormed}
 use Rattle.taxi_base.specs.State.{State, no_holder}
-use Rattle.certificate.specs.declared.block.Block.{Block}
-use Rattle.certificate.specs.Texts.{block_text}
-use Rattle.certificate.specs.Printable.{IsPrintable}
-use Rattle.certificate.specs.Passes.{IsPassed, IsFirstBroken}
-use Rattle.certificate.proofs.TurnLaws.{first_broken-one, passed-unbroken}
+use Rattle.replies.specs.declared.block.Block.{Block}
+use Rattle.replies.specs.Texts.{block_text}
+use Rattle.replies.specs.Printable.{IsPrintable}
+use Rattle.replies.specs.Passes.{IsPassed, IsFirstBroken}
+use Rattle.replies.proofs.TurnLaws.{first_broken-one, passed-unbroken}
 use Rattle.block_reader.specs.Read.{BeginsWith}
 use Rattle.block_reader.proofs.ReadLaws.{texts-differ, one-begins}
 use Rattle.transcript_check.specs.declared.failure.Failure.{Failure}

@@ -2,9 +2,9 @@
 use Rattle.std.specs.Prelude.{◌≡◌, ◌+◌, ℕ, List, [], ◌∷◌, ◌++◌, length, All}
 use Rattle.taxi_base.specs.Airport.{Airport}
 use Rattle.taxi_base.specs.State.{State, no_holder, IsSound, IsClashFree}
-use Rattle.certificate.specs.declared.block.Block.{Block}
-use Rattle.certificate.specs.Printable.{IsPrintable}
-use Rattle.certificate.specs.Passes.{IsPassed, IsFirstBroken, TellsBest}
+use Rattle.replies.specs.declared.block.Block.{Block}
+use Rattle.replies.specs.Printable.{IsPrintable}
+use Rattle.replies.specs.Passes.{IsPassed, IsFirstBroken, TellsBest}
 use Rattle.block_reader.specs.Read.{BeginsWith}
 use Rattle.transcript_check.specs.declared.failure.Failure.{Failure}
 use Rattle.transcript_check.specs.declared.failure.Failure.TheVariants.{Form, Rule}

@@ -1,7 +1,7 @@
 -- Which word tells why a block fails?
 use Rattle.std.specs.Prelude.{ℕ, List, codes}
-use Rattle.certificate.specs.declared.rule.Rule.{Rule as CheckRule}
-use Rattle.certificate.specs.declared.rule.Rule.TheVariants as rule
+use Rattle.replies.specs.declared.rule.Rule.{Rule as CheckRule}
+use Rattle.replies.specs.declared.rule.Rule.TheVariants as rule
 use Rattle.transcript_check.specs.declared.failure.Failure.{Failure}
 use Rattle.transcript_check.specs.declared.failure.Failure.TheVariants.{Form, Rule}
 

@@ -2,7 +2,7 @@
 ghost use Rattle.std.specs.Prelude.{◌≡◌, ◌≤◌, length};
 ghost use Rattle.transcript_check.specs.Words.{rule_word, failure_word};
 
-use certificate::Rule;
+use replies::Rule;
 
 /// Why a block of a transcript fails.
 #[derive(Clone, Copy, Debug, Drop)]

@@ -1,7 +1,7 @@
 //! What a check says of a transcript, as laws of the definitions. The function does nothing: its clauses are the laws.
 ghost use Rattle.std.specs.Prelude.{◌≡◌, ℕ, List};
 ghost use Rattle.taxi_base.specs.Airport.{Airport, IsWellFormed};
-ghost use Rattle.certificate.specs.declared.block.Block.{Block};
+ghost use Rattle.replies.specs.declared.block.Block.{Block};
 ghost use Rattle.transcript_check.specs.declared.failure.Failure.{Failure as FailureOf};
 ghost use Rattle.transcript_check.specs.Checks.{IsRight, IsWrongAt};
 

@@ -8,8 +8,8 @@ use Rattle.std.proofs.lemmas.List.Splits.{length-slice_split}
 use Rattle.std.proofs.lemmas.Grind.{flat_map-append}
 use Rattle.taxi_base.specs.Airport.{Airport}
 use Rattle.taxi_text.specs.Lines.{lines_of, lines_of_parts, is_skipped}
-use Rattle.certificate.specs.declared.block.Block.{Block}
-use Rattle.certificate.specs.Texts.{block_text}
+use Rattle.replies.specs.declared.block.Block.{Block}
+use Rattle.replies.specs.Texts.{block_text}
 use Rattle.transcripts.specs.Runs.{blocks_text}
 
 -- the lines that hold commands

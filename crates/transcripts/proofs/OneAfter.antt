@@ -2,10 +2,10 @@
 use Rattle.std.proofs.Common.{◌≡◌, ◌∙◌, ℕ, List, sym}
 use Rattle.taxi_base.specs.Airport.{Airport, IsWellFormed}
 use Rattle.taxi_base.specs.State.{State}
-use Rattle.certificate.specs.declared.block.Block.{Block}
-use Rattle.certificate.specs.declared.block.Block.TheVariants.{Filed, Cancelled}
-use Rattle.certificate.specs.Passes.{IsPassed}
-use Rattle.certificate.proofs.OneReply.{IsDue-same}
+use Rattle.replies.specs.declared.block.Block.{Block}
+use Rattle.replies.specs.declared.block.Block.TheVariants.{Filed, Cancelled}
+use Rattle.replies.specs.Passes.{IsPassed}
+use Rattle.replies.proofs.OneReply.{IsDue-same}
 
 pub passed-one : (airport : Airport) (state : State) (line : List ℕ) (block : Block) (one other : State) → IsWellFormed airport
     → IsPassed airport state line block one → IsPassed airport state line block other → one ≡ other

@@ -3,8 +3,8 @@ use Rattle.std.proofs.Common.{◌≡◌, ◌++◌, ◌∷◌, [], ℕ, List, len
 use Rattle.taxi_base.specs.Airport.{Airport}
 use Rattle.taxi_base.specs.State.{State, no_holder, IsSound}
 use Rattle.taxi_base.proofs.StateLaws.{IsSound-nil}
-use Rattle.certificate.specs.declared.block.Block.{Block}
-use Rattle.certificate.proofs.ReplyLaws.{IsAnswered-sound, reply-is_there}
+use Rattle.replies.specs.declared.block.Block.{Block}
+use Rattle.replies.proofs.ReplyLaws.{IsAnswered-sound, reply-is_there}
 use Rattle.transcripts.specs.Runs.{InTurn, IsRun}
 
 -- an airport without holders is sound

@@ -2,9 +2,9 @@
 use Rattle.std.specs.Prelude.{◌≡◌, ℕ, List, [], ◌∷◌, ◌++◌, length, flat_map, codes, decimal}
 use Rattle.taxi_base.specs.Airport.{Airport}
 use Rattle.taxi_base.specs.State.{State}
-use Rattle.certificate.specs.declared.block.Block.{Block}
-use Rattle.certificate.specs.Texts.{block_text}
-use Rattle.certificate.specs.Replies.{IsAnswered}
+use Rattle.replies.specs.declared.block.Block.{Block}
+use Rattle.replies.specs.Texts.{block_text}
+use Rattle.replies.specs.Replies.{IsAnswered}
 
 -- Each line in turn meets a block, in the state that the lines before it left: what is true of a line, its block and the
 -- states before and after, is true of each. The first line finds the state before, and the last leaves the state after.

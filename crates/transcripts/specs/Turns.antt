@@ -2,11 +2,11 @@
 use Rattle.std.specs.Prelude.{◌≡◌, ℕ, List, Result, Ok, Err}
 use Rattle.taxi_base.specs.Airport.{Airport}
 use Rattle.taxi_base.specs.State.{State, IsSound}
-use Rattle.certificate.specs.declared.block.Block.{Block}
-use Rattle.certificate.specs.Texts.{block_text}
-use Rattle.certificate.specs.Printable.{IsPrintable}
-use Rattle.certificate.specs.Replies.{IsAnswered}
-use Rattle.certificate.specs.Passes.{IsPassed, IsFirstBroken, TellsBest}
+use Rattle.replies.specs.declared.block.Block.{Block}
+use Rattle.replies.specs.Texts.{block_text}
+use Rattle.replies.specs.Printable.{IsPrintable}
+use Rattle.replies.specs.Replies.{IsAnswered}
+use Rattle.replies.specs.Passes.{IsPassed, IsFirstBroken, TellsBest}
 use Rattle.transcripts.specs.declared.refused.CheckRefused.{CheckRefused}
 use Rattle.transcripts.specs.declared.refused.CheckRefused.TheVariants.{Wrong, Memory}
 

@@ -5,7 +5,7 @@ ghost use Rattle.taxi_base.specs.State.{State};
 ghost use Rattle.transcripts.specs.Turns.{ChecksIn};
 
 use crate::refused::CheckRefused;
-use certificate::Block;
+use replies::Block;
 
 /// Who checks blocks over an airport, one after the other, each in the state that those before it left.
 pub trait BlockChecker {

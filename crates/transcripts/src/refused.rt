@@ -1,5 +1,5 @@
 //! Why a block does not pass.
-use certificate::Rule;
+use replies::Rule;
 use taxi_base::Memory;
 
 /// Why a block does not pass.

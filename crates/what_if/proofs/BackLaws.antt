@@ -9,11 +9,11 @@ use Rattle.taxi_base.specs.declared.rows.Step.{Step}
 use Rattle.taxi_base.specs.Airport.{Airport}
 use Rattle.taxi_base.specs.State.{State, has_holder, with_flight, with_party, without, IsSound}
 use Rattle.taxi_base.proofs.StateLaws.{no_holder-parties}
-use Rattle.certificate.specs.declared.block.Block.{Block}
-use Rattle.certificate.specs.declared.block.Block.TheVariants.{Route, Filed, Cancelled}
-use Rattle.certificate.specs.Replies.{IsReply, IsAnswered, IsFlightIn, IsPartyIn}
-use Rattle.certificate.proofs.FlightLaws.{without-none}
-use Rattle.certificate.proofs.ReplyLaws.{IsAnswered-sound}
+use Rattle.replies.specs.declared.block.Block.{Block}
+use Rattle.replies.specs.declared.block.Block.TheVariants.{Route, Filed, Cancelled}
+use Rattle.replies.specs.Replies.{IsReply, IsAnswered, IsFlightIn, IsPartyIn}
+use Rattle.replies.proofs.FlightLaws.{without-none}
+use Rattle.replies.proofs.ReplyLaws.{IsAnswered-sound}
 use Rattle.sequence_exchange.proofs.NewLaws.{differ-not_same, put_in-left_out, with_flight-without}
 
 with_party-without : (party : Party) (state : State) → IsFalse (has_holder party.name state) → without party.name (with_party party state) ≡ state

@@ -4,8 +4,8 @@ ghost use Rattle.taxi_base.specs.declared.rows.LabelRow.{LabelRow};
 ghost use Rattle.taxi_base.specs.declared.rows.Step.{Step};
 ghost use Rattle.taxi_base.specs.Airport.{Airport};
 ghost use Rattle.taxi_base.specs.State.{State, has_holder, IsSound};
-ghost use Rattle.certificate.specs.declared.block.Block.TheVariants.{Route, Filed, Cancelled};
-ghost use Rattle.certificate.specs.Replies.{IsReply};
+ghost use Rattle.replies.specs.declared.block.Block.TheVariants.{Route, Filed, Cancelled};
+ghost use Rattle.replies.specs.Replies.{IsReply};
 
 /// A line asks for a flight that is new, and a later one cancels it: the holders in force are as they were. So they are where a route given by
 /// hand or a work party is filed and taken out.

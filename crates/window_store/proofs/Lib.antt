@@ -8,6 +8,5 @@ pub mod Pieces
 pub mod Runs
 pub mod Rooms
 pub mod Fresh
-pub mod Finding
 pub mod Wholes
 pub mod Rows

@@ -71,11 +71,6 @@ set-split [] at x on = absurd (omega arith)
 set-split (y ∷ xs) zero x on = refl
 set-split (y ∷ xs) (suc at) x on = ap (λ zs. y ∷ zs) (set-split xs at x (omega (arith, on)))
 
-insert-split : {X : Type 0} (xs : List X) (at : ℕ) (x y : X) → at < length xs → insert (slice_set xs at x) (suc at) y ≡ take at xs ++ x ∷ y ∷ drop (suc at) xs
-insert-split [] at x y on = absurd (omega arith)
-insert-split (z ∷ xs) zero x y on = refl
-insert-split (z ∷ xs) (suc at) x y on = ap (λ zs. z ∷ zs) (insert-split xs at x y (omega (arith, on)))
-
 module _ (row : List Span) (at : ℕ) (s w : Span) (on : at < length row) (is : w ≡ span_in row at) where
   abbrev rest : List Span
   rest = drop (suc at) row

@@ -82,7 +82,11 @@ all_free horizon ws are =
           omega (arith, ap (λ (vs : List Span). length vs) (AreWindows-same _ ws _ are no_window))
     ]
 
--- Spans leave at most one window more than there are spans.
+-- Spans leave at most one window more than there are spans. This is the argument for the room of a list: a node more for each
+-- hold is room for the windows after any edit, so no edit asks for memory.
+-- With no span there is one window at most. One span more takes its seconds out of those windows. They lie apart and it has no
+-- gap, so it cuts one of them in two at most, and all else that it does is to shorten windows or to take them out. So there is
+-- at most one window more than before. A span without a second takes nothing out.
 pub windows-few : (horizon : ℕ) (spans ws : List Span) → AreWindows (is_unheld horizon spans) ws → length ws ≤ 1 + length spans
 windows-few horizon [] ws are = all_free horizon ws are
 windows-few horizon (s ∷ spans) ws are =

@@ -136,9 +136,6 @@ module _ (sets : List (List Segment)) (s : Segment) (xs : List Hold) (h : Hold) 
   ]
 
   module _ (horizon : ℕ) (l : Listed) where
-    pub list-moved : ListStandsFor sets horizon (xs ++ h ∷ ys) s l → ListStandsFor sets horizon (h ∷ (xs ++ ys)) s l
-    list-moved = list-same sets horizon (xs ++ h ∷ ys) (h ∷ (xs ++ ys)) s l blocked-moved conflicting-moved
-
     pub list-moved_back : ListStandsFor sets horizon (h ∷ (xs ++ ys)) s l → ListStandsFor sets horizon (xs ++ h ∷ ys) s l
     list-moved_back = list-same sets horizon (h ∷ (xs ++ ys)) (xs ++ h ∷ ys) s l (λ t. sym (blocked-moved t)) (sym conflicting-moved)
 

@@ -1,12 +1,11 @@
 -- What stays in a store when holds come and go.
-use Rattle.std.specs.Prelude.{◌≡◌, ◌+◌, ◌<◌, ◌≤◌, max, ◌⊎◌, List, length, sum_by, Contains, All, IsTrue, Option, Some, None}
+use Rattle.std.specs.Prelude.{◌≡◌, ◌+◌, ◌<◌, ◌≤◌, max, ◌⊎◌, List, length, sum_by, Contains, All, IsTrue}
 use Rattle.taxi_base.specs.declared.numbers.Segment.{Segment}
 use Rattle.taxi_base.specs.declared.rows.Span.{Span}
 use Rattle.taxi_base.specs.declared.rows.Step.{Step}
 use Rattle.taxi_base.specs.Airport.{conflict}
 use Rattle.taxi_base.specs.Windows.{Hold, IsPart}
 use Rattle.interval_list.specs.declared.window.Window.{Window}
-use Rattle.interval_list.specs.Intervals.{span_of}
 use Rattle.window_store.specs.Spans.{nodes}
 use Rattle.window_store.specs.Store.{Store, list_at, windows_at}
 use Rattle.window_store.specs.Stands.{conflicting_steps}
@@ -48,11 +47,6 @@ pub record DrawsWhatIsLacking (sets : List (List Segment)) (steps : List Step) (
   pub most : (segment : Segment) → segment.0 < length old.lists
       → nodes (list_at new segment) ≤ max (nodes (list_at old segment)) (1 + (list_at old segment).held + conflicting_steps sets segment steps)
   pub ids : new.next + sum_by nodes old.lists ≡ old.next + sum_by nodes new.lists
-
--- the window of a list in which a span lies; none where it lies in none
-abbrev pub IsWindowAt : List Window → Span → Option Window → Type 0
-IsWindowAt windows span (Some w) = Contains windows w × IsPart span (span_of w)
-IsWindowAt windows span None = (w : Window) → Contains windows w → IsPart span (span_of w) → ⊥
 
 -- a span lies in one of some windows
 abbrev pub LiesInOne : List Span → Span → Type 0

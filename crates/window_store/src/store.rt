@@ -1,19 +1,19 @@
 //! A list of windows for each segment.
-ghost use Rattle.std.specs.Prelude.{ℕ, find, nat_lt, ◌≡◌, ◌↔◌, ◌+◌, ◌^◌, ◌<◌, ◌≤◌, List, [], ◌++◌, length, reverse, All, IfOk, OnOk, IsTrue};
+ghost use Rattle.std.specs.Prelude.{ℕ, ◌≡◌, ◌↔◌, ◌+◌, ◌^◌, ◌<◌, ◌≤◌, List, [], ◌++◌, length, All, IfOk, OnOk, IsTrue};
 ghost use Rattle.taxi_base.specs.declared.numbers.Segment.{Segment as SegmentNumber};
 ghost use Rattle.taxi_base.specs.Windows.{Hold, holds_of, AreApart};
 ghost use Rattle.interval_list.specs.Intervals.{span, IsNormal};
 ghost use Rattle.window_store.specs.Spans.{nodes};
 ghost use Rattle.window_store.specs.Store.{Store, IsStore, list_at, windows_at, spans_at};
 ghost use Rattle.window_store.specs.Stands.{StandsFor, HasRoomFor, AreOnSegments, TakeTime, AreInTime};
-ghost use Rattle.window_store.specs.Kept.{IsApartFrom, IsClearOf, KeepsWindows, KeepsNodes, GainsRoom, DrawsWhatIsLacking, IsWindowAt, LiesInOne};
+ghost use Rattle.window_store.specs.Kept.{IsApartFrom, IsClearOf, KeepsWindows, KeepsNodes, GainsRoom, DrawsWhatIsLacking, LiesInOne};
 
 use crate::edits::{Term, hold_steps, lower_for_steps, make_room, raise_for_steps, release_steps};
 use crate::held::OtherHolds;
 use crate::row::lies_in_one;
 use crate::segment_windows::SegmentWindows;
 use conflict_sets::Conflicts;
-use interval_list::{Ids, Window, Windows, WindowsBack};
+use interval_list::{Ids, Windows};
 use std::alloc::Global;
 use std::marker::Model;
 use taxi_base::{Memory, Segment, Span, Step, Time};
@@ -94,30 +94,6 @@ impl WindowStore {
         self.lists[segment.0 as usize].row()
     }
 
-    /// A segment's windows from last to first.
-    pub fn windows_back(&self, segment: Segment) -> WindowsBack<'_>
-        requires { segment.0 < length self.now.lists }
-        ensures windows { result ≡ reverse (windows_at self.now segment) }
-        ensures normal { IsNormal (list_at self.now segment).intervals }
-        ensures in_time { All (λ w. w.until ≤ self.now.horizon) (windows_at self.now segment) }
-    {
-        self.lists[segment.0 as usize].intervals().windows_back()
-    }
-
-    /// The window in which the seconds from `from` up to `until` lie; none where they lie in none.
-    pub fn window_at(&self, segment: Segment, from: Time, until: Time) -> Option<Window>
-        requires segment { segment.0 < length self.now.lists }
-        requires some { from < until }
-        ensures { IsWindowAt (windows_at self.now segment) (span from until) result }
-    {
-        let window = self.first_beyond(segment, from)?;
-        if window.from <= from && until <= window.until {
-            Some(window)
-        } else {
-            None
-        }
-    }
-
     /// Whether the seconds from `from` up to `until` lie in one window.
     pub fn is_free(&self, segment: Segment, from: Time, until: Time) -> bool
         requires segment { segment.0 < length self.now.lists }
@@ -125,15 +101,6 @@ impl WindowStore {
         ensures { IsTrue result ↔ LiesInOne (spans_at self.now segment) (span from until) }
     {
         lies_in_one(self.spans(segment), Span { from, until })
-    }
-
-    // The first window that reaches beyond a second.
-    fn first_beyond(&self, segment: Segment, from: Time) -> Option<Window>
-        requires { segment.0 < length self.now.lists }
-        ensures found { result ≡ find (λ w. nat_lt from w.until) (windows_at self.now segment) }
-        ensures normal { IsNormal (list_at self.now segment).intervals }
-    {
-        self.windows(segment).find(|w| from < w.until)
     }
 
     /// Makes room for steps, and no more than is lacking. All windows stay, also where memory runs out.

@@ -1,4 +1,4 @@
-//! Walks along an interval list in both directions, against seconds in a plain vector; and the nodes that a list keeps spare.
+//! Walks along an interval list, against seconds in a plain vector; and the nodes that a list keeps spare.
 ghost use Rattle.std.specs.Prelude.{◌≡◌, ◌<◌, [], ◌∷◌, length};
 ghost use Rattle.interval_list.specs.Intervals.{span, spans_of};
 
@@ -34,18 +34,6 @@ fn spans(alloc: Global, list: &IntervalList) -> Result<Vec<Span>, AllocError> {
             until: window.until,
         })?;
     }
-    Ok(spans)
-}
-
-fn spans_back(alloc: Global, list: &IntervalList) -> Result<Vec<Span>, AllocError> {
-    let mut spans = Vec::new(alloc);
-    for window in list.windows_back() {
-        spans.push(Span {
-            from: window.from,
-            until: window.until,
-        })?;
-    }
-    spans.reverse();
     Ok(spans)
 }
 
@@ -91,7 +79,7 @@ fn edit(list: &mut IntervalList, seconds: &mut [bool], draw: u64) {
 }
 
 #[test]
-fn walks_in_both_directions_agree_with_the_seconds(rt: HostRuntime) -> Result<(), Fail> {
+fn windows_agree_with_the_seconds(rt: HostRuntime) -> Result<(), Fail> {
     let alloc = rt.alloc();
     let mut list = IntervalList::new(alloc);
     list.reserve(&mut Ids { next: 0 }, 60)?;
@@ -104,7 +92,6 @@ fn walks_in_both_directions_agree_with_the_seconds(rt: HostRuntime) -> Result<()
         edit(&mut list, &mut seconds, seed >> 33);
         let expected = runs(alloc, &seconds)?;
         assert_eq!(rt; spans(alloc, &list)?, expected, "seed 20261127");
-        assert_eq!(rt; spans_back(alloc, &list)?, expected, "seed 20261127");
     }
     Ok(())
 }

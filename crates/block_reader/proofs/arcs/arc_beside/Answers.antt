@@ -7,7 +7,7 @@ use Rattle.taxi_base.specs.Airport.{Airport, IsWellFormed, arc_of}
 use Rattle.taxi_base.proofs.AirportLaws.{arc_exists-segment}
 use Rattle.taxi_text.specs.Fields.{sign_of}
 use Rattle.airport_file.specs.Words.{segment_word, word_of_arc}
-use Rattle.certificate.specs.Printable.{HasArc}
+use Rattle.replies.specs.Printable.{HasArc}
 use Rattle.block_reader.specs.Fields.{arc_of_word}
 use Rattle.block_reader.specs.Reading.{behind, field_at}
 use Rattle.block_reader.proofs.Pieces.{behind-takes}

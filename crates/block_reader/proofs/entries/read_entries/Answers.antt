@@ -2,7 +2,7 @@ use Rattle.std.proofs.Common.{◌+◌, ◌-◌, ◌∙◌, ℕ, List, sym, ap, s
 use Rattle.std.specs.Prelude.{Err}
 use Rattle.std.specs.Borrow.{Bor}
 use Rattle.std.proofs.lemmas.Result.{err_from_is_err_and}
-use Rattle.certificate.specs.declared.entries.Entry.{Entry}
+use Rattle.replies.specs.declared.entries.Entry.{Entry}
 use Rattle.block_reader.specs.declared.refused.BlockRefused.{BlockRefused}
 use Rattle.block_reader.specs.Reading.{rows_at, IsRead}
 use Rattle.block_reader.specs.Blocks.{entry_at}

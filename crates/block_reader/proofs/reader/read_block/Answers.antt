@@ -1,7 +1,7 @@
 use Rattle.std.proofs.Common.{◌∙◌, ℕ, List, length, Err, ap}
 use Rattle.taxi_base.specs.Airport.{Airport, IsWellFormed}
-use Rattle.certificate.specs.declared.block.Block.{Block}
-use Rattle.certificate.specs.Texts.{block_text}
+use Rattle.replies.specs.declared.block.Block.{Block}
+use Rattle.replies.specs.Texts.{block_text}
 use Rattle.block_reader.specs.declared.refused.BlockRefused.{BlockRefused}
 use Rattle.block_reader.specs.declared.refused.BlockRefused.TheVariants.{NotABlock, Memory}
 use Rattle.block_reader.specs.Reading.{IsRead}

@@ -1,8 +1,8 @@
 use Rattle.std.proofs.Common.{◌∙◌, refl, sym, subst, List}
 use Rattle.taxi_base.specs.declared.rows.LabelRow.{LabelRow}
 use Rattle.taxi_base.specs.State.{State, without}
-use Rattle.certificate.specs.declared.block.Block.TheVariants.{NoRoute}
-use Rattle.certificate.specs.Sought.{sought_again}
+use Rattle.replies.specs.declared.block.Block.TheVariants.{NoRoute}
+use Rattle.replies.specs.Sought.{sought_again}
 use Rattle.checked_state.specs.Flights.{state_of}
 use Rattle.due_refusals.specs.KnownIn.{AreKnownIn}
 use Rattle.certificate_check.specs.Again.{IsFoundAmong}

@@ -3,9 +3,9 @@ use Rattle.std.specs.Prelude.{All}
 use Rattle.taxi_base.specs.declared.rows.Step.{Step}
 use Rattle.taxi_base.specs.Walks.{Meets}
 use Rattle.taxi_base.specs.State.{State, without, with_route, flight_named, flights_without, conditions_of, IsSound}
-use Rattle.certificate.specs.declared.block.Block.{Block}
-use Rattle.certificate.specs.declared.block.Block.TheVariants.{Route}
-use Rattle.certificate.specs.Sought.{sought_again}
+use Rattle.replies.specs.declared.block.Block.{Block}
+use Rattle.replies.specs.declared.block.Block.TheVariants.{Route}
+use Rattle.replies.specs.Sought.{sought_again}
 use Rattle.checked_state.specs.Flights.{state_of}
 use Rattle.due_refusals.specs.KnownIn.{AreKnownIn}
 use Rattle.certificate_check.specs.Desk.{CanGoOn}

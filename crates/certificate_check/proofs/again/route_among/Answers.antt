@@ -2,7 +2,7 @@ use Rattle.std.proofs.Common.{◌≡◌, ◌∙◌, ◌≤◌, List, Some, sym, 
 use Rattle.std.specs.Prelude.{All}
 use Rattle.taxi_base.specs.declared.rows.Step.{Step}
 use Rattle.taxi_base.specs.State.{holds_in, without}
-use Rattle.certificate.specs.Sought.{UnderWay}
+use Rattle.replies.specs.Sought.{UnderWay}
 use Rattle.held_spans.specs.Spans.{AreSpansOf}
 use Rattle.checked_state.specs.Flights.{state_of}
 use Rattle.checked_state.proofs.FlightLaws.{copied-flight, spans-alone}

@@ -1,7 +1,7 @@
 use Rattle.std.proofs.Common.{◌∙◌, false, sym}
 use Rattle.taxi_base.specs.State.{conditions_of}
 use Rattle.taxi_text.specs.declared.command.Command.TheVariants as command
-use Rattle.certificate.specs.Sought.{sought_again}
+use Rattle.replies.specs.Sought.{sought_again}
 use Rattle.checked_state.specs.Flights.{state_of}
 use Rattle.check_walks.proofs.StepLaws.{walk-some}
 use Rattle.checked_state.proofs.FlightLaws.{copied-flight}

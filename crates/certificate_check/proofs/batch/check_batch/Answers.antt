@@ -1,6 +1,6 @@
 use Rattle.std.proofs.Common.{arith}
 use Rattle.checked_state.specs.Flights.{state_of}
-use Rattle.certificate.proofs.BatchNames.{batch-free, wishes-many}
+use Rattle.replies.proofs.BatchNames.{batch-free, wishes-many}
 use Rattle.certificate_check.proofs.BatchEntries.{wishes-sought, wishes-room}
 use Rattle.certificate_check.proofs.batch.check_batch.Goals as goal
 

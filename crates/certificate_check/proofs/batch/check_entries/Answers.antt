@@ -3,9 +3,9 @@ use Rattle.std.specs.Prelude.{Ok, Err, Result}
 use Rattle.std.specs.Vec.Iter.{into_iter_items}
 use Rattle.std.proofs.lemmas.List.Elements.{All-nil}
 use Rattle.std.proofs.lemmas.Result.{err_from_is_err_and}
-use Rattle.certificate.specs.declared.entries.Entry.{Entry}
-use Rattle.certificate.specs.Turns.{after_turns}
-use Rattle.certificate.specs.Passes.{KeepsTurn}
+use Rattle.replies.specs.declared.entries.Entry.{Entry}
+use Rattle.replies.specs.Turns.{after_turns}
+use Rattle.replies.specs.Passes.{KeepsTurn}
 use Rattle.checked_state.specs.Flights.{state_of}
 use Rattle.transcripts.specs.declared.refused.CheckRefused.{CheckRefused}
 use Rattle.certificate_check.specs.Entries.{AreChecked}

@@ -1,7 +1,7 @@
 use Rattle.std.proofs.Common.{◌≡◌, length}
 use Rattle.std.specs.Prelude.{Result}
 use Rattle.std.specs.Vec.Iter.{into_iter_items, into_iter_len}
-use Rattle.certificate.specs.Turns.{after_turns}
+use Rattle.replies.specs.Turns.{after_turns}
 use Rattle.checked_state.specs.Flights.{state_of}
 use Rattle.transcripts.specs.declared.refused.CheckRefused.{CheckRefused}
 use Rattle.certificate_check.specs.Desk.{IsReady}

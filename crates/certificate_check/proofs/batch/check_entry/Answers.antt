@@ -3,8 +3,8 @@ use Rattle.std.specs.Prelude.{IsFalse, bytes_eq}
 use Rattle.std.proofs.lemmas.List.Elements.{All-contains}
 use Rattle.taxi_base.specs.State.{has_holder}
 use Rattle.taxi_base.proofs.NamedLists.{find-named}
-use Rattle.certificate.specs.declared.wish.Wish.{Wish}
-use Rattle.certificate.proofs.FlightLaws.{find-there}
+use Rattle.replies.specs.declared.wish.Wish.{Wish}
+use Rattle.replies.proofs.FlightLaws.{find-there}
 use Rattle.checked_state.specs.Flights.{state_of}
 use Rattle.checked_state.proofs.FlightLaws.{copied-flight}
 use Rattle.check_walks.specs.Told.{CanBeSought}

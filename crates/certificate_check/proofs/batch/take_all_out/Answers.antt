@@ -1,5 +1,5 @@
 use Rattle.std.proofs.Common.{◌+◌, ◌∙◌, List, drop, sym, ap}
-use Rattle.certificate.specs.declared.wish.Wish.{Wish}
+use Rattle.replies.specs.declared.wish.Wish.{Wish}
 use Rattle.checked_state.specs.Flights.{state_of}
 use Rattle.certificate_check.specs.Batch.{without_all}
 use Rattle.certificate_check.proofs.BatchState.{without-next, without-none, drop-past}

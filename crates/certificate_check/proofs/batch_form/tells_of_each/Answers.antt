@@ -2,7 +2,8 @@ use Rattle.std.proofs.Common.{◌≡◌, ◌∙◌, true, eqb, length, sym, subs
 use Rattle.std.specs.Prelude.{◌↔◌, IsTrue}
 use Rattle.std.specs.List.{list_all}
 use Rattle.std.proofs.lemmas.Bool.{and_parts, eqb-true, eq-eqb, both_ways}
-use Rattle.certificate_check.specs.Batch.{is_told, TellsOfEach}
+use Rattle.replies.specs.Printable.{is_told}
+use Rattle.certificate_check.specs.Batch.{TellsOfEach}
 use Rattle.certificate_check.proofs.BatchForm.{each-told}
 use Rattle.certificate_check.proofs.batch_form.tells_of_each.Goals as goal
 use Rattle.certificate_check.proofs.batch_form.tells_of_each.Goals.{then-entries-wishes, else-entries-wishes}

@@ -1,5 +1,5 @@
 use Rattle.std.proofs.Common.{◌≡◌, ◌*◌, ◌^◌, ◌≤ℤ◌, ◌-ℤ◌, ◌+ℤ◌, pos, drop}
-use Rattle.certificate.specs.Batches.{total_of}
+use Rattle.replies.specs.Batches.{total_of}
 use Rattle.certificate_check.proofs.batch_form.total_of.Given as goal
 
 abbrev pub invariant-loop-name : goal.invariant-loop-name

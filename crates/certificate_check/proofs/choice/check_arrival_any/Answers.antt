@@ -1,8 +1,8 @@
 use Rattle.std.proofs.Common.{get_or, refl}
 use Rattle.taxi_base.proofs.AirportLaws.{node_named-exists}
 use Rattle.taxi_text.specs.declared.command.Command.TheVariants as command
-use Rattle.certificate.specs.Asked.{arrival_any}
-use Rattle.certificate.specs.Sought.{sought_any}
+use Rattle.replies.specs.Asked.{arrival_any}
+use Rattle.replies.specs.Sought.{sought_any}
 use Rattle.checked_state.specs.Flights.{state_of}
 use Rattle.certificate_check.proofs.JudgedLaws.{told-judged}
 use Rattle.certificate_check.proofs.ChoiceLaws.{no_node, others_of, first-others, some-named, choice-sought}

@@ -1,9 +1,9 @@
 use Rattle.std.proofs.Common.{◌<◌, length, get_or, refl}
 use Rattle.std.proofs.lemmas.List.Elements.{All-contains}
-use Rattle.certificate.proofs.ChoiceNames.{nodes_named-are}
+use Rattle.replies.proofs.ChoiceNames.{nodes_named-are}
 use Rattle.taxi_text.specs.declared.command.Command.TheVariants as command
-use Rattle.certificate.specs.Asked.{departure_any}
-use Rattle.certificate.specs.Sought.{sought_any}
+use Rattle.replies.specs.Asked.{departure_any}
+use Rattle.replies.specs.Sought.{sought_any}
 use Rattle.checked_state.specs.Flights.{state_of}
 use Rattle.certificate_check.proofs.JudgedLaws.{told-judged}
 use Rattle.certificate_check.proofs.ChoiceLaws.{no_node, others_of, first-others, some-named, choice-sought}

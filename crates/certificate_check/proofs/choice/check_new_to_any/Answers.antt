@@ -7,10 +7,10 @@ use Rattle.taxi_base.specs.Faults.{conditions_in}
 use Rattle.taxi_base.specs.Walks.{conditions_among}
 use Rattle.taxi_base.proofs.WalkLaws.{Meets-IsFeasibleWalk}
 use Rattle.held_spans.specs.Spans.{AreSpansOf, holds_in_lists}
-use Rattle.certificate.specs.declared.block.Block.{Block}
-use Rattle.certificate.specs.declared.block.Block.TheVariants.{Route, NoRoute}
-use Rattle.certificate.specs.Sought.{sought_any}
-use Rattle.certificate.proofs.ChoiceNames.{one-met}
+use Rattle.replies.specs.declared.block.Block.{Block}
+use Rattle.replies.specs.declared.block.Block.TheVariants.{Route, NoRoute}
+use Rattle.replies.specs.Sought.{sought_any}
+use Rattle.replies.proofs.ChoiceNames.{one-met}
 use Rattle.checked_state.specs.Flights.{state_of}
 use Rattle.checked_state.proofs.FlightLaws.{spans-alone}
 use Rattle.check_walks.specs.Told.{Seeks}

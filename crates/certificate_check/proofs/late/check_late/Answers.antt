@@ -2,7 +2,7 @@ use Rattle.std.proofs.Common.{◌≡◌, ◌∙◌, None, All, sym, subst}
 use Rattle.taxi_base.specs.Walks.{free_among}
 use Rattle.taxi_base.specs.State.{State, holds_in, IsSound}
 use Rattle.taxi_text.specs.declared.command.Command.TheVariants as command
-use Rattle.certificate.specs.Refusals.{first_refusal}
+use Rattle.replies.specs.Refusals.{first_refusal}
 use Rattle.checked_state.specs.Flights.{state_of, HasSpansOf}
 use Rattle.certificate_check.specs.Desk.{CanGoOn}
 use Rattle.certificate_check.specs.Judged.{IsJudged}

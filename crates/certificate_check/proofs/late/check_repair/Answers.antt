@@ -2,9 +2,9 @@ use Rattle.std.proofs.Common.{◌≡◌, List, ℕ, sym, subst}
 use Rattle.std.specs.Prelude.{OnOk}
 use Rattle.taxi_base.specs.State.{State}
 use Rattle.taxi_text.specs.declared.command.Command.TheVariants as command
-use Rattle.certificate.specs.declared.entries.Entry.{Entry}
-use Rattle.certificate.specs.declared.block.Block.{Block}
-use Rattle.certificate.specs.Turns.{after_turns}
+use Rattle.replies.specs.declared.entries.Entry.{Entry}
+use Rattle.replies.specs.declared.block.Block.{Block}
+use Rattle.replies.specs.Turns.{after_turns}
 use Rattle.checked_state.specs.Flights.{state_of}
 use Rattle.certificate_check.specs.Entries.{AreChecked}
 use Rattle.certificate_check.specs.Late.{delay_in, AreAlone, turns_late, IsRepairJudged}

@@ -5,7 +5,7 @@ use Rattle.taxi_base.specs.Airport.{layout_of, arc_exists}
 use Rattle.taxi_base.specs.State.{party_named}
 use Rattle.taxi_base.specs.Late.{request_sought, steps_kept}
 use Rattle.taxi_base.proofs.OtherHolds.{named-there}
-use Rattle.certificate.specs.declared.block.Block.TheVariants.{Route, NoRoute}
+use Rattle.replies.specs.declared.block.Block.TheVariants.{Route, NoRoute}
 use Rattle.checked_state.specs.Flights.{state_of}
 use Rattle.check_walks.specs.Told.{CanBeSought}
 use Rattle.certificate_check.specs.declared.late_turn.AtTurn.{AtTurn}

@@ -1,7 +1,7 @@
 use Rattle.std.proofs.Common.{◌∙◌, ap, subst}
 use Rattle.std.specs.Prelude.{Err, IfSome}
-use Rattle.certificate.specs.Asked.{IsInGrammar}
-use Rattle.certificate.proofs.GrammarLaws.{command_of-in_grammar}
+use Rattle.replies.specs.Asked.{IsInGrammar}
+use Rattle.replies.proofs.GrammarLaws.{command_of-in_grammar}
 use Rattle.check_rows.proofs.LoopLaws.{says-no, says-yes}
 use Rattle.checked_state.specs.Flights.{state_of}
 use Rattle.certificate_check.proofs.PassedLaws.{memory-passes, bad-checks, judged-checks, checks-sound}

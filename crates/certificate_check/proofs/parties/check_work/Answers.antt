@@ -1,4 +1,4 @@
-use Rattle.certificate.proofs.WindowsTold.{segment_named-exists}
+use Rattle.replies.proofs.WindowsTold.{segment_named-exists}
 use Rattle.certificate_check.proofs.parties.check_work.Goals as goal
 
 pub hold_fault-requires-clause-on : goal.hold_fault-requires-clause-on

@@ -1,6 +1,6 @@
 use Rattle.std.proofs.Common.{◌∙◌, sym}
 use Rattle.taxi_base.specs.State.{holds_in, with_party}
-use Rattle.certificate.specs.Asked.{party_of}
+use Rattle.replies.specs.Asked.{party_of}
 use Rattle.check_rows.proofs.LoopLaws.{says-yes}
 use Rattle.checked_state.specs.Flights.{state_of}
 use Rattle.due_refusals.proofs.HeldLaws.{more-with_party}

@@ -1,6 +1,6 @@
 use Rattle.std.proofs.Common.{sym, subst, ◌∙◌}
 use Rattle.taxi_base.specs.State.{holds_in}
-use Rattle.certificate.proofs.WindowsTold.{segment_named-exists}
+use Rattle.replies.proofs.WindowsTold.{segment_named-exists}
 use Rattle.held_spans.specs.Spans.{AreSpansOf}
 use Rattle.checked_state.specs.Flights.{state_of}
 use Rattle.checked_state.proofs.FlightLaws.{spans-alone}

@@ -1,5 +1,5 @@
 use Rattle.std.proofs.Common.{sym, ◌∙◌}
-use Rattle.certificate.proofs.WindowsTold.{segment_named-exists}
+use Rattle.replies.proofs.WindowsTold.{segment_named-exists}
 use Rattle.certificate_check.proofs.reports.check_occupancy.Goals as goal
 
 pub is_occupancy-requires : goal.is_occupancy-requires

@@ -3,9 +3,9 @@ use Rattle.std.specs.Prelude.{Err}
 use Rattle.std.proofs.lemmas.Result.{err_from_is_err_and}
 use Rattle.taxi_base.specs.State.{holds_in}
 use Rattle.held_spans.specs.Spans.{AreSpansOf}
-use Rattle.certificate.specs.declared.block.Block.{Block}
-use Rattle.certificate.specs.declared.block.Block.TheVariants.{Route, NoRoute}
-use Rattle.certificate.specs.Sought.{sought_new}
+use Rattle.replies.specs.declared.block.Block.{Block}
+use Rattle.replies.specs.declared.block.Block.TheVariants.{Route, NoRoute}
+use Rattle.replies.specs.Sought.{sought_new}
 use Rattle.checked_state.specs.Flights.{state_of}
 use Rattle.checked_state.proofs.FlightLaws.{spans-alone}
 use Rattle.due_refusals.proofs.HeldLaws.{known-own, own-known}

@@ -1,7 +1,7 @@
 use Rattle.std.proofs.Common.{refl}
 use Rattle.taxi_base.specs.declared.answers.Request.TheVariants as request
 use Rattle.taxi_text.specs.declared.command.Command.TheVariants as command
-use Rattle.certificate.specs.Sought.{sought_new}
+use Rattle.replies.specs.Sought.{sought_new}
 use Rattle.checked_state.specs.Flights.{state_of}
 use Rattle.certificate_check.proofs.JudgedLaws.{told-judged}
 use Rattle.certificate_check.proofs.searches.check_departure.Goals as goal

@@ -3,8 +3,9 @@ use Rattle.std.specs.Prelude.{IfOk}
 use Rattle.taxi_base.specs.Walks.{conditions_among}
 use Rattle.walk_labels.specs.Rules.{IsStartBy}
 use Rattle.check_rows.specs.declared.arrivals.Begin.{Begin}
-use Rattle.check_rows.specs.declared.reach.Way.TheVariants.{Forward}
-use Rattle.check_rows.specs.Rules.{beginning_of, HasEach}
+use Rattle.table_rows.specs.declared.reach.Way.TheVariants.{Forward}
+use Rattle.table_rows.specs.HasRows.{HasEach}
+use Rattle.check_rows.specs.Rules.{beginning_of}
 use Rattle.check_rows.proofs.arrivals.starts_have_rows.Goals as goal
 
 pub returns-in-AtNode-clause-begun : goal.returns-in-AtNode-clause-begun

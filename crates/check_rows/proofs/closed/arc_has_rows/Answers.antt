@@ -3,11 +3,11 @@ use Rattle.taxi_base.specs.Airport.{segment_of, seconds_in}
 use Rattle.taxi_base.specs.declared.numbers.Segment.{Segment}
 use Rattle.taxi_base.specs.Walks.{conditions_among}
 use Rattle.aircraft_class.specs.Times.{Times}
-use Rattle.check_rows.specs.declared.reach.Reach.{Reach}
-use Rattle.check_rows.specs.Rules.{HasEach}
-use Rattle.check_rows.specs.Reached.{IsReachedAt}
-use Rattle.check_rows.proofs.EachLaws.{same-test}
-use Rattle.check_rows.proofs.ReachLaws.{each-short}
+use Rattle.table_rows.specs.declared.reach.Reach.{Reach}
+use Rattle.table_rows.specs.HasRows.{HasEach}
+use Rattle.table_rows.specs.Reached.{IsReachedAt}
+use Rattle.table_rows.proofs.EachLaws.{same-test}
+use Rattle.table_rows.proofs.ReachLaws.{each-short}
 use Rattle.check_rows.proofs.closed.arc_has_rows.Goals as goal
 
 pub part_has_rows-requires-clause-takes : goal.part_has_rows-requires-clause-takes

@@ -1,8 +1,8 @@
 use Rattle.std.proofs.Common.{All, take, length}
 use Rattle.taxi_base.specs.Walks.{conditions_among, free_among}
 use Rattle.check_rows.specs.Known.{AreKnown}
-use Rattle.check_rows.specs.Rules.{HasEach}
-use Rattle.check_rows.specs.Reached.{IsReachedAt}
+use Rattle.table_rows.specs.HasRows.{HasEach}
+use Rattle.table_rows.specs.Reached.{IsReachedAt}
 use Rattle.check_rows.proofs.closed.arcs_have_rows.Given as goal
 
 abbrev pub invariant-loop-arc : goal.invariant-loop-arc

@@ -3,8 +3,8 @@ use Rattle.taxi_base.specs.declared.numbers.Segment.{Segment}
 use Rattle.taxi_base.specs.Windows.{AreWindows}
 use Rattle.taxi_base.specs.Walks.{conditions_among, free_among}
 use Rattle.taxi_base.proofs.AirportLaws.{arc_exists-segment}
-use Rattle.check_rows.proofs.EachLaws.{same-test}
-use Rattle.check_rows.proofs.ReachLaws.{arc-by_windows}
+use Rattle.table_rows.proofs.EachLaws.{same-test}
+use Rattle.table_rows.proofs.ReachLaws.{arc-by_windows}
 use Rattle.check_rows.proofs.closed.near_have_rows.Goals as goal
 
 pub make-requires-clause-on : goal.make-requires-clause-on
@@ -20,6 +20,7 @@ pub returns-clause-closed : goal.returns-clause-closed
 returns-clause-closed g c =
     let free : Segment → ℕ → Bool = free_among c.args.airport.now (g.H.HoldsOf.held c.args.holds.now) in
     let are = subst (λ (s : Segment). AreWindows (free s) c.of.result.now) c.segment-segment.ensures (c.of.ensures (length c.args.airport.now.segments) free c.make.ensures.known) in
-    same-test (c.windows_have_rows.ensures free)
-    (arc-by_windows (conditions_among c.args.airport.now c.args.class (g.H.HoldsOf.held c.args.holds.now)) c.args.arc c.args.seconds c.requires.takes c.requires.exists c.of.result.now are c.args.reach c.args.table.now.bound c.args.table.now.rows.now
+    let conditions = conditions_among c.args.airport.now c.args.class (g.H.HoldsOf.held c.args.holds.now) in
+    same-test (c.windows_have_rows.ensures conditions (c.limits_of.ensures free))
+    (arc-by_windows conditions c.args.arc c.args.seconds c.requires.takes c.requires.exists c.of.result.now are c.args.reach c.args.table.now.bound c.args.table.now.rows.now
     c.windows_between-windows.result.now c.windows_between-windows.ensures.within c.windows_between-windows.ensures.whole)

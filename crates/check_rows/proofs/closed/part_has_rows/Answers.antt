@@ -4,9 +4,9 @@ use Rattle.std.proofs.lemmas.List.Elements.{All-contains}
 use Rattle.taxi_base.specs.declared.numbers.Segment.{Segment}
 use Rattle.taxi_base.specs.Walks.{conditions_among, free_among}
 use Rattle.walk_labels.specs.Places.{IsPlace, place_of}
-use Rattle.check_rows.proofs.AmongLaws.{among-part}
-use Rattle.check_rows.proofs.EachLaws.{same-test}
-use Rattle.check_rows.proofs.ReachLaws.{arc-by_row}
+use Rattle.table_rows.proofs.AmongLaws.{among-part}
+use Rattle.table_rows.proofs.EachLaws.{same-test}
+use Rattle.table_rows.proofs.ReachLaws.{arc-by_row}
 use Rattle.check_rows.proofs.closed.part_has_rows.Goals as goal
 
 pub row_is_enough-requires-clause-there : goal.row_is_enough-requires-clause-there
@@ -21,7 +21,7 @@ returns-in-Some-clause-closed g c =
     let rows = c.args.table.now.rows.now in
     let around = c.in-Some.ensures in
     let there = All-contains (Contains rows) c.rows_behind-near.result.now c.in-Some.row (among-part rows c.rows_of.result.now c.rows_behind-near.result.now c.rows_of.ensures c.rows_behind-near.ensures) around.there in
-    same-test (c.row_is_enough.ensures free)
+    same-test (c.row_is_enough.ensures conditions (c.limits_of.ensures free))
     (arc-by_row conditions c.args.arc c.args.seconds c.requires.takes c.args.reach c.args.table.now.bound rows c.in-Some.row around.on around.begins around.ends
     (All-contains (λ row. IsPlace conditions (place_of row)) rows c.in-Some.row c.requires.places there))
 

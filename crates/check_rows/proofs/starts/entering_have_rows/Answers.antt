@@ -4,10 +4,10 @@ use Rattle.taxi_base.specs.Airport.{Layout}
 use Rattle.taxi_base.specs.Walks.{conditions_among}
 use Rattle.walk_labels.specs.BackwardRules.{IsFinishAt}
 use Rattle.segment_graph.specs.Graphs.{AreEntering}
-use Rattle.check_rows.specs.declared.reach.Way.TheVariants.{Backward}
-use Rattle.check_rows.specs.Rules.{HasEach}
+use Rattle.table_rows.specs.declared.reach.Way.TheVariants.{Backward}
+use Rattle.table_rows.specs.HasRows.{HasEach}
 use Rattle.check_rows.proofs.LoopLaws.{all-fails, all-holds, all-more, says-no, says-yes}
-use Rattle.check_rows.proofs.EachLaws.{same-test}
+use Rattle.table_rows.proofs.EachLaws.{same-test}
 use Rattle.check_rows.proofs.ArcLaws.{finishes-by_arcs, finishes-by_nodes}
 use Rattle.check_rows.proofs.starts.entering_have_rows.Goals as goal
 

@@ -1,9 +1,9 @@
 use Rattle.std.proofs.Common.{[], ◌∷◌, All, take, length}
 use Rattle.taxi_base.specs.Walks.{conditions_among, free_among}
 use Rattle.walk_labels.specs.BackwardRules.{IsFinishAt}
-use Rattle.check_rows.specs.declared.reach.Way.TheVariants.{Backward}
+use Rattle.table_rows.specs.declared.reach.Way.TheVariants.{Backward}
 use Rattle.check_rows.specs.Known.{AreKnown}
-use Rattle.check_rows.specs.Rules.{HasEach}
+use Rattle.table_rows.specs.HasRows.{HasEach}
 use Rattle.check_rows.proofs.starts.entering_have_rows.Given as goal
 
 abbrev pub invariant-loop-node : goal.invariant-loop-node

@@ -2,7 +2,7 @@ use Rattle.std.proofs.Common.{subst}
 use Rattle.taxi_base.specs.Airport.{Layout}
 use Rattle.taxi_base.specs.Walks.{conditions_among}
 use Rattle.segment_graph.specs.Graphs.{AreLeaving}
-use Rattle.check_rows.proofs.EachLaws.{same-test}
+use Rattle.table_rows.proofs.EachLaws.{same-test}
 use Rattle.check_rows.proofs.ArcLaws.{starts-by_arcs}
 use Rattle.check_rows.proofs.starts.leaving_have_rows.Goals as goal
 

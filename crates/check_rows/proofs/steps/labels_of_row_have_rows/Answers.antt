@@ -1,12 +1,13 @@
 use Rattle.std.proofs.Common.{◌≡◌, ◌↔◌, ◌∙◌, IsTrue, All, ap, sym, subst}
 use Rattle.taxi_base.specs.Airport.{Layout, layout_of}
 use Rattle.taxi_base.specs.Walks.{conditions_among, free_among}
-use Rattle.check_rows.specs.declared.reach.Way.{Way}
-use Rattle.check_rows.specs.declared.reach.Reach.{Reach}
-use Rattle.check_rows.specs.Rules.{HasEach}
-use Rattle.check_rows.specs.Reached.{IsReachedAt, AreNeighbours}
-use Rattle.check_rows.specs.Served.{AreServed}
-use Rattle.check_rows.proofs.EachLaws.{same-test}
+use Rattle.table_rows.specs.declared.reach.Way.{Way}
+use Rattle.table_rows.specs.declared.reach.Reach.{Reach}
+use Rattle.table_rows.specs.HasRows.{HasEach}
+use Rattle.table_rows.specs.Reached.{IsReachedAt}
+use Rattle.check_rows.specs.Comes.{AreNeighbours}
+use Rattle.table_rows.specs.Served.{AreServed}
+use Rattle.table_rows.proofs.EachLaws.{same-test}
 use Rattle.check_rows.proofs.ArcLaws.{comes-by_arcs, neighbours-exist, reach_of-way}
 use Rattle.check_rows.proofs.steps.labels_of_row_have_rows.Goals as goal
 

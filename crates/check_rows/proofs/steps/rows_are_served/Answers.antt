@@ -1,7 +1,9 @@
 use Rattle.taxi_base.specs.Walks.{conditions_among}
-use Rattle.check_rows.specs.Rules.{HasEach, ComesOf}
+use Rattle.table_rows.specs.HasRows.{HasEach}
+use Rattle.check_rows.specs.Rules.{ComesOf}
 use Rattle.check_rows.proofs.LoopLaws.{all-fails, all-holds, all-more, says-no, says-yes, no_row}
-use Rattle.check_rows.proofs.EachLaws.{same-test, closed-by_rows}
+use Rattle.table_rows.proofs.EachLaws.{same-test}
+use Rattle.check_rows.proofs.RuleLaws.{closed-by_rows}
 use Rattle.check_rows.proofs.steps.rows_are_served.Goals as goal
 
 pub returns-then-not-closed-clause-closed : goal.returns-then-not-closed-clause-closed

@@ -1,8 +1,9 @@
 use Rattle.std.proofs.Common.{All, take, length}
 use Rattle.taxi_base.specs.Walks.{conditions_among, free_among}
 use Rattle.check_rows.specs.Known.{AreKnown}
-use Rattle.check_rows.specs.Served.{AreServed}
-use Rattle.check_rows.specs.Rules.{HasEach, ComesOf}
+use Rattle.table_rows.specs.Served.{AreServed}
+use Rattle.table_rows.specs.HasRows.{HasEach}
+use Rattle.check_rows.specs.Rules.{ComesOf}
 use Rattle.check_rows.proofs.steps.rows_are_served.Given as goal
 
 abbrev pub invariant-loop-row : goal.invariant-loop-row

@@ -1,6 +1,6 @@
 use Rattle.std.proofs.Common.{refl, sym}
 use Rattle.taxi_base.specs.Walks.{conditions_among}
-use Rattle.check_rows.proofs.ServedLaws.{each-within}
+use Rattle.table_rows.proofs.ServedLaws.{each-within}
 use Rattle.check_rows.proofs.stretches.arc_is_served.Goals as goal
 
 pub returns-then-is_within-clause-closed : goal.returns-then-is_within-clause-closed

@@ -1,7 +1,7 @@
 use Rattle.taxi_base.specs.declared.numbers.Arc.{Arc}
 use Rattle.taxi_base.specs.Walks.{conditions_among}
-use Rattle.check_rows.specs.Rules.{HasEach}
-use Rattle.check_rows.specs.Reached.{IsReachedAt}
+use Rattle.table_rows.specs.HasRows.{HasEach}
+use Rattle.table_rows.specs.Reached.{IsReachedAt}
 use Rattle.check_rows.proofs.LoopLaws.{all-holds, all-more, says-yes}
 use Rattle.check_rows.proofs.stretches.arcs_are_served.Goals as goal
 

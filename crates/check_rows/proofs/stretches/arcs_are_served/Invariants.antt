@@ -1,9 +1,9 @@
 use Rattle.std.proofs.Common.{All, take, length}
 use Rattle.taxi_base.specs.Walks.{conditions_among, free_among}
 use Rattle.check_rows.specs.Known.{AreKnown}
-use Rattle.check_rows.specs.Rules.{HasEach}
-use Rattle.check_rows.specs.Reached.{IsReachedAt}
-use Rattle.check_rows.specs.Served.{AreServed}
+use Rattle.table_rows.specs.HasRows.{HasEach}
+use Rattle.table_rows.specs.Reached.{IsReachedAt}
+use Rattle.table_rows.specs.Served.{AreServed}
 use Rattle.check_rows.proofs.stretches.arcs_are_served.Given as goal
 
 abbrev pub invariant-loop-arc : goal.invariant-loop-arc

@@ -3,7 +3,7 @@ use Rattle.taxi_base.specs.Airport.{segment_of, seconds_in}
 use Rattle.taxi_base.specs.declared.numbers.Segment.{Segment}
 use Rattle.taxi_base.specs.Walks.{conditions_among}
 use Rattle.aircraft_class.specs.Times.{Times}
-use Rattle.check_rows.proofs.ServedLaws.{each-empty}
+use Rattle.table_rows.proofs.ServedLaws.{each-empty}
 use Rattle.check_rows.proofs.stretches.stretch_around.Goals as goal
 
 pub stretch_near-requires-clause-takes : goal.stretch_near-requires-clause-takes

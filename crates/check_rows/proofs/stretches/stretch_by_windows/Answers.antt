@@ -4,8 +4,8 @@ use Rattle.taxi_base.specs.declared.numbers.Segment.{Segment}
 use Rattle.taxi_base.specs.Windows.{AreWindows}
 use Rattle.taxi_base.specs.Walks.{conditions_among, free_among}
 use Rattle.taxi_base.proofs.AirportLaws.{arc_exists-segment}
-use Rattle.check_rows.specs.declared.reach.Reach.{Reach}
-use Rattle.check_rows.proofs.ServedLaws.{stretch-by_windows}
+use Rattle.table_rows.specs.declared.reach.Reach.{Reach}
+use Rattle.table_rows.proofs.ServedLaws.{stretch-by_windows}
 use Rattle.check_rows.proofs.stretches.stretch_by_windows.Goals as goal
 
 pub make-requires-clause-on : goal.make-requires-clause-on
@@ -25,4 +25,4 @@ returns-clause-served g c =
     let near = c.windows_between-windows.result.now in
     let whole = subst (λ (r : Reach). All (λ w. r.from ≤ w.until → w.from ≤ r.by → Contains near w) c.of.result.now) c.short_part-short.ensures c.windows_between-windows.ensures.whole in
     stretch-by_windows conditions c.args.arc c.args.seconds c.requires.takes c.requires.exists c.of.result.now are c.widest_around-widest.result c.stretch_in.result c.args.table.now.bound c.args.table.now.rows.now
-    near c.windows_between-windows.ensures.within whole c.stretch_in.ensures.within (c.stretch_in.ensures.served free)
+    near c.windows_between-windows.ensures.within whole c.stretch_in.ensures.within (c.stretch_in.ensures.served conditions (c.limits_of.ensures free))

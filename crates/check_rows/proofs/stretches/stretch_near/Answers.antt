@@ -6,10 +6,10 @@ use Rattle.taxi_base.specs.declared.numbers.Segment.{Segment}
 use Rattle.taxi_base.specs.Labels.{window_of}
 use Rattle.taxi_base.specs.Walks.{conditions_among, free_among}
 use Rattle.walk_labels.specs.Places.{IsPlace, place_of}
-use Rattle.check_rows.specs.Rules.{HasEach}
-use Rattle.check_rows.specs.Reached.{IsReachedIn}
-use Rattle.check_rows.proofs.AmongLaws.{among-part}
-use Rattle.check_rows.proofs.ReachLaws.{arc-by_row}
+use Rattle.table_rows.specs.HasRows.{HasEach}
+use Rattle.table_rows.specs.Reached.{IsReachedIn}
+use Rattle.table_rows.proofs.AmongLaws.{among-part}
+use Rattle.table_rows.proofs.ReachLaws.{arc-by_row}
 use Rattle.check_rows.proofs.stretches.stretch_near.Goals as goal
 
 pub returns-in-Some-clause-served : goal.returns-in-Some-clause-served
@@ -22,7 +22,7 @@ returns-in-Some-clause-served g c =
     let part = c.part_by_row.result in
     let around = c.in-Some.ensures in
     let there = All-contains (Contains rows) c.rows_behind-near.result.now row (among-part rows c.rows_of.result.now c.rows_behind-near.result.now c.rows_of.ensures c.rows_behind-near.ensures) around.there in
-    let served = subst (λ (a : Arc). HasEach part.way (IsReachedIn conditions part a c.args.seconds (window_of row)) bound rows) around.on (c.part_by_row.ensures.served free bound rows there) in
+    let served = subst (λ (a : Arc). HasEach part.way (IsReachedIn conditions part a c.args.seconds (window_of row)) bound rows) around.on (c.part_by_row.ensures.served conditions bound rows (c.limits_of.ensures free) there) in
     (arc-by_row conditions c.args.arc c.args.seconds c.requires.takes part bound rows row around.on c.part_by_row.ensures.within.begins c.part_by_row.ensures.within.ends
     (All-contains (λ r. IsPlace conditions (place_of r)) rows row c.requires.places there)).0 served
 

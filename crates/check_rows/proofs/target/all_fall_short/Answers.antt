@@ -1,6 +1,7 @@
-use Rattle.check_rows.specs.Reached.{conditions_at, FallsShort}
+use Rattle.check_rows.specs.Comes.{conditions_at, FallsShort}
 use Rattle.check_rows.proofs.LoopLaws.{all-fails, all-holds, all-more, says-no, says-yes, no_row}
-use Rattle.check_rows.proofs.EachLaws.{same-test, short-by_rows}
+use Rattle.table_rows.proofs.EachLaws.{same-test}
+use Rattle.check_rows.proofs.RuleLaws.{short-by_rows}
 use Rattle.check_rows.proofs.target.all_fall_short.Goals as goal
 
 pub returns-then-not-falls_short : goal.returns-then-not-falls_short

@@ -1,7 +1,7 @@
 use Rattle.std.proofs.Common.{ℕ, Bool, All, take}
 use Rattle.taxi_base.specs.declared.numbers.Class.{Class}
 use Rattle.taxi_base.specs.declared.numbers.Segment.{Segment}
-use Rattle.check_rows.specs.Reached.{conditions_at, FallsShort}
+use Rattle.check_rows.specs.Comes.{conditions_at, FallsShort}
 use Rattle.check_rows.proofs.target.all_fall_short.Given as goal
 
 abbrev pub invariant-loop-row : goal.invariant-loop-row

@@ -3,10 +3,10 @@ use Rattle.taxi_base.specs.declared.answers.Request.{Request}
 use Rattle.taxi_base.specs.declared.answers.Request.TheVariants as request
 use Rattle.taxi_base.specs.State.{holds_in}
 use Rattle.walk_labels.proofs.FitConditions.{among_fit}
-use Rattle.certificate.specs.declared.rule.Rule.TheVariants as rule
-use Rattle.certificate.specs.Sought.{sought_new, search_of}
-use Rattle.certificate.proofs.TablesKept.{HasKeptTable, HasFloorOf, table-best, table-none}
-use Rattle.certificate.proofs.SoughtPasses.{route-table, no_route-table}
+use Rattle.replies.specs.declared.rule.Rule.TheVariants as rule
+use Rattle.replies.specs.Sought.{sought_new, search_of}
+use Rattle.replies.proofs.TablesKept.{HasKeptTable, HasFloorOf, table-best, table-none}
+use Rattle.replies.proofs.SoughtPasses.{route-table, no_route-table}
 use Rattle.check_walks.proofs.laws.what_breaks_no_rule_is_best.Goals as goal
 
 no-floor : (request : Request) → HasFloorOf request None

@@ -2,7 +2,7 @@ use Rattle.std.proofs.Common.{◌≤◌, ◌++◌, ◌∙◌, List, length, ap}
 use Rattle.std.specs.Prelude.{flat_map}
 use Rattle.std.proofs.lemmas.List.{take_all}
 use Rattle.taxi_base.specs.declared.answers.Flight.{Flight}
-use Rattle.certificate.specs.Texts.{lines_text}
+use Rattle.replies.specs.Texts.{lines_text}
 use Rattle.checkpoint_file.specs.Lines.{flight_lines}
 use Rattle.checkpoint_file.proofs.Pieces.{place-more}
 use Rattle.checkpoint_file.proofs.write.write_flights.Goals as goal

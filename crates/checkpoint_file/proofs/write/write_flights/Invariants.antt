@@ -1,6 +1,6 @@
 use Rattle.std.proofs.Common.{◌≡◌, ◌++◌, take}
 use Rattle.std.specs.Prelude.{flat_map}
-use Rattle.certificate.specs.Texts.{lines_text}
+use Rattle.replies.specs.Texts.{lines_text}
 use Rattle.checkpoint_file.specs.Lines.{flight_lines}
 use Rattle.checkpoint_file.proofs.write.write_flights.Given as goal
 

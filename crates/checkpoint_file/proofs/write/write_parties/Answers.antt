@@ -2,7 +2,7 @@ use Rattle.std.proofs.Common.{◌≤◌, ◌++◌, ◌∙◌, List, length, ap}
 use Rattle.std.specs.Prelude.{flat_map}
 use Rattle.std.proofs.lemmas.List.{take_all}
 use Rattle.taxi_base.specs.declared.answers.Party.{Party}
-use Rattle.certificate.specs.Texts.{line_text}
+use Rattle.replies.specs.Texts.{line_text}
 use Rattle.checkpoint_file.specs.Lines.{work_words}
 use Rattle.checkpoint_file.proofs.Pieces.{place-more}
 use Rattle.checkpoint_file.proofs.write.write_parties.Goals as goal

@@ -1,6 +1,6 @@
 use Rattle.std.proofs.Common.{◌≡◌, ◌++◌, take}
 use Rattle.std.specs.Prelude.{flat_map}
-use Rattle.certificate.specs.Texts.{line_text}
+use Rattle.replies.specs.Texts.{line_text}
 use Rattle.checkpoint_file.specs.Lines.{work_words}
 use Rattle.checkpoint_file.proofs.write.write_parties.Given as goal
 

@@ -1,8 +1,8 @@
 use Rattle.std.proofs.Common.{◌∙◌, ◌∷◌, [], Some, sym, ap}
 use Rattle.std.proofs.lemmas.Result.{err_from_is_err_and}
 use Rattle.taxi_text.specs.declared.command.BatchRequest.TheVariants as requested
-use Rattle.certificate.specs.Refusals.{in_force, tests_of_words, full}
-use Rattle.certificate.proofs.RequestTests.{stopped}
+use Rattle.replies.specs.Refusals.{in_force, tests_of_words, full}
+use Rattle.replies.proofs.RequestTests.{stopped}
 use Rattle.command_refusals.proofs.asking.asked_arrival.Goals as goal
 
 pub returns-in_err-trip-clause-err : goal.returns-in_err-trip-clause-err

@@ -1,6 +1,6 @@
 use Rattle.std.proofs.Common.{◌∙◌, ◌+◌, Some, sym, ap, subst, inr}
 use Rattle.std.proofs.lemmas.Result.{err_from_is_err_and}
-use Rattle.certificate.proofs.RequestTests.{AreTried, one-tried, one-refused}
+use Rattle.replies.proofs.RequestTests.{AreTried, one-tried, one-refused}
 use Rattle.command_refusals.proofs.batch.asked_batch.Goals as goal
 
 pub returns-in_err-wish-clause-err : goal.returns-in_err-wish-clause-err

@@ -1,4 +1,4 @@
-use Rattle.certificate.proofs.RequestTests.{AreTried}
+use Rattle.replies.proofs.RequestTests.{AreTried}
 use Rattle.command_refusals.proofs.batch.asked_batch.Given as goal
 
 -- the requests before the place were tried, and none was refused

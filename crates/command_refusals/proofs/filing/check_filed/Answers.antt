@@ -2,8 +2,8 @@ use Rattle.std.proofs.Common.{refl, length, subst, ◌≡◌, ◌∙◌, ◌<◌
 use Rattle.taxi_base.specs.State.{has_holder, holder_count}
 use Rattle.taxi_base.specs.Walks.{AreJoined, IsFeasibleWalk}
 use Rattle.taxi_base.specs.Faults.{conditions_in, route_fault}
-use Rattle.certificate.specs.Refusals.{most_holders}
-use Rattle.certificate.proofs.FiledLaws.{filed_steps-length, filed_steps-arcs, filed_steps-joined}
+use Rattle.replies.specs.Refusals.{most_holders}
+use Rattle.replies.proofs.FiledLaws.{filed_steps-length, filed_steps-arcs, filed_steps-joined}
 use Rattle.command_refusals.proofs.FiledDue.{file-due, not-full}
 use Rattle.command_refusals.proofs.filing.check_filed.Goals as goal
 

@@ -1,5 +1,5 @@
 use Rattle.std.proofs.Common.{◌≡◌, ◌++◌, drop, option_map}
-use Rattle.certificate.specs.Asked.{filed_steps, route_filed}
+use Rattle.replies.specs.Asked.{filed_steps, route_filed}
 use Rattle.command_refusals.proofs.filing.route_steps.Given as goal
 
 -- the steps that are made come before those that are still to be made

@@ -1,6 +1,6 @@
 use Rattle.std.proofs.Common.{◌≤◌, length, sym, arith}
 use Rattle.std.proofs.lemmas.List.Elements.{All-contains}
-use Rattle.certificate.proofs.FlightLaws.{flight_named-there}
+use Rattle.replies.proofs.FlightLaws.{flight_named-there}
 use Rattle.command_refusals.proofs.late.asked_late.Goals as goal
 
 pub delay_refused-requires : goal.delay_refused-requires

@@ -1,7 +1,7 @@
 use Rattle.std.proofs.Common.{◌≡◌, ◌∙◌, ◌<◌, false, sym}
 use Rattle.taxi_base.specs.State.{has_holder, holder_count}
-use Rattle.certificate.specs.Refusals.{most_holders}
-use Rattle.certificate.proofs.WindowsTold.{segment_named-exists}
+use Rattle.replies.specs.Refusals.{most_holders}
+use Rattle.replies.proofs.WindowsTold.{segment_named-exists}
 use Rattle.command_refusals.proofs.FiledDue.{not-full}
 use Rattle.command_refusals.proofs.WorkDue.{work-due}
 use Rattle.command_refusals.proofs.shutting.check_work.Goals as goal

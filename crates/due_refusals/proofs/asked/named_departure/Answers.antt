@@ -1,8 +1,8 @@
 use Rattle.std.proofs.Common.{◌∙◌, ◌∷◌, [], Some, sym, ap}
 use Rattle.std.proofs.lemmas.Result.{err_from_is_err_and}
 use Rattle.taxi_text.specs.declared.command.BatchRequest.TheVariants as requested
-use Rattle.certificate.specs.Refusals.{in_force, tests_of_words, full}
-use Rattle.certificate.proofs.RequestTests.{stopped}
+use Rattle.replies.specs.Refusals.{in_force, tests_of_words, full}
+use Rattle.replies.proofs.RequestTests.{stopped}
 use Rattle.checked_state.specs.Flights.{state_of}
 use Rattle.due_refusals.proofs.asked.named_departure.Goals as goal
 

@@ -7,9 +7,9 @@ use Rattle.taxi_base.specs.State.{State}
 use Rattle.taxi_text.specs.declared.command.Asked.{Asked}
 use Rattle.taxi_text.specs.declared.command.BatchRequest.{BatchRequest}
 use Rattle.taxi_text.specs.declared.command.BatchRequest.TheVariants as requested
-use Rattle.certificate.specs.Asked.{asked_in}
-use Rattle.certificate.specs.Refusals.{first_of, is_name_of, in_force, tests_of_words, tests_of_request}
-use Rattle.certificate.proofs.RequestTests.{new-before}
+use Rattle.replies.specs.Asked.{asked_in}
+use Rattle.replies.specs.Refusals.{first_of, is_name_of, in_force, tests_of_words, tests_of_request}
+use Rattle.replies.proofs.RequestTests.{new-before}
 use Rattle.checked_state.specs.Flights.{state_of}
 use Rattle.due_refusals.proofs.batch.named_after.Goals as goal
 

@@ -1,5 +1,5 @@
 use Rattle.std.proofs.Common.{◌+◌, sym, subst}
-use Rattle.certificate.proofs.RequestTests.{AreTried, one-tried, one-refused}
+use Rattle.replies.proofs.RequestTests.{AreTried, one-tried, one-refused}
 use Rattle.checked_state.specs.Flights.{state_of}
 use Rattle.due_refusals.proofs.batch.named_batch.Goals as goal
 

@@ -1,4 +1,4 @@
-use Rattle.certificate.proofs.RequestTests.{AreTried}
+use Rattle.replies.proofs.RequestTests.{AreTried}
 use Rattle.checked_state.specs.Flights.{state_of}
 use Rattle.due_refusals.proofs.batch.named_batch.Given as goal
 

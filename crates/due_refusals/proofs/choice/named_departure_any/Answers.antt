@@ -1,40 +1,15 @@
-use Rattle.std.proofs.Common.{◌∙◌, not, sym, ap}
-use Rattle.std.specs.List.{list_any}
-use Rattle.taxi_base.specs.Airport.{is_runway, is_node_of}
-use Rattle.certificate.specs.Asked.{nodes_named}
+use Rattle.std.proofs.lemmas.Result.{IfOk-weaker}
+use Rattle.taxi_text.specs.declared.command.Command.TheVariants as command
 use Rattle.checked_state.specs.Flights.{state_of}
-use Rattle.due_refusals.proofs.ChoiceLaws.{departure-no_stand, departure-no_runway, departure-full}
+use Rattle.due_refusals.specs.Choice.{choice_refused, AreNamedOr, AreAnyNamed}
+use Rattle.due_refusals.proofs.ChoiceLaws.{named-departure}
 use Rattle.due_refusals.proofs.choice.named_departure_any.Goals as goal
 
-pub returns-then-not-has_stand : goal.returns-then-not-has_stand
-returns-then-not-has_stand c =
+pub returns : goal.returns
+returns c =
     let airport = c.args.airport.now in
-    let asked = c.args.asked.now in
     let state = state_of c.args.held.now in
-    let new = sym c.has_holder.ensures ∙ c.if-has_holder.false in
-    let class = sym c.class_named.ensures ∙ c.in-Some.is in
-    let from = sym c.node_named.ensures ∙ c.in-Some-node_named.is in
-    let nodes = ap (nodes_named airport) (sym c.as_slice-runways.ensures) ∙ sym c.in_ok-nodes.ensures ∙ c.in-Some-2.is in
-    rw c.refused-then-not-has_stand.ensures (departure-no_stand airport state asked new c.in-Some.class class c.in-Some-node_named.from from c.in-Some-2.nodes nodes (sym c.has_stand.ensures ∙ c.if-not-has_stand.true))
-
-pub returns-then-has_no_runway : goal.returns-then-has_no_runway
-returns-then-has_no_runway c =
-    let airport = c.args.airport.now in
     let asked = c.args.asked.now in
-    let state = state_of c.args.held.now in
-    let new = sym c.has_holder.ensures ∙ c.if-has_holder.false in
-    let class = sym c.class_named.ensures ∙ c.in-Some.is in
-    let from = sym c.node_named.ensures ∙ c.in-Some-node_named.is in
-    let nodes = ap (nodes_named airport) (sym c.as_slice-runways.ensures) ∙ sym c.in_ok-nodes.ensures ∙ c.in-Some-2.is in
-    rw c.refused-then-has_no_runway.ensures (departure-no_runway airport state asked new c.in-Some.class class c.in-Some-node_named.from from c.in-Some-2.nodes nodes (sym c.has_stand.ensures ∙ c.if-not-has_stand.false) (ap (list_any (λ node. not (is_node_of is_runway airport node))) (sym c.as_slice-runways.ensures) ∙ sym c.has_no_runway.ensures ∙ c.if-has_no_runway.true))
-
-pub returns-then-is_full : goal.returns-then-is_full
-returns-then-is_full c =
-    let airport = c.args.airport.now in
-    let asked = c.args.asked.now in
-    let state = state_of c.args.held.now in
-    let new = sym c.has_holder.ensures ∙ c.if-has_holder.false in
-    let class = sym c.class_named.ensures ∙ c.in-Some.is in
-    let from = sym c.node_named.ensures ∙ c.in-Some-node_named.is in
-    let nodes = ap (nodes_named airport) (sym c.as_slice-runways.ensures) ∙ sym c.in_ok-nodes.ensures ∙ c.in-Some-2.is in
-    rw c.refused-then-is_full.ensures (departure-full airport state asked new c.in-Some.class class c.in-Some-node_named.from from c.in-Some-2.nodes nodes (sym c.has_stand.ensures ∙ c.if-not-has_stand.false) (ap (list_any (λ node. not (is_node_of is_runway airport node))) (sym c.as_slice-runways.ensures) ∙ sym c.has_no_runway.ensures ∙ c.if-has_no_runway.false) (sym c.is_full.ensures ∙ c.if-is_full.true))
+    let fits = c.leads_to_runways-fits.result in
+    IfOk-weaker c.named_any.result (AreNamedOr airport asked (choice_refused airport state asked fits)) (AreAnyNamed airport state asked (command.DepartureAny asked))
+    (λ named told. named-departure airport state asked fits named c.leads_to_runways-fits.ensures told) c.named_any.ensures

@@ -1,6 +1,6 @@
 use Rattle.std.proofs.Common.{◌∙◌, length, sym, ap, arith}
-use Rattle.certificate.specs.Asked.{filed_steps}
-use Rattle.certificate.proofs.FiledLaws.{filed_steps-arcs}
+use Rattle.replies.specs.Asked.{filed_steps}
+use Rattle.replies.proofs.FiledLaws.{filed_steps-arcs}
 use Rattle.due_refusals.proofs.FiledLaws.{few-made}
 use Rattle.due_refusals.proofs.filed.find_due.Goals as goal
 

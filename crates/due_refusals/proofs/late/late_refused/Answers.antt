@@ -2,8 +2,8 @@ use Rattle.std.proofs.Common.{◌∙◌, sym}
 use Rattle.std.proofs.lemmas.List.Elements.{All-contains}
 use Rattle.taxi_base.specs.Walks.{IsFeasibleWalk}
 use Rattle.taxi_base.specs.State.{conditions_of}
-use Rattle.certificate.proofs.FlightLaws.{flight_named-there}
-use Rattle.certificate.proofs.FoundLaws.{walk-some}
+use Rattle.replies.proofs.FlightLaws.{flight_named-there}
+use Rattle.replies.proofs.FoundLaws.{walk-some}
 use Rattle.checked_state.specs.Flights.{state_of}
 use Rattle.checked_state.proofs.FlightLaws.{copied-flight}
 use Rattle.due_refusals.proofs.late.late_refused.Goals as goal

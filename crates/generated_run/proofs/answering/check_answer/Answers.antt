@@ -1,7 +1,7 @@
 use Rattle.std.proofs.Common.{subst}
 use Rattle.std.specs.Prelude.{Result, Err}
-use Rattle.certificate.specs.Passes.{IsPassed, IsFirstBroken}
-use Rattle.certificate.proofs.TurnLaws.{passed-unbroken}
+use Rattle.replies.specs.Passes.{IsPassed, IsFirstBroken}
+use Rattle.replies.proofs.TurnLaws.{passed-unbroken}
 use Rattle.transcripts.specs.declared.refused.CheckRefused.{CheckRefused}
 use Rattle.transcripts.specs.declared.refused.CheckRefused.TheVariants as check
 use Rattle.transcripts.specs.Turns.{ChecksIn}

@@ -1,6 +1,6 @@
 use Rattle.std.proofs.Common.{◌≡◌, ◌∙◌, sym, ap, subst, true, false, arith}
 use Rattle.taxi_text.specs.Lines.{lines_of, lines_left, is_skipped}
-use Rattle.certificate.specs.Passes.{IsPassed}
+use Rattle.replies.specs.Passes.{IsPassed}
 use Rattle.generated_run.proofs.Counted.{nothing-counted, counted-skipped, counted-answered, counted-few, counted-routes, counted-no_routes, counted-whole}
 use Rattle.generated_run.proofs.run.count_replies.Goals as goal
 

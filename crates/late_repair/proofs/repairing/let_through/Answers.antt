@@ -1,8 +1,4 @@
-use Rattle.std.proofs.Common.{◌≡◌, sym, subst}
-use Rattle.taxi_base.specs.State.{IsSound}
-use Rattle.taxi_base.specs.Late.{IsDelay, AreInTheWay, base_state}
 use Rattle.late_repair.specs.TakenOut.{taken_back}
-use Rattle.late_repair.proofs.ChangeLaws.{theirs-both}
 use Rattle.late_repair.proofs.RepairSteps.{repaired-so}
 use Rattle.late_repair.proofs.repairing.let_through.Goals as goal
 

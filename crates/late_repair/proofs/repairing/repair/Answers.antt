@@ -1,9 +1,9 @@
-use Rattle.std.proofs.Common.{◌≡◌, ◌∙◌, ℕ, List, ◌∷◌, map, IsTrue, IsFalse, sym, subst}
-use Rattle.std.specs.Prelude.{All, AllPairs, Contains, bytes_eq}
+use Rattle.std.proofs.Common.{◌≡◌, ◌∙◌, List, ◌∷◌, map, IsTrue, IsFalse, sym, subst}
+use Rattle.std.specs.Prelude.{All, AllPairs, bytes_eq}
 use Rattle.taxi_base.specs.State.{State, has_holder}
 use Rattle.taxi_base.specs.Late.{Delay, Meeting, IsDelay, AreInTheWay}
 use Rattle.taxi_base.proofs.LateLaws.{names-once}
-use Rattle.certificate.specs.Repairs.{names_in_turn}
+use Rattle.replies.specs.Repairs.{names_in_turn}
 use Rattle.commitments.specs.Room.{HasRoomForAll}
 use Rattle.commitments.proofs.RoomLaws.{room-own, room-kept}
 use Rattle.late_repair.specs.declared.holder.Holder.{Holder}

@@ -1,4 +1,4 @@
-use Rattle.std.proofs.Common.{◌≡◌, ◌∙◌, map, refl, sym, ap, subst}
+use Rattle.std.proofs.Common.{◌∙◌, map, refl, sym, ap, subst}
 use Rattle.taxi_base.specs.State.{State}
 use Rattle.late_repair.specs.TakenOut.{name_of, without_all, AreOut}
 use Rattle.late_repair.proofs.HolderLaws.{are-out}

@@ -1,5 +1,5 @@
-use Rattle.std.proofs.Common.{◌≡◌, ◌∙◌, not, true, false, Option, None, Some, is_some, refl, sym, ap}
-use Rattle.std.specs.Prelude.{IfSome, IfNone}
+use Rattle.std.proofs.Common.{◌≡◌, ◌∙◌, not, false, Option, None, Some, is_some, refl, sym, ap}
+use Rattle.std.specs.Prelude.{IfNone}
 use Rattle.taxi_base.specs.declared.answers.Flight.{Flight}
 use Rattle.taxi_base.specs.State.{flight_named, without}
 use Rattle.commitments.specs.Book.{Book}

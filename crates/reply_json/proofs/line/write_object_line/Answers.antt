@@ -1,6 +1,6 @@
 use Rattle.std.proofs.Common.{◌++◌, ◌∷◌, ◌∙◌, [], ℕ, List, ap, append_assoc}
 use Rattle.std.proofs.lemmas.Result.{on_ok_weaker}
-use Rattle.certificate.specs.declared.block.Block.{Block}
+use Rattle.replies.specs.declared.block.Block.{Block}
 use Rattle.serde_json.specs.Written.{compact_text}
 use Rattle.reply_json.specs.Lines.{command_object, object_line}
 use Rattle.reply_json.proofs.line.write_object_line.Goals as goal

@@ -1,6 +1,6 @@
 use Rattle.std.proofs.Common.{◌++◌, ◌∙◌, ℕ, List, sym, ap}
 use Rattle.std.proofs.lemmas.Result.{on_ok_weaker}
-use Rattle.certificate.specs.declared.block.Block.{Block}
+use Rattle.replies.specs.declared.block.Block.{Block}
 use Rattle.serde_json.specs.Written.{compact_text}
 use Rattle.reply_json.specs.Lines.{command_object}
 use Rattle.reply_json.proofs.line.write_whole_object.Goals as goal

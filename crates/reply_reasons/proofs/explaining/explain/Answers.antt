@@ -1,7 +1,7 @@
 use Rattle.std.proofs.Common.{subst}
 use Rattle.std.specs.Prelude.{IfSome}
-use Rattle.certificate.specs.Asked.{IsInGrammar}
-use Rattle.certificate.proofs.GrammarLaws.{command_of-in_grammar}
+use Rattle.replies.specs.Asked.{IsInGrammar}
+use Rattle.replies.proofs.GrammarLaws.{command_of-in_grammar}
 use Rattle.reply_reasons.proofs.explaining.explain.Goals as goal
 
 pub explain_command-requires-clause-grammar : goal.explain_command-requires-clause-grammar

@@ -1,5 +1,5 @@
 use Rattle.std.proofs.Common.{◌∙◌, sym}
-use Rattle.certificate.proofs.WindowsTold.{segment_named-exists}
+use Rattle.replies.proofs.WindowsTold.{segment_named-exists}
 use Rattle.reply_reasons.proofs.taken.explain_shut.Goals as goal
 
 pub explain_taken-requires : goal.explain_taken-requires

@@ -1,4 +1,4 @@
-use Rattle.std.proofs.Common.{◌≡◌, ◌++◌, take}
+use Rattle.std.proofs.Common.{◌≡◌, take}
 use Rattle.std.specs.Prelude.{flat_map}
 use Rattle.reply_reasons.specs.Text.{reason_line}
 use Rattle.reply_reasons.proofs.text.write_reasons.Given as goal

@@ -1,7 +1,7 @@
 use Rattle.std.proofs.Common.{◌≤◌, length, sym, arith}
 use Rattle.std.proofs.lemmas.List.Elements.{All-contains}
 use Rattle.taxi_base.proofs.AirportLaws.{node_named-exists}
-use Rattle.certificate.proofs.FlightLaws.{flight_named-there}
+use Rattle.replies.proofs.FlightLaws.{flight_named-there}
 use Rattle.reply_reasons.proofs.under_way.asked_to_divert.Goals as goal
 
 pub is_stand-requires : goal.is_stand-requires

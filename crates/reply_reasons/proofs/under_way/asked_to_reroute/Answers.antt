@@ -1,6 +1,6 @@
 use Rattle.std.proofs.Common.{◌≤◌, length, ◌∙◌, sym, arith}
 use Rattle.std.proofs.lemmas.List.Elements.{All-contains}
-use Rattle.certificate.proofs.FlightLaws.{flight_named-there}
+use Rattle.replies.proofs.FlightLaws.{flight_named-there}
 use Rattle.reply_reasons.proofs.AgainLaws.{reroute-found}
 use Rattle.reply_reasons.proofs.under_way.asked_to_reroute.Goals as goal
 

@@ -1,7 +1,7 @@
 use Rattle.std.proofs.Common.{◌≡◌, ◌+◌, ◌<◌, ◌++◌, ℕ, List, length, take, sym, arith}
 use Rattle.std.proofs.lemmas.List.{length-append, length-take}
 use Rattle.std.proofs.lemmas.List.Elements.{All-same}
-use Rattle.certificate.specs.declared.entries.Entry.{Entry}
+use Rattle.replies.specs.declared.entries.Entry.{Entry}
 use Rattle.run_figures.specs.declared.counting.Count.{Count}
 use Rattle.run_figures.specs.Counts.{entry_word, entry_kinds, tallied}
 use Rattle.run_figures.proofs.TallyLaws.{tallied-few, tally-step}

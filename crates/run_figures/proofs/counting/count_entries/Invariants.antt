@@ -1,5 +1,5 @@
 use Rattle.std.proofs.Common.{◌≡◌, ◌++◌, ℕ, List, take}
-use Rattle.certificate.specs.declared.entries.Entry.{Entry}
+use Rattle.replies.specs.declared.entries.Entry.{Entry}
 use Rattle.run_figures.specs.Counts.{entry_word, entry_kinds, tallied}
 use Rattle.run_figures.proofs.counting.count_entries.Given as goal
 

@@ -7,7 +7,7 @@ use Rattle.taxi_base.specs.Labels.{AnswersArrival, AnswersDeparture}
 use Rattle.taxi_base.specs.Faults.{conditions_in}
 use Rattle.place_cells.specs.Laid.{windows_of}
 use Rattle.window_store.specs.Store.{Store}
-use Rattle.certificate.specs.Asked.{AnswersRequest}
+use Rattle.replies.specs.Asked.{AnswersRequest}
 use Rattle.sequence_exchange.proofs.SearchedLaws.{windows-by, conditions-found}
 use Rattle.sequence_exchange.proofs.routing.find_route.Goals as goal
 

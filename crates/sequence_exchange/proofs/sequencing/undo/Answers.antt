@@ -1,6 +1,6 @@
 use Rattle.std.proofs.Common.{ℕ, List, sym, subst}
-use Rattle.certificate.specs.declared.entries.Entry.{Entry}
-use Rattle.certificate.specs.Batches.{IsServed}
+use Rattle.replies.specs.declared.entries.Entry.{Entry}
+use Rattle.replies.specs.Batches.{IsServed}
 use Rattle.sequence_exchange.proofs.NewLaws.{AreNew-ends}
 use Rattle.sequence_exchange.proofs.sequencing.undo.Goals as goal
 

@@ -1,7 +1,7 @@
 use Rattle.std.proofs.Common.{◌≡◌, ◌∙◌, ◌+◌, ◌<◌, suc, take, length, sym, subst, arith}
 use Rattle.taxi_base.specs.State.{State}
-use Rattle.certificate.specs.Batches.{IsServed}
-use Rattle.certificate.proofs.RowPieces.{map_err}
+use Rattle.replies.specs.Batches.{IsServed}
+use Rattle.replies.proofs.Outcomes.{map_err}
 use Rattle.sequence_exchange.proofs.ServedLaws.{IsServed-length}
 use Rattle.sequence_exchange.proofs.NewLaws.{AreNew-take}
 use Rattle.sequence_exchange.proofs.ServingLaws.{next-absent, next-few, not-err, putting-next}

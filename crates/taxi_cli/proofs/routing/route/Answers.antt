@@ -3,7 +3,8 @@ use Rattle.program_words.specs.Verb.{FileNames}
 use Rattle.taxi_cli.specs.Endings.{Call}
 use Rattle.taxi_cli.specs.Pace.{EndsBeforeCommands}
 use Rattle.program_files.proofs.InputLaws.{began-more}
-use Rattle.taxi_cli.proofs.RunEndings.{airport-ends, before-commands, not-begun, run-ends, stop-handed}
+use Rattle.command_run.proofs.PaceLaws.{before-commands, not-begun}
+use Rattle.taxi_cli.proofs.RunEndings.{airport-ends, run-ends, stop-handed}
 use Rattle.taxi_cli.proofs.routing.route.Goals as goal
 
 pub returns-in-Ok : goal.returns-in-Ok

@@ -1,11 +1,10 @@
-use Rattle.std.proofs.Common.{ap, refl, sym, subst, IfOk, IfErr}
+use Rattle.std.proofs.Common.{ap, sym, subst, IfOk, IfErr}
 use Rattle.std.proofs.lemmas.Result.{err_from_is_err_and}
 use Rattle.taxi_base.specs.Airport.{Airport}
-use Rattle.taxi_base.specs.State.{no_holder}
 use Rattle.program_files.specs.Inputs.{commands_limit}
 use Rattle.taxi_engine.specs.Engine.{EngineState}
 use Rattle.command_run.specs.Answered.{IsWholeRun, IsStopped}
-use Rattle.command_run.proofs.SoFar.{nothing-so_far, so_far-stays}
+use Rattle.command_run.proofs.Blocks.{unread-run}
 use Rattle.taxi_cli.proofs.routing.run_engine.Goals as goal
 
 pub returns-in_err-engine-clause-stopped : goal.returns-in_err-engine-clause-stopped
@@ -13,7 +12,7 @@ returns-in_err-engine-clause-stopped g c =
     let stopped = err_from_is_err_and c.from_residual.result c.from_residual.ensures.1 in
     rw stopped.1
     (subst (IsStopped c.args.airport commands_limit (g.S.Shelf.rest c.args.shelf.now, g.S.Shelf.rest c.args.shelf.now) (g.S.Shelf.given c.args.shelf.now, g.S.Shelf.given c.args.shelf.now) (g.K.Sink.written c.args.out.now, g.K.Sink.written c.args.out.now)) (sym stopped.2)
-    (so_far-stays _ _ _ _ _ _ _ _ _ _ _ (nothing-so_far c.args.airport commands_limit (g.S.Shelf.rest c.args.shelf.now) (g.S.Shelf.given c.args.shelf.now) (g.K.Sink.written c.args.out.now) no_holder refl) _))
+    (unread-run c.args.airport commands_limit (g.S.Shelf.rest c.args.shelf.now) (g.K.Sink.written c.args.out.now)))
 
 pub returns-clause-whole : goal.returns-clause-whole
 returns-clause-whole g c =

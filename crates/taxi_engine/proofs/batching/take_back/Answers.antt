@@ -1,6 +1,6 @@
 use Rattle.std.proofs.Common.{◌≡◌, ◌∙◌, ℕ, List, sym, subst}
-use Rattle.certificate.specs.declared.entries.Entry.{Entry}
-use Rattle.certificate.specs.Batches.{IsSequenced}
+use Rattle.replies.specs.declared.entries.Entry.{Entry}
+use Rattle.replies.specs.Batches.{IsSequenced}
 use Rattle.taxi_engine.proofs.BatchLaws.{same-entries}
 use Rattle.taxi_engine.proofs.batching.take_back.Goals as goal
 

@@ -3,7 +3,7 @@ use Rattle.std.specs.Prelude.{All, IfOk}
 use Rattle.taxi_base.specs.declared.numbers.Node.{Node}
 use Rattle.taxi_base.specs.Faults.{conditions_in}
 use Rattle.place_cells.specs.Laid.{windows_of}
-use Rattle.certificate.specs.Asked.{arrival_any, AnswersChoice}
+use Rattle.replies.specs.Asked.{arrival_any, AnswersChoice}
 use Rattle.sequence_exchange.proofs.SearchedLaws.{windows-by, conditions-found}
 use Rattle.taxi_engine.proofs.choosing.find_arrival_any.Goals as goal
 

@@ -1,7 +1,7 @@
 use Rattle.std.proofs.Common.{◌∙◌, sym, subst}
 use Rattle.taxi_base.specs.State.{IsSound}
-use Rattle.certificate.proofs.LateTold.{delay-there}
-use Rattle.certificate.specs.Replies.{HaveNames}
+use Rattle.replies.proofs.LateTold.{delay-there}
+use Rattle.replies.specs.Replies.{HaveNames}
 use Rattle.commitments.specs.Book.{Book, Fits}
 use Rattle.taxi_engine.proofs.LateDone.{told-writable, told-sound, told-named, for-ok, for-err}
 use Rattle.taxi_engine.proofs.late.print_repaired.Goals as goal

@@ -1,6 +1,6 @@
 use Rattle.std.proofs.lemmas.List.Elements.{All-weaker}
-use Rattle.certificate.specs.Printable.{HasSegment, IsPrintableHeld}
-use Rattle.certificate.proofs.ReportsTold.{held-printable}
+use Rattle.replies.specs.Printable.{HasSegment, IsPrintableHeld}
+use Rattle.replies.proofs.ReportsTold.{held-printable}
 use Rattle.taxi_engine.proofs.reporting.print_occupancy.Goals as goal
 
 pub print-requires : goal.print-requires

@@ -3,8 +3,8 @@ use Rattle.std.specs.Prelude.{All}
 use Rattle.std.proofs.lemmas.List.Elements.{All-weaker}
 use Rattle.taxi_base.specs.declared.rows.FlightRow.{FlightRow}
 use Rattle.taxi_base.specs.Reports.{timetable_rows}
-use Rattle.certificate.specs.Printable.{HasClass, IsPrintableFlight}
-use Rattle.certificate.proofs.ReportsTold.{timetable-printable}
+use Rattle.replies.specs.Printable.{HasClass, IsPrintableFlight}
+use Rattle.replies.proofs.ReportsTold.{timetable-printable}
 use Rattle.taxi_engine.proofs.reporting.print_timetable.Goals as goal
 
 pub print-requires : goal.print-requires

@@ -1,7 +1,7 @@
 use Rattle.std.proofs.Common.{◌<◌, length, List, sym, subst}
 use Rattle.std.specs.Prelude.{All}
 use Rattle.taxi_base.specs.declared.rows.Step.{Step}
-use Rattle.certificate.specs.Printable.{HasArc}
+use Rattle.replies.specs.Printable.{HasArc}
 use Rattle.taxi_engine.proofs.RouteLaws.{walk-arcs, walk-steps}
 use Rattle.taxi_engine.proofs.routing.write_route.Goals as goal
 

@@ -1,7 +1,7 @@
 use Rattle.std.proofs.Common.{◌≡◌, ◌∙◌, ap, subst}
 use Rattle.taxi_base.specs.Walks.{begin_of, end_of}
-use Rattle.certificate.specs.declared.block.Block.TheVariants.{Filed}
-use Rattle.certificate.specs.Texts.{block_text}
+use Rattle.replies.specs.declared.block.Block.TheVariants.{Filed}
+use Rattle.replies.specs.Texts.{block_text}
 use Rattle.taxi_engine.proofs.texts.filed_text.Goals as goal
 
 pub returns : goal.returns

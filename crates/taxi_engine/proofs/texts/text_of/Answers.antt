@@ -1,6 +1,6 @@
 use Rattle.std.proofs.Common.{◌≡◌, subst}
 use Rattle.std.specs.Prelude.{IfSome}
-use Rattle.certificate.specs.Texts.{block_text}
+use Rattle.replies.specs.Texts.{block_text}
 use Rattle.taxi_engine.proofs.texts.text_of.Goals as goal
 
 pub returns : goal.returns

@@ -1,7 +1,7 @@
 use Rattle.std.proofs.Common.{◌≡◌, ◌∙◌, ap, subst}
 use Rattle.std.specs.Prelude.{OnOk}
-use Rattle.certificate.specs.declared.block.Block.TheVariants.{Windows}
-use Rattle.certificate.specs.Texts.{block_text}
+use Rattle.replies.specs.declared.block.Block.TheVariants.{Windows}
+use Rattle.replies.specs.Texts.{block_text}
 use Rattle.window_store.specs.Store.{spans_at}
 use Rattle.taxi_engine.proofs.Told.{windows-told}
 use Rattle.taxi_engine.proofs.windows.print_windows.Goals as goal

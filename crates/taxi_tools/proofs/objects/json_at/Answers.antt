@@ -6,6 +6,8 @@ returns-in-Ok-run_teller-clause-run g c =
     inr (record {
       rest = g.S.Shelf.rest c.begin_commands.new.shelf;
       begins = c.in-Ok.ensures.whole;
+      is_begun = c.run_teller.ensures.begun;
+      first = g.S.Shelf.given c.begin_commands.new.shelf;
       between = g.K.Sink.written c.run_teller.new.out;
       mid = g.K.Sink.faults c.run_teller.new.out;
       later = c.run_teller.ensures.writes_later;
@@ -20,6 +22,8 @@ returns-in-Err-run_teller-clause-run g c =
     inr (record {
       rest = g.S.Shelf.rest c.begin_commands.new.shelf;
       begins = c.in-Ok.ensures.whole;
+      is_begun = c.run_teller.ensures.begun;
+      first = g.S.Shelf.given c.begin_commands.new.shelf;
       between = g.K.Sink.written c.run_teller.new.out;
       mid = g.K.Sink.faults c.run_teller.new.out;
       later = c.run_teller.ensures.writes_later;

@@ -1,5 +1,5 @@
 use Rattle.std.proofs.Common.{◌≡◌, ◌++◌, OnOk, sym, subst}
-use Rattle.certificate.specs.declared.entries.Entry.{Entry}
+use Rattle.replies.specs.declared.entries.Entry.{Entry}
 use Rattle.serde_json.specs.Written.{compact_text}
 use Rattle.reply_json.specs.Replies.{entry_object}
 use Rattle.reply_json.proofs.entries.Tuple2NameEntryRow.write.Goals as goal

@@ -1,8 +1,8 @@
 use Rattle.std.proofs.Common.{◌≡◌, ◌∙◌, ◌+◌, ◌<◌, ◌++◌, ℕ, false, List, map, refl, sym, ap, arith, Vec, Global}
 use Rattle.std.specs.Prelude.{flat_map}
 use Rattle.std.proofs.lemmas.List.Elements.{All-same}
-use Rattle.certificate.specs.declared.block.Block.{Block}
-use Rattle.certificate.specs.declared.entries.Entry.{Entry}
+use Rattle.replies.specs.declared.block.Block.{Block}
+use Rattle.replies.specs.declared.entries.Entry.{Entry}
 use Rattle.run_figures.specs.declared.counting.Count.{Count}
 use Rattle.run_figures.specs.Counts.{reply_word, entry_word, entry_kinds, refusals_of, entries_of, tallied, refusal_word, refusal_kinds, refusals_tallied}
 use Rattle.run_figures.specs.Tallies.{with_one, tells_more}

@@ -1,6 +1,6 @@
 use Rattle.std.proofs.Common.{◌∙◌, ◌++◌, ℕ, List, map, refl, sym, ap}
-use Rattle.certificate.specs.declared.block.Block.{Block}
-use Rattle.certificate.specs.declared.entries.Entry.{Entry}
+use Rattle.replies.specs.declared.block.Block.{Block}
+use Rattle.replies.specs.declared.entries.Entry.{Entry}
 use Rattle.run_figures.specs.Counts.{refusals_of, entries_of, tallied, entry_word, entry_kinds, refusal_word, refusal_kinds}
 use Rattle.run_figures.specs.Tallies.{with_one}
 use Rattle.run_figures.proofs.TallyLaws.{tallied-more}

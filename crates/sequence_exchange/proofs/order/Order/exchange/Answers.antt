@@ -1,8 +1,8 @@
 use Rattle.std.proofs.Common.{◌≡◌, ◌∙◌, length, take, sym, ap, subst, arith}
 use Rattle.std.proofs.lemmas.List.{take_rest, length-take}
 use Rattle.taxi_base.specs.State.{State}
-use Rattle.certificate.specs.Batches.{IsServed}
-use Rattle.certificate.proofs.RowPieces.{on_err}
+use Rattle.replies.specs.Batches.{IsServed}
+use Rattle.replies.proofs.Outcomes.{on_err}
 use Rattle.sequence_exchange.proofs.ServedLaws.{IsServed-length}
 use Rattle.sequence_exchange.proofs.ServingLaws.{is-err}
 use Rattle.sequence_exchange.proofs.ExchangeLaws.{is-taken_out, all-out}

@@ -1,7 +1,7 @@
 use Rattle.std.proofs.Common.{◌≡◌, ◌∙◌, ◌++◌, length, take, drop, refl, ap, arith}
 use Rattle.std.proofs.lemmas.List.{take_rest}
-use Rattle.certificate.specs.Batches.{IsServed, exchanged}
-use Rattle.certificate.proofs.RowPieces.{on_err}
+use Rattle.replies.specs.Batches.{IsServed, exchanged}
+use Rattle.replies.proofs.Outcomes.{on_err}
 use Rattle.sequence_exchange.specs.Serving.{all_seconds_lost}
 use Rattle.sequence_exchange.proofs.OrderLaws.{exchanged-length, swap-exchanged, swapped-back}
 use Rattle.sequence_exchange.proofs.ExchangeLaws.{rest-new, rest-few, old-new, old-few, old-served, front-length, entries-length, tried-fair, tried-length, is-exchanged, is-kept}

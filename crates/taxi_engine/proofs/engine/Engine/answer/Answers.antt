@@ -3,9 +3,9 @@ use Rattle.std.specs.Prelude.{IfSome}
 use Rattle.taxi_base.specs.Airport.{IsWellFormed}
 use Rattle.taxi_base.specs.State.{IsSound}
 use Rattle.taxi_engine.specs.Engine.{EngineState}
-use Rattle.certificate.specs.Asked.{IsInGrammar}
-use Rattle.certificate.specs.Replies.{HaveNames}
-use Rattle.certificate.proofs.GrammarLaws.{command_of-in_grammar}
+use Rattle.replies.specs.Asked.{IsInGrammar}
+use Rattle.replies.specs.Replies.{HaveNames}
+use Rattle.replies.proofs.GrammarLaws.{command_of-in_grammar}
 use Rattle.taxi_engine.proofs.AnswerLaws.{bad_line-answers, command-answers, file-answers}
 use Rattle.taxi_engine.proofs.engine.Engine.answer.Goals as goal
 

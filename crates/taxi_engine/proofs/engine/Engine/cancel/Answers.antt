@@ -3,10 +3,10 @@ use Rattle.taxi_base.specs.declared.answers.Refusal.TheVariants as refusal
 use Rattle.taxi_base.specs.State.{IsSound}
 use Rattle.taxi_base.proofs.StateLaws.{IsSound-without}
 use Rattle.taxi_text.specs.declared.command.Command.TheVariants.{Cancel}
-use Rattle.certificate.specs.Refusals.{is_in_force}
-use Rattle.certificate.specs.CarriedOut.{cancelled_reply}
-use Rattle.certificate.specs.Replies.{refused, HaveNames}
-use Rattle.certificate.proofs.HolderNames.{without-names}
+use Rattle.replies.specs.Refusals.{is_in_force}
+use Rattle.replies.specs.CarriedOut.{cancelled_reply}
+use Rattle.replies.specs.Replies.{refused, HaveNames}
+use Rattle.replies.proofs.HolderNames.{without-names}
 use Rattle.commitments.specs.Book.{Book, Fits}
 use Rattle.taxi_engine.specs.Engine.{EngineState}
 use Rattle.taxi_engine.specs.Done.{IsDone, IsDoneAsDue}

@@ -2,10 +2,10 @@ use Rattle.std.proofs.Common.{◌≡◌, ◌∙◌, sym, ap, subst, inl}
 use Rattle.taxi_base.specs.declared.answers.Flight.{Flight}
 use Rattle.taxi_base.specs.Walks.{IsFeasibleWalk}
 use Rattle.taxi_base.specs.State.{State, with_flight, with_route, without, conditions_of, IsSound}
-use Rattle.certificate.specs.declared.block.Block.TheVariants.{Route}
-use Rattle.certificate.specs.Texts.{block_text}
-use Rattle.certificate.specs.CarriedOut.{second_of}
-use Rattle.certificate.specs.Replies.{HaveNames}
+use Rattle.replies.specs.declared.block.Block.TheVariants.{Route}
+use Rattle.replies.specs.Texts.{block_text}
+use Rattle.replies.specs.CarriedOut.{second_of}
+use Rattle.replies.specs.Replies.{HaveNames}
 use Rattle.taxi_engine.specs.Engine.{EngineState}
 use Rattle.taxi_engine.specs.Routed.{IsToldOrMemory}
 use Rattle.taxi_engine.specs.Rerouted.{IsOnAnother}

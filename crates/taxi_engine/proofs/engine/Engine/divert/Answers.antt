@@ -3,7 +3,7 @@ use Rattle.taxi_base.specs.declared.answers.Refusal.TheVariants as refusal
 use Rattle.taxi_base.specs.Airport.{node_named, is_stand, is_of_kind}
 use Rattle.taxi_base.proofs.AirportLaws.{node_named-exists}
 use Rattle.taxi_text.specs.declared.command.Command.TheVariants as command
-use Rattle.certificate.specs.Replies.{refused}
+use Rattle.replies.specs.Replies.{refused}
 use Rattle.taxi_engine.specs.Engine.{EngineState}
 use Rattle.taxi_engine.proofs.DueLaws.{refusal-due}
 use Rattle.taxi_engine.proofs.ReroutedDue.{divert-done, divert-unknown, divert-no_stand}

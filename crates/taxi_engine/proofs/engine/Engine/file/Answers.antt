@@ -4,10 +4,10 @@ use Rattle.taxi_base.specs.State.{State, with_flight, IsSound}
 use Rattle.taxi_base.specs.Faults.{conditions_in}
 use Rattle.taxi_base.proofs.StateLaws.{IsSound-with_flight}
 use Rattle.taxi_text.specs.declared.command.Command.TheVariants.{File}
-use Rattle.certificate.specs.declared.block.Block.TheVariants.{Refused, Filed}
-use Rattle.certificate.specs.Texts.{block_text}
-use Rattle.certificate.specs.Replies.{refused, HaveNames}
-use Rattle.certificate.proofs.HolderNames.{with_flight-names}
+use Rattle.replies.specs.declared.block.Block.TheVariants.{Refused, Filed}
+use Rattle.replies.specs.Texts.{block_text}
+use Rattle.replies.specs.Replies.{refused, HaveNames}
+use Rattle.replies.proofs.HolderNames.{with_flight-names}
 use Rattle.taxi_engine.specs.Engine.{EngineState}
 use Rattle.taxi_engine.specs.Done.{IsDone, IsDoneOrMemory}
 use Rattle.taxi_engine.proofs.DueLaws.{refusal-due}

@@ -3,11 +3,11 @@ use Rattle.taxi_base.specs.declared.answers.Refusal.TheVariants as refusal
 use Rattle.taxi_base.specs.State.{IsSound}
 use Rattle.taxi_base.proofs.StateLaws.{IsSound-without}
 use Rattle.taxi_text.specs.declared.command.Command.TheVariants.{WorkDone}
-use Rattle.certificate.specs.Refusals.{is_at_work}
-use Rattle.certificate.specs.CarriedOut.{opened_reply}
-use Rattle.certificate.specs.Replies.{refused, HaveNames}
-use Rattle.certificate.proofs.FlightLaws.{without-party}
-use Rattle.certificate.proofs.HolderNames.{without-names}
+use Rattle.replies.specs.Refusals.{is_at_work}
+use Rattle.replies.specs.CarriedOut.{opened_reply}
+use Rattle.replies.specs.Replies.{refused, HaveNames}
+use Rattle.replies.proofs.FlightLaws.{without-party}
+use Rattle.replies.proofs.HolderNames.{without-names}
 use Rattle.taxi_engine.specs.Engine.{EngineState}
 use Rattle.taxi_engine.specs.Done.{IsDoneAsDue}
 use Rattle.taxi_engine.proofs.DueLaws.{work_done-due, work_done-refused}

@@ -1,7 +1,7 @@
 use Rattle.std.proofs.Common.{◌≡◌, Some, None, subst, inl}
 use Rattle.taxi_text.specs.declared.command.Command.TheVariants as command
-use Rattle.certificate.specs.Refusals.{first_refusal}
-use Rattle.certificate.specs.Replies.{refused}
+use Rattle.replies.specs.Refusals.{first_refusal}
+use Rattle.replies.specs.Replies.{refused}
 use Rattle.taxi_engine.specs.Engine.{EngineState}
 use Rattle.taxi_engine.proofs.DueLaws.{refusal-due}
 use Rattle.taxi_engine.proofs.LateDone.{late-done}

@@ -3,10 +3,10 @@ use Rattle.std.specs.Prelude.{IfOk}
 use Rattle.taxi_base.specs.declared.answers.Request.{Request}
 use Rattle.taxi_base.specs.Faults.{conditions_in}
 use Rattle.taxi_text.specs.declared.command.Command.TheVariants as command
-use Rattle.certificate.specs.Asked.{AnswersRequest}
-use Rattle.certificate.specs.Refusals.{first_refusal}
-use Rattle.certificate.specs.Replies.{refused}
-use Rattle.certificate.proofs.RefusalLaws.{arrival-has_room}
+use Rattle.replies.specs.Asked.{AnswersRequest}
+use Rattle.replies.specs.Refusals.{first_refusal}
+use Rattle.replies.specs.Replies.{refused}
+use Rattle.replies.proofs.RefusalLaws.{arrival-has_room}
 use Rattle.taxi_engine.specs.Engine.{EngineState}
 use Rattle.taxi_engine.specs.Done.{IsDoneOrMemory}
 use Rattle.taxi_engine.specs.Routed.{IsFoundTold}

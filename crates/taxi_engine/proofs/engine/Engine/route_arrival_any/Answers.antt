@@ -1,7 +1,7 @@
 use Rattle.std.proofs.Common.{subst}
 use Rattle.taxi_text.specs.declared.command.Command.TheVariants as command
-use Rattle.certificate.proofs.ChoiceNames.{nodes_named-are}
-use Rattle.certificate.proofs.RefusalLaws.{arrival_any-has_room}
+use Rattle.replies.proofs.ChoiceNames.{nodes_named-are}
+use Rattle.replies.proofs.RefusalLaws.{arrival_any-has_room}
 use Rattle.taxi_engine.specs.Engine.{EngineState}
 use Rattle.command_refusals.specs.Accepted.{IsRefused}
 use Rattle.taxi_engine.specs.Done.{IsDoneOrMemory}

@@ -1,9 +1,9 @@
 use Rattle.std.proofs.Common.{◌≡◌, ◌+◌, ◌≤◌, length, List, Some, None, subst}
 use Rattle.taxi_base.specs.State.{holder_count}
 use Rattle.taxi_text.specs.declared.command.Command.TheVariants as command
-use Rattle.certificate.specs.declared.wish.Wish.{Wish}
-use Rattle.certificate.specs.Refusals.{first_refusal}
-use Rattle.certificate.specs.Batches.{wishes_of}
+use Rattle.replies.specs.declared.wish.Wish.{Wish}
+use Rattle.replies.specs.Refusals.{first_refusal}
+use Rattle.replies.specs.Batches.{wishes_of}
 use Rattle.command_refusals.specs.Accepted.{IsRefused}
 use Rattle.sequence_exchange.specs.Serving.{AreNew}
 use Rattle.taxi_engine.specs.Engine.{EngineState}

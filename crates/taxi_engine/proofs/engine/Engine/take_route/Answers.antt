@@ -4,8 +4,8 @@ use Rattle.taxi_base.specs.State.{State, holder_count, with_flight, IsSound}
 use Rattle.taxi_base.specs.Faults.{conditions_in}
 use Rattle.taxi_base.proofs.StateLaws.{IsSound-with_flight}
 use Rattle.taxi_base.proofs.WalkLaws.{Meets-IsFeasibleWalk}
-use Rattle.certificate.specs.Replies.{HaveNames}
-use Rattle.certificate.proofs.HolderNames.{with_flight-names}
+use Rattle.replies.specs.Replies.{HaveNames}
+use Rattle.replies.proofs.HolderNames.{with_flight-names}
 use Rattle.taxi_engine.specs.Engine.{EngineState}
 use Rattle.taxi_engine.specs.Routed.{IsNew}
 use Rattle.taxi_engine.proofs.engine.Engine.take_route.Goals as goal

@@ -4,8 +4,8 @@ use Rattle.taxi_base.specs.declared.answers.Chosen.TheVariants as chosen
 use Rattle.taxi_base.specs.Airport.{IsWellFormed}
 use Rattle.taxi_base.specs.State.{holds_in}
 use Rattle.taxi_base.specs.Faults.{conditions_in}
-use Rattle.certificate.specs.Asked.{AnswersChoice}
-use Rattle.certificate.proofs.ChoiceNames.{chosen-meets}
+use Rattle.replies.specs.Asked.{AnswersChoice}
+use Rattle.replies.proofs.ChoiceNames.{chosen-meets}
 use Rattle.taxi_engine.specs.Engine.{EngineState}
 use Rattle.taxi_engine.specs.Choosing.{choice_of}
 use Rattle.taxi_engine.proofs.ChosenDue.{chosen-arcs}

@@ -4,7 +4,7 @@ use Rattle.taxi_base.specs.declared.answers.Found.TheVariants as found
 use Rattle.taxi_base.specs.Airport.{IsWellFormed}
 use Rattle.taxi_base.specs.State.{holds_in}
 use Rattle.taxi_base.specs.Faults.{conditions_in}
-use Rattle.certificate.specs.Asked.{AnswersRequest}
+use Rattle.replies.specs.Asked.{AnswersRequest}
 use Rattle.taxi_engine.specs.Engine.{EngineState}
 use Rattle.taxi_engine.proofs.RouteLaws.{label-arcs}
 use Rattle.taxi_engine.proofs.engine.Engine.tell_found.Goals as goal

@@ -2,9 +2,9 @@ use Rattle.std.proofs.Common.{◌≡◌, ◌∙◌, None, sym, subst, inl}
 use Rattle.taxi_base.specs.declared.answers.Refusal.TheVariants as refusal
 use Rattle.taxi_base.specs.Airport.{segment_named}
 use Rattle.taxi_text.specs.declared.command.Command.TheVariants as asked
-use Rattle.certificate.specs.CarriedOut.{occupancy_reply}
-use Rattle.certificate.specs.Replies.{refused}
-use Rattle.certificate.proofs.WindowsTold.{segment_named-exists}
+use Rattle.replies.specs.CarriedOut.{occupancy_reply}
+use Rattle.replies.specs.Replies.{refused}
+use Rattle.replies.proofs.WindowsTold.{segment_named-exists}
 use Rattle.taxi_engine.specs.Engine.{EngineState}
 use Rattle.taxi_engine.specs.Done.{IsDoneOrMemory}
 use Rattle.command_refusals.proofs.CallLaws.{done_ok}

@@ -1,6 +1,6 @@
 use Rattle.std.proofs.Common.{◌∙◌, refl, sym, subst, inl}
 use Rattle.taxi_text.specs.declared.command.Command.TheVariants as asked
-use Rattle.certificate.specs.CarriedOut.{timetable_reply}
+use Rattle.replies.specs.CarriedOut.{timetable_reply}
 use Rattle.taxi_engine.specs.Engine.{EngineState}
 use Rattle.taxi_engine.specs.Done.{IsDoneOrMemory}
 use Rattle.command_refusals.proofs.CallLaws.{done_ok}

@@ -2,13 +2,13 @@ use Rattle.std.proofs.Common.{◌≡◌, ◌∙◌, Some, None, refl, sym, subst
 use Rattle.taxi_base.specs.declared.answers.Refusal.TheVariants as refusal
 use Rattle.taxi_base.specs.Airport.{segment_named}
 use Rattle.taxi_text.specs.declared.command.Command.TheVariants as asked
-use Rattle.certificate.specs.CarriedOut.{windows_reply}
-use Rattle.certificate.specs.Replies.{refused}
+use Rattle.replies.specs.CarriedOut.{windows_reply}
+use Rattle.replies.specs.Replies.{refused}
 use Rattle.taxi_engine.specs.Engine.{EngineState}
 use Rattle.taxi_engine.specs.Done.{IsDoneOrMemory}
 use Rattle.command_refusals.proofs.CallLaws.{done_ok}
 use Rattle.taxi_engine.proofs.DueLaws.{windows-due, windows-refused}
-use Rattle.certificate.proofs.WindowsTold.{segment_named-exists}
+use Rattle.replies.proofs.WindowsTold.{segment_named-exists}
 use Rattle.taxi_engine.proofs.engine.Engine.tell_windows.Goals as goal
 
 pub print_windows-requires-clause-exists : goal.print_windows-requires-clause-exists

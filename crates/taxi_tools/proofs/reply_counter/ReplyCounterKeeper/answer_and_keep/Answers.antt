@@ -1,10 +1,10 @@
 use Rattle.std.proofs.Common.{◌∙◌, ℕ, List, [], ◌∷◌, ◌++◌, Result, Ok, Err, OnOk, sym, ap, subst}
 use Rattle.taxi_base.specs.Airport.{Airport}
 use Rattle.taxi_base.specs.State.{State}
-use Rattle.certificate.specs.declared.block.Block.{Block}
-use Rattle.certificate.specs.Printable.{IsPrintable}
-use Rattle.certificate.specs.Replies.{IsAnswered}
-use Rattle.certificate.specs.Texts.{block_text}
+use Rattle.replies.specs.declared.block.Block.{Block}
+use Rattle.replies.specs.Printable.{IsPrintable}
+use Rattle.replies.specs.Replies.{IsAnswered}
+use Rattle.replies.specs.Texts.{block_text}
 use Rattle.command_run.specs.Supplied.{FoundMemory, IsKept}
 use Rattle.run_figures.specs.Counts.{AreCounts}
 use Rattle.taxi_tools.proofs.reply_counter.ReplyCounterKeeper.answer_and_keep.Goals as goal

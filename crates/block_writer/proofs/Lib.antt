@@ -1,0 +1,5 @@
+pub mod LineLaws
+pub mod WriteLaws
+pub mod DigitLaws
+pub mod Pieces
+pub mod RowPieces

@@ -1,7 +1,0 @@
-use Rattle.certificate.proofs.DigitLaws.{pair_at}
-use Rattle.certificate.proofs.digits.write_pair.Goals as goal
-
-pub returns : goal.returns
-returns c =
-    let p = pair_at c.args.pair c.requires.0 in
-    rw (← p.0, ← p.1) c.write_two.ensures

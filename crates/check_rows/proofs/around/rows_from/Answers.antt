@@ -1,5 +1,0 @@
-use Rattle.check_rows.proofs.AmongLaws.{part-among}
-use Rattle.check_rows.proofs.around.rows_from.Goals as goal
-
-pub returns-then-first-rows : goal.returns-then-first-rows
-returns-then-first-rows c = part-among c.args.rows.now c.args.first _

@@ -1,0 +1,14 @@
+pub mod Texts
+pub mod Printable
+pub mod Asked
+pub mod Refusals
+pub mod Routed
+pub mod Batches
+pub mod Sought
+pub mod Repairs
+pub mod CarriedOut
+pub mod Replies
+pub mod Turns
+pub mod TableRules
+pub mod Passes
+pub mod Named

@@ -1,6 +1,0 @@
-use Rattle.std.proofs.Common.{◌≡◌, ◌++◌}
-use Rattle.reply_reasons.specs.Waits.{wait_reasons}
-use Rattle.reply_reasons.proofs.waits.push_each_wait.Given as goal
-
-abbrev pub invariant-loop-place : goal.invariant-loop-place
-invariant-loop-place l = l.reasons ≡ l.initial.reasons ++ wait_reasons l.airport l.class l.others.state l.request l.steps l.place

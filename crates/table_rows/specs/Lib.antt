@@ -1,0 +1,5 @@
+pub mod Rows
+pub mod HasRows
+pub mod Limits
+pub mod Reached
+pub mod Served
