@@ -39,7 +39,7 @@ pub extern "C" fn rusboqan_open(alloc: Global, airport: &[u8], out: &mut *mut Ru
 {
     match opened(alloc, airport) {
         Some(engine) => {
-            *out = given(engine);
+            *out = engine.given();
             true
         }
         None => false,
@@ -53,13 +53,6 @@ pub extern "C" fn rusboqan_why(alloc: Global, airport: &[u8], at: &mut u32) -> u
     ensures { IsWhy airport.now result at.new }
 {
     why(alloc, airport, at)
-}
-
-fn given(engine: Loose<Engine, Global>) -> *mut Rusboqan
-    ensures* { sem 𝓛 (holds result engine.value) }
-{
-    let Loose { at, alloc: _ } = engine;
-    at as *mut Rusboqan
 }
 
 /// Answers the command of a line, and gives the length of the reply; 0 where the line holds no command.
