@@ -16,8 +16,6 @@ mod generating;
 mod last_line;
 mod routing;
 pub mod steady;
-#[cfg(test)]
-mod tests;
 pub mod top;
 
 use program_files::{Status, exit_code};

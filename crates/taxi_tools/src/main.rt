@@ -17,8 +17,6 @@ mod object_teller;
 mod objects;
 mod reply_counter;
 mod run_tools;
-#[cfg(test)]
-mod tests;
 pub mod top;
 
 use program_files::{Status, exit_code};

@@ -1,0 +1,39 @@
+"""Calls of the built programs over small files, for the tests beside this file."""
+
+import os
+import subprocess
+import tempfile
+import unittest
+
+TOP = os.path.dirname(os.path.dirname(os.path.realpath(__file__)))
+# How the names of the two compilers' builds of a program end.
+BUILDS = ("", ".by-rattle")
+DONE, USAGE, AIRPORT_REFUSED, READ_FAULT, WRITE_FAULT, TOO_LARGE, WRONG, SCHEDULE_REFUSED = 0, 1, 2, 3, 4, 6, 7, 8
+
+
+def builds_of(crate):
+    """The builds of a program that there are, one of each compiler where the gate made them."""
+    made = [f"{TOP}/crates/{crate}/out/{crate}{it}" for it in BUILDS]
+    return [it for it in made if os.path.exists(it)]
+
+
+class ProgramTest(unittest.TestCase):
+    """Tests of a program, whose crate a class under this one names."""
+
+    crate = ""
+
+    def setUp(self):
+        self.programs = builds_of(self.crate)
+        self.assertTrue(self.programs, f"{self.crate} is not built: rt ci builds it")
+
+    def expect(self, words, files, status, text, **how):
+        """A call over these files, each by its name, ends with this status and has written this text, by each build."""
+        with tempfile.TemporaryDirectory() as folder:
+            for name, content in files.items():
+                with open(f"{folder}/{name}", "wb") as out:
+                    out.write(content)
+            for program in self.programs:
+                with self.subTest(program=os.path.basename(program), words=words):
+                    ran = subprocess.run([program, *words.split()], cwd=folder, capture_output=True, timeout=60, check=False, **how)
+                    self.assertEqual(ran.stdout, text)
+                    self.assertEqual(ran.returncode, status)
