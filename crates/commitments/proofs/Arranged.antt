@@ -1,5 +1,5 @@
 -- As many steps pass each test where one comes or goes, and what that says of lists by segment.
-use Rattle.std.proofs.Common.{◌≡◌, ℕ, zero, suc, ◌+◌, ◌<◌, ◌≤◌, eqb, Bool, true, false, ◌&&◌, cond, List, [], ◌∷◌, ◌++◌, length, map, get_or, set, take, drop, Option, Some, None, IsTrue, refl, sym, ap, ◌∙◌, inl, inr, subst, arith}
+use Rattle.std.proofs.Common.{◌≡◌, ℕ, zero, suc, ◌+◌, ◌<◌, ◌≤◌, eqb, Bool, ◌&&◌, cond, List, [], ◌∷◌, ◌++◌, length, map, get_or, set, take, drop, IsTrue, refl, sym, ap, ◌∙◌, inl, inr, subst, arith}
 use Rattle.std.specs.Prelude.{All, Contains, count_by, sum_by, flat_map, bytes_eq}
 use Rattle.std.specs.Cmp.Lexicographic.{bytes_decides}
 use Rattle.std.specs.List.Sorted.{IsPermutation}
@@ -9,7 +9,6 @@ use Rattle.std.proofs.lemmas.List.Elements.{All-contains}
 use Rattle.std.proofs.lemmas.List.Sorted.{sum_by-IsPermutation}
 use Rattle.std.proofs.lemmas.List.Sums.{sum_by-append, sum_by-cons, sum_by-set, count_by_more_yes}
 use Rattle.taxi_base.specs.declared.numbers.Segment.{Segment}
-use Rattle.taxi_base.specs.declared.numbers.Class.{Class}
 use Rattle.taxi_base.specs.declared.rows.Step.{Step}
 use Rattle.taxi_base.specs.Airport.{segment_of}
 use Rattle.taxi_base.proofs.ListLaws.{Contains-first, Contains-rest, flat_map-Contains}
@@ -57,41 +56,33 @@ permuted xs ys moved test = sym (sum_by-IsPermutation (λ x. cond (test x) 1 0) 
 
 -- ---- a test of one step
 
-abbrev same_class : Option Class → Option Class → Bool
-same_class None None = true
-same_class None (Some b) = false
-same_class (Some a) None = false
-same_class (Some a) (Some b) = eqb a.0 b.0
+abbrev is_step : Step → Step → Bool
+is_step x y = eqb x.arc.0 y.arc.0 && (eqb x.enter y.enter && eqb x.leave y.leave)
+
+abbrev is_holder : Holder → Holder → Bool
+is_holder x y = eqb x.class.0 y.class.0 && (eqb x.party y.party && bytes_eq x.name y.name)
 
 abbrev is_one : HeldStep → HeldStep → Bool
-is_one x y = (eqb x.step.arc.0 y.step.arc.0 && (eqb x.step.enter y.step.enter && eqb x.step.leave y.step.leave)) && (same_class x.holder.class y.holder.class && bytes_eq x.holder.name y.holder.name)
-
-class-same : (a : Option Class) → IsTrue (same_class a a)
-class-same None = refl
-class-same (Some a) = eq-eqb a.0 a.0 refl
-
-same-class : (a b : Option Class) → IsTrue (same_class a b) → a ≡ b
-same-class None None h = refl
-same-class None (Some b) h = absurd (cc h)
-same-class (Some a) None h = absurd (cc h)
-same-class (Some a) (Some b) h = let e = eqb-true a.0 b.0 h in ap Some (λ i. record { 0 = e i })
+is_one x y = is_step x.step y.step && is_holder x.holder y.holder
 
 one-is : (x : HeldStep) → IsTrue (is_one x x)
 one-is x = and_from _ _ (and_from _ _ (eq-eqb x.step.arc.0 x.step.arc.0 refl) (and_from _ _ (eq-eqb x.step.enter x.step.enter refl) (eq-eqb x.step.leave x.step.leave refl)))
-    (and_from _ _ (class-same x.holder.class) ((bytes_decides x.holder.name x.holder.name).1 refl))
+    (and_from _ _ (eq-eqb x.holder.class.0 x.holder.class.0 refl) (and_from _ _ (eq-eqb x.holder.party x.holder.party refl) ((bytes_decides x.holder.name x.holder.name).1 refl)))
 
 is-one : (x y : HeldStep) → IsTrue (is_one x y) → x ≡ y
 is-one x y h =
-    let both = and_parts (eqb x.step.arc.0 y.step.arc.0 && (eqb x.step.enter y.step.enter && eqb x.step.leave y.step.leave)) (same_class x.holder.class y.holder.class && bytes_eq x.holder.name y.holder.name) h in
-    let holder = and_parts (same_class x.holder.class y.holder.class) (bytes_eq x.holder.name y.holder.name) both.1 in
+    let both = and_parts (is_step x.step y.step) (is_holder x.holder y.holder) h in
+    let holder = and_parts (eqb x.holder.class.0 y.holder.class.0) (eqb x.holder.party y.holder.party && bytes_eq x.holder.name y.holder.name) both.1 in
+    let rest = and_parts (eqb x.holder.party y.holder.party) (bytes_eq x.holder.name y.holder.name) holder.1 in
     let step = and_parts (eqb x.step.arc.0 y.step.arc.0) (eqb x.step.enter y.step.enter && eqb x.step.leave y.step.leave) both.0 in
     let times = and_parts (eqb x.step.enter y.step.enter) (eqb x.step.leave y.step.leave) step.1 in
     let arc = eqb-true x.step.arc.0 y.step.arc.0 step.0 in
     let enter = eqb-true x.step.enter y.step.enter times.0 in
     let leave = eqb-true x.step.leave y.step.leave times.1 in
-    let class = same-class x.holder.class y.holder.class holder.0 in
-    let name = (bytes_decides x.holder.name y.holder.name).0 holder.1 in
-    λ i. record { step = record { arc = record { 0 = arc i }; enter = enter i; leave = leave i }; holder = record { class = class i; name = name i } }
+    let class = eqb-true x.holder.class.0 y.holder.class.0 holder.0 in
+    let party = eqb-true x.holder.party y.holder.party rest.0 in
+    let name = (bytes_decides x.holder.name y.holder.name).0 rest.1 in
+    λ i. record { step = record { arc = record { 0 = arc i }; enter = enter i; leave = leave i }; holder = record { name = name i; class = record { 0 = class i }; party = party i } }
 
 -- what is among some steps is among as many
 pub as_many-there : (xs ys : List HeldStep) → AreAsMany xs ys → (x : HeldStep) → Contains xs x → Contains ys x

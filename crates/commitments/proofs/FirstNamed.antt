@@ -90,7 +90,7 @@ module _ (airport : Airport) (rules : IsWellFormed airport) (steps rest : List H
       let held = get_or since.over k d in
       false_from_ne_true _ (λ has.
       let inside = span_has-true (hold_by airport held).span second has in
-      absurd (omega (arith, inside.1, since.short k d low, clearance-short airport held.holder.class rules)))
+      absurd (omega (arith, inside.1, since.short k d low, clearance-short airport held.holder rules)))
 
   pub named-since : (r : Option (List ℕ)) → IsFirstNamed (has_second airport second) rest r → IsFirstNamed (has_second airport second) steps r
   named-since r first = rw since.all (first-behind (has_second airport second) since.over rest r first over-without)

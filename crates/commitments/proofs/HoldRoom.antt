@@ -133,13 +133,13 @@ StandsFor-as_many airport old new store as_many stands =
     (λ s. holds-counted airport old new as_many (λ h. conflict airport.conflicts s h.segment)) stands
 
 -- what the steps of one holder hold
-pub holds-with : (airport : Airport) (holder : Holder) (steps : List Step) → map (hold_by airport) (steps_with holder steps) ≡ holds_of airport.horizon (clearance_after airport holder.class) steps
+pub holds-with : (airport : Airport) (holder : Holder) (steps : List Step) → map (hold_by airport) (steps_with holder steps) ≡ holds_of airport.horizon (clearance_after airport holder) steps
 holds-with airport holder steps = map-map (hold_by airport) (λ step. record { step = step; holder = holder }) steps
 
 pub StandsFor-parted : (airport : Airport) (old new : List HeldStep) (holder : Holder) (steps : List Step) (store : Store) → AreAsMany old (new ++ steps_with holder steps)
     → StandsFor airport.conflicts airport.horizon (map (hold_by airport) old) store
-    → StandsFor airport.conflicts airport.horizon (map (hold_by airport) new ++ holds_of airport.horizon (clearance_after airport holder.class) steps) store
+    → StandsFor airport.conflicts airport.horizon (map (hold_by airport) new ++ holds_of airport.horizon (clearance_after airport holder) steps) store
 StandsFor-parted airport old new holder steps store as_many stands =
-    let parts : map (hold_by airport) (new ++ steps_with holder steps) ≡ map (hold_by airport) new ++ holds_of airport.horizon (clearance_after airport holder.class) steps =
+    let parts : map (hold_by airport) (new ++ steps_with holder steps) ≡ map (hold_by airport) new ++ holds_of airport.horizon (clearance_after airport holder) steps =
     map-append (hold_by airport) new (steps_with holder steps) ∙ ap (λ (holds : List Hold). map (hold_by airport) new ++ holds) (holds-with airport holder steps) in
     subst (λ (holds : List Hold). StandsFor airport.conflicts airport.horizon holds store) parts (StandsFor-as_many airport old (new ++ steps_with holder steps) store as_many stands)

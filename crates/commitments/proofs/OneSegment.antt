@@ -1,16 +1,15 @@
 -- The steps of one segment in the order in which they begin: where one is, and which of them have a second.
-use Rattle.std.proofs.Common.{◌≡◌, ◌≢◌, ℕ, zero, suc, ◌+◌, ◌-◌, ◌<◌, ◌≤◌, List, [], ◌∷◌, ◌++◌, length, get_or, take, drop, Some, IsFalse, Option, refl, sym, ap, ◌∙◌, inl, inr, subst, arith}
+use Rattle.std.proofs.Common.{◌≡◌, ◌≢◌, ℕ, zero, suc, ◌+◌, ◌-◌, ◌<◌, ◌≤◌, ◌==◌, List, [], ◌∷◌, ◌++◌, length, get_or, take, drop, Some, IsFalse, Option, refl, sym, ap, ◌∙◌, inl, inr, subst, arith}
 use Rattle.std.specs.Prelude.{All, Contains, slice_get, IfNone, IsSome, None}
 use Rattle.std.specs.List.{AllWithin}
 use Rattle.std.specs.List.Sorted.{IsNonDecreasingBy}
-use Rattle.std.proofs.lemmas.Bool.{cases_lt, or_from, or_right, or_left, false_from_ne_true, both_ways}
+use Rattle.std.proofs.lemmas.Bool.{cases_Bool, cases_lt, cond-true, cond-false, or_from, or_right, or_left, false_from_ne_true, both_ways}
 use Rattle.std.proofs.lemmas.List.{take-append-drop, get_or-take, get_or-drop, length-take, length-drop, map-append, get_or_default}
 use Rattle.std.proofs.lemmas.List.Elements.{All-map, Contains-append_right}
 use Rattle.std.proofs.lemmas.List.Folds.{list_any_none}
 use Rattle.std.proofs.lemmas.List.Sorted.{IsNonDecreasingBy-drop}
-use Rattle.taxi_base.specs.declared.numbers.Class.{Class}
 use Rattle.taxi_base.specs.declared.rows.Span.{Span}
-use Rattle.taxi_base.specs.Airport.{Airport, IsWellFormed}
+use Rattle.taxi_base.specs.Airport.{Airport, IsWellFormed, clearance_of}
 use Rattle.taxi_base.specs.Windows.{covers, span_has}
 use Rattle.taxi_base.proofs.AirportLaws.{clearance_of-range}
 use Rattle.taxi_base.proofs.ListLaws.{Contains-map, list_any-member}
@@ -19,6 +18,7 @@ use Rattle.window_store.specs.Held.{IsFirstHeld}
 use Rattle.window_store.specs.Conflicting.{ReachesUpTo}
 use Rattle.window_store.proofs.Seconds.{covers-append}
 use Rattle.commitments.specs.declared.segment_holds.HeldStep.{HeldStep}
+use Rattle.commitments.specs.declared.segment_holds.Holder.{Holder}
 use Rattle.commitments.specs.Held.{hold_by, clearance_after, spans_by, AreSince}
 
 abbrev begins : HeldStep → ℕ
@@ -69,9 +69,12 @@ since-past steps longest second n ordered reach few before = record {
 
 -- ---- spans
 
-pub clearance-short : (airport : Airport) (class : Option Class) → IsWellFormed airport → clearance_after airport class ≤ 600
-clearance-short airport None rules = omega arith
-clearance-short airport (Some class) rules = clearance_of-range airport class rules
+pub clearance-short : (airport : Airport) (holder : Holder) → IsWellFormed airport → clearance_after airport holder ≤ 600
+clearance-short airport holder rules =
+    elim (cases_Bool (holder.party == 1)) [
+      | inl party ↦ omega (arith, cond-true {A = ℕ} (holder.party == 1) 0 (clearance_of airport holder.class) party)
+      | inr flight ↦ omega (arith, cond-false {A = ℕ} (holder.party == 1) 0 (clearance_of airport holder.class) flight, clearance_of-range airport holder.class rules)
+    ]
 
 none-cover : (airport : Airport) (steps : List HeldStep) (t : ℕ) → All (λ held. IsFalse (span_has (hold_by airport held).span t)) steps → IsFalse (covers (spans_by airport steps) t)
 none-cover airport steps t none = list_any_none (λ (w : Span). span_has w t) (spans_by airport steps) (All-map (λ (w : Span). IsFalse (span_has w t)) (λ held. (hold_by airport held).span) steps none)
@@ -84,7 +87,7 @@ module _ (airport : Airport) (rules : IsWellFormed airport) where
       let held = get_or over k d in
       false_from_ne_true (span_has (hold_by airport held).span t) (λ has.
       let inside = span_has-true (hold_by airport held).span t has in
-      absurd (omega (arith, inside.1, short k d low, clearance-short airport held.holder.class rules))))
+      absurd (omega (arith, inside.1, short k d low, clearance-short airport held.holder rules))))
 
 -- what begins later has no second before
 pub later-none : (airport : Airport) (rest : List HeldStep) (i t : ℕ) (e : HeldStep) → IsNonDecreasingBy begins rest → i < length rest → t < (get_or rest i e).step.enter
@@ -120,6 +123,19 @@ first-behind xs ys from until first held none = record {
 
 pub spans-append : (airport : Airport) (xs ys : List HeldStep) → spans_by airport (xs ++ ys) ≡ spans_by airport xs ++ spans_by airport ys
 spans-append airport xs ys = map-append (λ held. (hold_by airport held).span) xs ys
+
+-- none has begun before the second up to which one is looked for
+pub first-none_begun : (airport : Airport) (steps : List HeldStep) (from until : ℕ) → from ≤ until → All (λ s. until ≤ s.step.enter) steps → IsFirstHeld (spans_by airport steps) from until until
+first-none_begun airport steps from until order late = record {
+  not_before = order;
+  not_after = omega arith;
+  none_before = λ t low high.
+      none-cover airport steps t (λ k d on.
+      false_from_ne_true _ (λ has.
+      let inside = span_has-true (hold_by airport (get_or steps k d)).span t has in
+      absurd (omega (arith, inside.0, late k d on, high))));
+  held = λ h. absurd (omega (arith, h));
+}
 
 module _ (airport : Airport) (rules : IsWellFormed airport) (steps rest : List HeldStep) (from until : ℕ) (since : AreSince steps from rest) where
   -- among those since the first second it is the same as among all

@@ -90,7 +90,7 @@ pub room-again : (airport : Airport) (holder : Holder) (steps : List Step) (old 
     → StandsFor airport.conflicts airport.horizon (map (hold_by airport) old) was → StandsFor airport.conflicts airport.horizon (map (hold_by airport) new) is → KeepsNodes was is
     → HasRoomFor airport.conflicts steps is
 room-again airport holder steps old new was is gone before after kept s low =
-    let clearance = clearance_after airport holder.class in
+    let clearance = clearance_after airport holder in
     let in_was : s.0 < length was.lists = omega (arith, low, kept.lists) in
     let stood = StandsFor-parted airport old new holder steps was gone before s in_was in
     omega (

@@ -1,8 +1,7 @@
 -- The steps by which holders hold segments, kept by segment.
-use Rattle.std.specs.Prelude.{ℕ, ◌≡◌, ◌+◌, ◌<◌, ◌≤◌, ◌==◌, Bool, IsTrue, List, ◌∷◌, ◌++◌, length, map, flat_map, count_by, slice_index_or, [], All, Option, Some, None}
+use Rattle.std.specs.Prelude.{ℕ, ◌≡◌, ◌+◌, ◌<◌, ◌≤◌, ◌==◌, if◌then◌else◌, Bool, IsTrue, List, ◌∷◌, ◌++◌, length, map, flat_map, count_by, slice_index_or, [], All}
 use Rattle.std.specs.List.Sorted.{IsNonDecreasingBy}
 use Rattle.taxi_base.specs.declared.numbers.Segment.{Segment}
-use Rattle.taxi_base.specs.declared.numbers.Class.{Class}
 use Rattle.taxi_base.specs.declared.rows.Step.{Step}
 use Rattle.taxi_base.specs.declared.rows.Span.{Span}
 use Rattle.taxi_base.specs.declared.answers.Flight.{Flight}
@@ -16,13 +15,12 @@ use Rattle.commitments.specs.declared.segment_holds.HeldStep.{HeldStep}
 use Rattle.commitments.specs.declared.segment_holds.Holder.{Holder}
 
 -- the clearance of a flight's class; a party has none
-abbrev pub clearance_after : Airport → Option Class → ℕ
-clearance_after airport None = 0
-clearance_after airport (Some class) = clearance_of airport class
+abbrev pub clearance_after : Airport → Holder → ℕ
+clearance_after airport holder = if holder.party == 1 then 0 else clearance_of airport holder.class
 
 -- what a step holds
 abbrev pub hold_by : Airport → HeldStep → Hold
-hold_by airport held = hold_of airport.horizon (clearance_after airport held.holder.class) held.step
+hold_by airport held = hold_of airport.horizon (clearance_after airport held.holder) held.step
 
 abbrev pub spans_by : Airport → List HeldStep → List Span
 spans_by airport steps = map (λ held. (hold_by airport held).span) steps
@@ -33,10 +31,10 @@ steps_with holder steps = map (λ step. record { step = step; holder = holder })
 
 -- as whom a party and a flight hold segments
 abbrev pub party_holder : Party → Holder
-party_holder party = record { class = None; name = party.name }
+party_holder party = record { name = party.name; class = record { 0 = 0 }; party = 1 }
 
 abbrev pub flight_holder : Flight → Holder
-flight_holder flight = record { class = Some flight.class; name = flight.name }
+flight_holder flight = record { name = flight.name; class = flight.class; party = 0 }
 
 -- those of each holder, the parties first, and those of all
 abbrev pub party_steps : Party → List HeldStep

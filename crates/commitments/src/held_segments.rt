@@ -106,12 +106,12 @@ impl HeldSegments {
         requires in_time { AreInTime airport.now.horizon steps.now }
         requires stands { StandsFor airport.now.conflicts airport.now.horizon (map (hold_by airport.now) self.old.steps) self.old.store }
         requires room { HasRoomFor airport.now.conflicts steps.now self.old.store }
-        ensures stands { (holds : List Hold) → StandsFor airport.now.conflicts airport.now.horizon holds self.old.store → StandsFor airport.now.conflicts airport.now.horizon (holds ++ holds_of airport.now.horizon (clearance_after airport.now holder.now.class) steps.now) self.new.store }
-        ensures kept { KeepsWindows IsApartFrom airport.now.conflicts (holds_of airport.now.horizon (clearance_after airport.now holder.now.class) steps.now) self.old.store self.new.store }
+        ensures stands { (holds : List Hold) → StandsFor airport.now.conflicts airport.now.horizon holds self.old.store → StandsFor airport.now.conflicts airport.now.horizon (holds ++ holds_of airport.now.horizon (clearance_after airport.now holder.now) steps.now) self.new.store }
+        ensures kept { KeepsWindows IsApartFrom airport.now.conflicts (holds_of airport.now.horizon (clearance_after airport.now holder.now) steps.now) self.old.store self.new.store }
         ensures nodes { KeepsNodes self.old.store self.new.store }
         ensures steps { AreAsMany (self.old.steps ++ steps_with holder.now steps.now) self.new.steps }
     {
-        let clearance = clearance_after(airport, holder.class);
+        let clearance = clearance_after(airport, holder);
         self.index.keep_segments();
         self.index.insert(steps, holder);
         self.store.occupy(airport.conflicts(), steps, clearance);
@@ -129,7 +129,7 @@ impl HeldSegments {
         requires among { AreAmong (steps_with holder.now steps.now) self.old.steps }
         ensures stands { StandsFor airport.now.conflicts airport.now.horizon (map (hold_by airport.now) self.new.steps) self.new.store }
         ensures room { HasRoomFor airport.now.conflicts steps.now self.new.store }
-        ensures kept { KeepsWindows IsClearOf airport.now.conflicts (holds_of airport.now.horizon (clearance_after airport.now holder.now.class) steps.now) self.old.store self.new.store }
+        ensures kept { KeepsWindows IsClearOf airport.now.conflicts (holds_of airport.now.horizon (clearance_after airport.now holder.now) steps.now) self.old.store self.new.store }
         ensures nodes { KeepsNodes self.old.store self.new.store }
         ensures steps { AreAsMany self.old.steps (self.new.steps ++ steps_with holder.now steps.now) }
     {
@@ -152,11 +152,11 @@ impl HeldSegments {
         requires stands { StandsFor airport.now.conflicts airport.now.horizon (map (hold_by airport.now) self.old.steps) self.old.store }
         requires among { AreAmong (steps_with holder.now steps.now) self.old.steps }
         ensures stands { StandsFor airport.now.conflicts airport.now.horizon (map (hold_by airport.now) self.new.steps) self.new.store }
-        ensures kept { KeepsWindows IsClearOf airport.now.conflicts (holds_of airport.now.horizon (clearance_after airport.now holder.now.class) steps.now) self.old.store self.new.store }
+        ensures kept { KeepsWindows IsClearOf airport.now.conflicts (holds_of airport.now.horizon (clearance_after airport.now holder.now) steps.now) self.old.store self.new.store }
         ensures nodes { KeepsNodes self.old.store self.new.store }
         ensures steps { AreAsMany self.old.steps (self.new.steps ++ steps_with holder.now steps.now) }
     {
-        let clearance = clearance_after(airport, holder.class);
+        let clearance = clearance_after(airport, holder);
         self.index.remove(steps, holder);
         let others = IndexHolds {
             index: &self.index,

@@ -33,7 +33,7 @@ impl Holders {
     pub(crate) fn route(&self, number: usize) -> (&[Step], Holder)
         requires { number < length self.now.parties.parties + length self.now.flights.flights }
         ensures steps { slice_get (steps_of_each (state_of self.now)) number ≡ Some (steps_with result.1 result.0.now) }
-        ensures route { (airport : AirportRow) → slice_get (routes_of airport (state_of self.now)) number ≡ Some (record { steps = result.0.now; clearance = clearance_after airport result.1.class }) }
+        ensures route { (airport : AirportRow) → slice_get (routes_of airport (state_of self.now)) number ≡ Some (record { steps = result.0.now; clearance = clearance_after airport result.1 }) }
     {
         let parties = self.parties.count();
         if number < parties {

@@ -1,5 +1,5 @@
 //! The steps that hold one segment itself, in the order in which they begin.
-ghost use Rattle.std.specs.Prelude.{◌≡◌, ◌≢◌, ◌↔◌, ◌+◌, ◌<◌, ◌≤◌, [], ◌∷◌, length, Some, slice_get, All, Contains, IsTrue, IfSome, IfNone, IfOk, OnOk, vec_capacity};
+ghost use Rattle.std.specs.Prelude.{◌≡◌, ◌≢◌, ◌↔◌, ◌+◌, ◌<◌, ◌≤◌, [], ◌∷◌, length, Some, slice_get, All, Contains, IsTrue, IsFalse, IfSome, IfNone, IfOk, OnOk, vec_capacity};
 ghost use Rattle.taxi_base.specs.Faults.{first_name};
 ghost use Rattle.std.specs.List.{AllWithin};
 ghost use Rattle.std.specs.List.Sorted.{IsPermutation, IsNonDecreasingBy};
@@ -17,15 +17,19 @@ use taxi_base::{Class, Flight, Memory, Name, Party, Span, Step, Time};
 /// Who holds segments: a flight of a class, or a work party, which has none.
 #[derive(Clone, Copy, PartialEq, Eq)]
 pub(crate) struct Holder {
-    pub(crate) class: Option<Class>,
     pub(crate) name: Name,
+    // It means nothing for a party.
+    class: Class,
+    // 1 for a party, and 0 for a flight.
+    party: u32,
 }
 
-/// A step by which a segment is held, and by whom.
+/// A step by which a segment is held, and by whom. Where one goes, all behind it are moved. Without a gap between its fields, as an
+/// `Option` of the class would leave, each is moved by a few wide copies.
 #[derive(Clone, Copy, PartialEq, Eq)]
 pub(crate) struct HeldStep {
-    pub(crate) step: Step,
     pub(crate) holder: Holder,
+    pub(crate) step: Step,
 }
 
 impl Holder {
@@ -34,8 +38,9 @@ impl Holder {
         ensures { result ≡ flight_holder flight.now }
     {
         Holder {
-            class: Some(flight.class),
             name: flight.name,
+            class: flight.class,
+            party: 0,
         }
     }
 
@@ -44,8 +49,9 @@ impl Holder {
         ensures { result ≡ party_holder party.now }
     {
         Holder {
-            class: None,
             name: party.name,
+            class: Class(0),
+            party: 1,
         }
     }
 }
@@ -55,19 +61,21 @@ impl HeldStep {
     pub(crate) fn span(&self, airport: &Airport) -> Span
         ensures { result ≡ (hold_by airport.now self.now).span }
     {
-        self.step.held(
-            airport.horizon(),
-            clearance_after(airport, self.holder.class),
-        )
+        self.step
+            .held(airport.horizon(), clearance_after(airport, &self.holder))
     }
 }
 
-/// For how long a flight of a class keeps a segment shut after leaving it; a party does not.
-pub(crate) fn clearance_after(airport: &Airport, class: Option<Class>) -> Time
-    ensures clearance { result ≡ clearance_after airport.now class }
+/// For how long a flight keeps a segment shut after leaving it; a party does not.
+pub(crate) fn clearance_after(airport: &Airport, holder: &Holder) -> Time
+    ensures clearance { result ≡ clearance_after airport.now holder.now }
     ensures range { result ≤ 600 }
 {
-    class.map_or(0, |class| airport.clearance(class))
+    if holder.party == 1 {
+        0
+    } else {
+        airport.clearance(holder.class)
+    }
 }
 
 // A step among so many last ones is looked for among them.
@@ -164,6 +172,10 @@ impl SegmentHolds {
         requires { from ≤ until }
         ensures { IsFirstHeld (spans_by airport.now self.now.steps) from until result }
     {
+        // Steps come in by rising times, so on most segments in conflict none has begun by then.
+        if !any_begins_before(&self.steps, until) {
+            return until;
+        }
         keep_rules(airport);
         let mut first = until;
         for held in self.since(from) {
@@ -256,6 +268,17 @@ fn place_for(steps: &[HeldStep], enter: Time) -> usize
     match steps.last() {
         Some(last) if enter < last.step.enter => begun_before(steps, u64::from(enter)),
         _ => steps.len(),
+    }
+}
+
+// Whether any of some steps begins before a second: the first one does if any.
+fn any_begins_before(steps: &[HeldStep], second: Time) -> bool
+    requires { IsNonDecreasingBy (λ held. held.step.enter) steps.now }
+    ensures { IsFalse result → All (λ s. second ≤ s.step.enter) steps.now }
+{
+    match steps.first() {
+        Some(first) => first.step.enter < second,
+        None => false,
     }
 }
 

@@ -2,7 +2,7 @@
 #![tactic(auto)]
 
 ghost use Rattle.std.specs.Prelude.{◌≡◌, ◌<◌, ◌≤◌, All, IfOk};
-ghost use Rattle.taxi_base.specs.Airport.{conflict};
+ghost use Rattle.taxi_base.specs.Airport.{conflict, has_member};
 ghost use Rattle.conflict_sets.specs.Conflicts.{ConflictSets, AreConflicts};
 
 mod gather;
@@ -12,6 +12,9 @@ use packed_rows::PackedRows;
 use std::alloc::Global;
 use std::marker::Model;
 use taxi_base::{List, Memory, Segment};
+
+// A row of so many segments at most is gone through from its front: halving a short one costs more.
+const SHORT: usize = 16;
 
 /// The segments in conflict with each segment. Two segments conflict that are the same or stand together in a set.
 #[derive(Drop)]
@@ -69,6 +72,17 @@ impl Conflicts {
         requires { s.0 < self.now.segments }
         ensures { result ≡ conflict self.now.sets s t }
     {
-        self.of(s).binary_search(&t).is_ok()
+        let row = self.of(s);
+        if row.len() > SHORT {
+            return row.binary_search(&t).is_ok();
+        }
+        has_member(row, t)
     }
+}
+
+// Whether a segment is in a row.
+fn has_member(row: &[Segment], t: Segment) -> bool
+    ensures { result ≡ has_member row.now t }
+{
+    row.iter().any(|s| *s == t)
 }

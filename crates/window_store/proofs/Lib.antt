@@ -10,3 +10,4 @@ pub mod Rooms
 pub mod Fresh
 pub mod Wholes
 pub mod Rows
+pub mod Counting

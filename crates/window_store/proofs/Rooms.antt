@@ -1,22 +1,20 @@
 -- Nodes are drawn for one list after another: ids stay apart, and nothing is lost.
-use Rattle.std.proofs.Common.{◌≡◌, ◌≢◌, ℕ, zero, suc, ◌+◌, ◌-◌, ◌^◌, ◌<◌, ◌≤◌, max, List, [], ◌∷◌, ◌++◌, length, get_or, set, take, inl, inr, refl, sym, ◌∙◌, ap, subst, arith, length-set}
-use Rattle.std.specs.Prelude.{All}
+use Rattle.std.proofs.Common.{◌≡◌, ◌≢◌, ℕ, zero, suc, ◌+◌, ◌-◌, ◌^◌, ◌<◌, ◌≤◌, max, List, [], ◌∷◌, ◌++◌, length, get_or, set, inl, inr, refl, sym, ◌∙◌, ap, subst, arith, length-set}
+use Rattle.std.specs.Prelude.{All, slice_index_or}
 use Rattle.std.proofs.lemmas.Bool.{cases_lt, cases_eq}
-use Rattle.std.proofs.lemmas.List.{get_or-set_same, get_or-set_other, get_or_default, take_more, take_all, length-append}
+use Rattle.std.proofs.lemmas.List.{get_or-set_same, get_or-set_other, get_or_default, length-append}
 use Rattle.std.proofs.lemmas.List.Sums.{sum_by-set, sum_by-le}
-use Rattle.std.proofs.lemmas.List.Elements.{All-set, All-get_or, All-from_get_or, All-push, All-take, All-contains}
+use Rattle.std.proofs.lemmas.List.Elements.{All-set, All-get_or}
 use Rattle.taxi_base.specs.declared.numbers.Segment.{Segment}
-use Rattle.taxi_base.specs.declared.rows.Step.{Step}
-use Rattle.taxi_base.specs.Airport.{segment_of}
-use Rattle.conflict_sets.specs.Conflicts.{AreConflicts}
 use Rattle.interval_list.specs.declared.window.Window.{Window}
 use Rattle.interval_list.specs.Intervals.{ids_of, owned, times, drawn}
 use Rattle.interval_list.proofs.Owning.{times-append, times-other, times-here, times-below}
 use Rattle.window_store.proofs.Pieces.{All-ids_set}
 use Rattle.window_store.specs.Spans.{Listed, nodes}
-use Rattle.window_store.specs.Store.{Store, of_lists_and_ids, IsStore, no_list, list_at, ids_owned}
+use Rattle.window_store.specs.Store.{Store, of_lists_and_ids, IsStore, no_list, ids_owned}
 use Rattle.window_store.specs.Kept.{GainsRoom}
-use Rattle.window_store.specs.Edits.{list_in, HasRoom, GainsNodes, EachInConflict}
+use Rattle.window_store.specs.Edits.{list_in}
+use Rattle.window_store.specs.Counts.{count_of, GainsNodes}
 
 -- how often an id is owned, once one list is another
 pub times-set : (id : ℕ) (lists : List Listed) (k : ℕ) (l : Listed) → k < length lists
@@ -102,14 +100,15 @@ module _ (lists : List Listed) (k : ℕ) (l : Listed) (wanted next more : ℕ) w
       }
 
   -- a list that is changed at one place
-  here-or-else : (P : Listed → Listed → Type 0) (s : Segment) → k < length lists → P (get_or lists k no_list) l → (s.0 ≢ k → P (list_in lists s) (list_in lists s)) → P (list_in lists s) (list_in (set lists k l) s)
+  here-or-else : (P : ℕ → Listed → Listed → Type 0) (s : Segment) → k < length lists → P k (get_or lists k no_list) l → (s.0 ≢ k → P s.0 (list_in lists s) (list_in lists s)) → P s.0 (list_in lists s) (list_in (set lists k l) s)
   here-or-else P s low here else = elim (cases_eq s.0 k) [
-    | inl same ↦ subst (λ n. P (get_or lists n no_list) (get_or (set lists k l) n no_list)) (sym same) (subst (P (get_or lists k no_list)) (sym (get_or-set_same lists k l no_list low)) here)
-    | inr other ↦ subst (P (list_in lists s)) (sym (get_or-set_other lists k s.0 l no_list other)) (else other)
+    | inl same ↦ subst (λ n. P n (get_or lists n no_list) (get_or (set lists k l) n no_list)) (sym same) (subst (P k (get_or lists k no_list)) (sym (get_or-set_same lists k l no_list low)) here)
+    | inr other ↦ subst (P s.0 (list_in lists s)) (sym (get_or-set_other lists k s.0 l no_list other)) (else other)
   ]
 
-  pub GainsNodes-one : (d : Listed) → k < length lists → wanted ≤ 2 ^ 33 → wanted ≤ 1 + (get_or lists k d).held → IsStore before → IsRoomier wanted next more (get_or lists k d) l → GainsNodes before after
-  GainsNodes-one d low small few store was =
+  pub GainsNodes-one : (counts : List ℕ) (d : Listed) → k < length lists → wanted ≤ 2 ^ 33 → wanted ≤ 1 + (get_or lists k d).held + slice_index_or counts k 0 → IsStore before → IsRoomier wanted next more (get_or lists k d) l
+      → GainsNodes counts before after
+  GainsNodes-one counts d low small few store was =
       let same = get_or_default lists k d no_list low in
       let number = ap (λ (m : Listed). m.held) same in
       let is : IsRoomier wanted next more (get_or lists k no_list) l = subst (λ (m : Listed). IsRoomier wanted next more m l) same was in
@@ -118,20 +117,20 @@ module _ (lists : List Listed) (k : ℕ) (l : Listed) (wanted next more : ℕ) w
         store = IsStore-roomier low small store is;
         gained = record {
           lists = length-set lists k l;
-          windows = λ s exists. here-or-else (λ a b. b.intervals.windows ≡ a.intervals.windows) s low is.windows (λ _. refl);
-          held = λ s exists. here-or-else (λ a b. b.held ≡ a.held) s low is.held (λ _. refl);
-          nodes = λ s exists. here-or-else (λ a b. nodes a ≤ nodes b) s low (omega (arith, is.count)) (λ _. omega arith);
+          windows = λ s exists. here-or-else (λ n a b. b.intervals.windows ≡ a.intervals.windows) s low is.windows (λ _. refl);
+          held = λ s exists. here-or-else (λ n a b. b.held ≡ a.held) s low is.held (λ _. refl);
+          nodes = λ s exists. here-or-else (λ n a b. nodes a ≤ nodes b) s low (omega (arith, is.count)) (λ _. omega arith);
           horizon = refl;
         };
-        most = λ s exists. here-or-else (λ a b. nodes b ≤ max (nodes a) (1 + a.held)) s low (omega (arith, is.most, few, number)) (λ _. omega arith);
+        most = λ s exists. here-or-else (λ n a b. nodes b ≤ max (nodes a) (1 + a.held + slice_index_or counts n 0)) s low (omega (arith, is.most, few, number)) (λ _. omega arith);
         ids = omega (arith, is.count, sum_by-set nodes lists k l no_list low);
       }
 
 GainsRoom-none : (store : Store) → GainsRoom store store
 GainsRoom-none store = record { lists = refl; windows = λ s low. refl; held = λ s low. refl; nodes = λ s low. omega arith; horizon = refl }
 
-pub GainsNodes-none : (store : Store) → IsStore store → GainsNodes store store
-GainsNodes-none store is = record { store = is; gained = GainsRoom-none store; most = λ s low. omega arith; ids = refl }
+pub GainsNodes-none : (counts : List ℕ) (store : Store) → IsStore store → GainsNodes counts store store
+GainsNodes-none counts store is = record { store = is; gained = GainsRoom-none store; most = λ s low. omega arith; ids = refl }
 
 pub GainsRoom-both : (a b c : Store) → GainsRoom a b → GainsRoom b c → GainsRoom a c
 GainsRoom-both a b c first second = record {
@@ -142,47 +141,16 @@ GainsRoom-both a b c first second = record {
   horizon = second.horizon ∙ first.horizon;
 }
 
-pub GainsNodes-both : (a b c : Store) → GainsNodes a b → GainsNodes b c → GainsNodes a c
-GainsNodes-both a b c first second = record {
+-- the counts do not fall
+pub GainsNodes-both : (counts more : List ℕ) (a b c : Store) → GainsNodes counts a b → GainsNodes more b c → ((s : Segment) → s.0 < length a.lists → count_of counts s ≤ count_of more s) → GainsNodes more a c
+GainsNodes-both counts more a b c first second up = record {
   store = second.store;
   gained = GainsRoom-both a b c first.gained second.gained;
   most = λ s low.
       let in_b : s.0 < length b.lists = omega (arith, low, first.gained.lists) in
-      omega (arith, first.most s low, second.most s in_b, first.gained.held s low);
+      omega (arith, first.most s low, second.most s in_b, first.gained.held s low, up s low);
   ids = omega (arith, first.ids, second.ids);
 }
-
--- the numbers stay as small, and room that there is stays
-pub few-still : (a b : Store) → GainsNodes a b → All (λ l. l.held < 2 ^ 33) a.lists → All (λ l. l.held < 2 ^ 33) b.lists
-few-still a b gained few = All-from_get_or (λ (l : Listed). l.held < 2 ^ 33) b.lists no_list (λ i low.
-    let s : Segment = record { 0 = i } in
-    let in_a : i < length a.lists = omega (arith, low, gained.gained.lists) in
-    omega (arith, gained.gained.held s in_a, All-get_or (λ (l : Listed). l.held < 2 ^ 33) a.lists i no_list in_a few))
-
-pub room-still : (a b : Store) (s : Segment) → GainsNodes a b → s.0 < length a.lists → HasRoom s (list_at a s) → HasRoom s (list_at b s)
-room-still a b s gained low room = omega (arith, gained.gained.held s low, gained.gained.nodes s low)
-
--- one list more has room
-pub rooms-more : (a b : Store) (segments : List Segment) (i : ℕ) (d : Segment) → GainsNodes a b → All (λ t. t.0 < length a.lists) segments → i < length segments
-    → All (λ s. HasRoom s (list_at a s)) (take i segments) → HasRoom (get_or segments i d) (list_at b (get_or segments i d)) → All (λ s. HasRoom s (list_at b s)) (take (i + 1) segments)
-rooms-more a b segments i d gained exist low before here =
-    rw (take_more segments i d low) (All-push (λ (s : Segment). HasRoom s (list_at b s)) (take i segments) (get_or segments i d)
-    (λ k e within. room-still a b (get_or (take i segments) k e) gained (All-take (λ (t : Segment). t.0 < length a.lists) i segments exist k e within) (before k e within)) here)
-
-pub rooms-all : (sets : List (List Segment)) (segment : Segment) (segments : List Segment) (i : ℕ) (lists : List Listed) → AreConflicts sets segment segments → length segments ≤ i
-    → All (λ s. HasRoom s (list_in lists s)) (take i segments) → EachInConflict sets segment HasRoom lists
-rooms-all sets segment segments i lists all past rooms s low met =
-    All-contains (λ (t : Segment). HasRoom t (list_in lists t)) segments s (subst (All (λ (t : Segment). HasRoom t (list_in lists t))) (take_all i segments past) rooms) ((all.each s).1 met)
-
--- one step's lists more have room
-pub steps-more : (sets : List (List Segment)) (a b : Store) (steps : List Step) (i : ℕ) (d : Step) → GainsNodes a b → i < length steps
-    → All (λ step. EachInConflict sets (segment_of step.arc) HasRoom a.lists) (take i steps) → EachInConflict sets (segment_of (get_or steps i d).arc) HasRoom b.lists
-    → All (λ step. EachInConflict sets (segment_of step.arc) HasRoom b.lists) (take (i + 1) steps)
-steps-more sets a b steps i d gained low before here =
-    rw (take_more steps i d low) (All-push (λ (step : Step). EachInConflict sets (segment_of step.arc) HasRoom b.lists) (take i steps) (get_or steps i d)
-    (λ k e within s exists met.
-    let in_a : s.0 < length a.lists = omega (arith, exists, gained.gained.lists) in
-    room-still a b s gained in_a (before k e within s in_a met)) here)
 
 -- the next id is far below what a word holds
 pub next-below : (store : Store) → IsStore store → store.next < 2 ^ 50

@@ -1,8 +1,8 @@
 -- What a run of steps makes of all lists, as one step more is gone through.
-use Rattle.std.proofs.Common.{◌≡◌, ℕ, ◌+◌, ◌^◌, ◌<◌, ◌≤◌, List, [], ◌∷◌, ◌++◌, length, get_or, take, drop, inl, inr, IsTrue, IsFalse, refl, sym, ◌∙◌, ap, subst, arith}
-use Rattle.std.specs.Prelude.{Contains, All}
+use Rattle.std.proofs.Common.{◌≡◌, ℕ, ◌+◌, ◌<◌, ◌≤◌, List, [], ◌∷◌, ◌++◌, length, get_or, take, drop, inl, inr, IsTrue, IsFalse, refl, sym, ◌∙◌, ap, subst, arith}
+use Rattle.std.specs.Prelude.{Contains}
 use Rattle.std.proofs.lemmas.Bool.{cases_Bool, both_ways, false_from_ne_true}
-use Rattle.std.proofs.lemmas.List.{append-nil, append_assoc, map-append, drop_more, take_all, drop_all, length-take}
+use Rattle.std.proofs.lemmas.List.{append-nil, append_assoc, map-append, drop_more, take_all, drop_all}
 use Rattle.std.proofs.lemmas.List.Elements.{All-contains, Contains-push}
 use Rattle.taxi_base.specs.declared.numbers.Segment.{Segment}
 use Rattle.taxi_base.specs.declared.rows.Span.{Span}
@@ -12,13 +12,12 @@ use Rattle.taxi_base.specs.Windows.{Hold, hold_of, holds_of}
 use Rattle.taxi_base.proofs.HoldLaws.{conflict-turned}
 use Rattle.interval_list.specs.declared.window.Window.{Window}
 use Rattle.window_store.specs.Spans.{Listed, StandsForSpans}
-use Rattle.window_store.specs.Store.{no_list}
-use Rattle.window_store.specs.Stands.{conflicting_steps, ListStandsFor, StandsFor, HasRoomFor}
+use Rattle.window_store.specs.Stands.{ListStandsFor, StandsFor, HasRoomFor}
 use Rattle.window_store.specs.Kept.{IsApartFrom, IsClearOf, KeepsWindows}
 use Rattle.window_store.specs.Conflicting.{spans_in_conflict}
-use Rattle.window_store.specs.Edits.{of_lists, list_in, ChangesConflicting, EachInConflict, KeepsOwned, StandsForLeft, KeepsClear, CanHold, IsHeld, IsReleased, IsRaised, AllKeepOwned, AreHeld, AreReleased, AreRaised}
+use Rattle.window_store.specs.Edits.{of_lists, list_in, ChangesConflicting, EachInConflict, KeepsOwned, StandsForLeft, KeepsClear, CanHold, IsHeld, IsReleased, AllKeepOwned, AreHeld, AreReleased}
 use Rattle.window_store.specs.Stays.{done_by}
-use Rattle.window_store.proofs.Standing.{in_conflict, list-spans, spans-list, list-moved_back, list-without, list-with, conflicting-append, conflicting-steps, steps-push, conflicting-part, conflicting-le}
+use Rattle.window_store.proofs.Standing.{in_conflict, list-spans, spans-list, list-moved_back, list-without, list-with, conflicting-append, conflicting-steps, conflicting-part}
 use Rattle.window_store.proofs.Pieces.{All-front}
 use Rattle.window_store.proofs.Staying.{none, done-apart, done-past, windows-wide}
 
@@ -206,75 +205,3 @@ module _ (horizon clearance : ℕ) (sets : List (List Segment)) (rest : List Hol
     kept = subst (λ (done : List Step). KeepsWindows IsClearOf sets (holds_of horizon clearance done) (of_lists old) (of_lists new)) (sym (take_all (length steps) steps (omega arith))) released.kept;
     owned = released.owned;
   }
-
--- ---- raising and lowering
-
-pub AreRaised-none : (sets : List (List Segment)) (lists : List Listed) → AreRaised sets [] lists lists
-AreRaised-none sets lists = record { as_many = refl; each = λ s low. raised_by_none (list_in lists s) } where
-  raised_by_none : (l : Listed) → l ≡ record l { held = l.held + 0 }
-  raised_by_none l = let same : l.held ≡ l.held + 0 = omega arith in ap (λ n. record l { held = n }) same
-
-module _ (sets : List (List Segment)) (before : List Step) (step : Step) (s : Segment) where
-  raised-yes : IsTrue (conflict sets (segment_of step.arc) s) → conflicting_steps sets s (before ++ step ∷ []) ≡ conflicting_steps sets s before + 1
-  raised-yes met = steps-push sets s before step ∙ rw (conflict-turned sets (segment_of step.arc) s met) refl
-
-  raised-no : IsFalse (conflict sets (segment_of step.arc) s) → conflicting_steps sets s (before ++ step ∷ []) ≡ conflicting_steps sets s before
-  raised-no apart =
-      let other : IsFalse (conflict sets s (segment_of step.arc)) = false_from_ne_true _ (λ met. both_ways _ apart (conflict-turned sets s (segment_of step.arc) met)) in
-      steps-push sets s before step ∙ rw other (omega arith)
-
-  -- a number that is raised, and raised once more where the step is in conflict
-  raised-more : (old mid new : Listed) → mid ≡ record old { held = old.held + conflicting_steps sets s before } → (IsTrue (conflict sets (segment_of step.arc) s) → IsRaised s mid new)
-      → (IsFalse (conflict sets (segment_of step.arc) s) → new ≡ mid) → new ≡ record old { held = old.held + conflicting_steps sets s (before ++ step ∷ []) }
-  raised-more old mid new first more same = elim (cases_Bool (conflict sets (segment_of step.arc) s)) [
-    | inl met ↦
-        let number : old.held + conflicting_steps sets s before + 1 ≡ old.held + conflicting_steps sets s (before ++ step ∷ []) = omega (arith, raised-yes met) in
-        more met ∙ ap (λ (l : Listed). record l { held = l.held + 1 }) first ∙ ap (λ n. record old { held = n }) number
-    | inr apart ↦
-        let number : old.held + conflicting_steps sets s before ≡ old.held + conflicting_steps sets s (before ++ step ∷ []) = omega (arith, raised-no apart) in
-        same apart ∙ first ∙ ap (λ n. record old { held = n }) number
-  ]
-
-  -- the same, where the step is lowered first
-  lowered-more : (old mid new : Listed) → old ≡ record mid { held = mid.held + conflicting_steps sets s before } → (IsTrue (conflict sets (segment_of step.arc) s) → IsRaised s new mid)
-      → (IsFalse (conflict sets (segment_of step.arc) s) → new ≡ mid) → old ≡ record new { held = new.held + conflicting_steps sets s (before ++ step ∷ []) }
-  lowered-more old mid new first more same = elim (cases_Bool (conflict sets (segment_of step.arc) s)) [
-    | inl met ↦
-        let number : new.held + 1 + conflicting_steps sets s before ≡ new.held + conflicting_steps sets s (before ++ step ∷ []) = omega (arith, raised-yes met) in
-        first ∙ ap (λ (l : Listed). record l { held = l.held + conflicting_steps sets s before }) (more met) ∙ ap (λ n. record new { held = n }) number
-    | inr apart ↦
-        let number : new.held + conflicting_steps sets s before ≡ new.held + conflicting_steps sets s (before ++ step ∷ []) = omega (arith, raised-no apart) in
-        first ∙ ap (λ (l : Listed). record l { held = l.held + conflicting_steps sets s before }) (sym (same apart)) ∙ ap (λ n. record new { held = n }) number
-  ]
-
-pub AreRaised-more : (sets : List (List Segment)) (before : List Step) (step : Step) (old mid new : List Listed) → AreRaised sets before old mid → ChangesConflicting sets (segment_of step.arc) IsRaised mid new
-    → AreRaised sets (before ++ step ∷ []) old new
-AreRaised-more sets before step old mid new raised changes = record {
-  as_many = changes.as_many ∙ raised.as_many;
-  each = λ s low. raised-more sets before step s (list_in old s) (list_in mid s) (list_in new s) (raised.each s low) (λ met. changes.changed s (omega (arith, low, raised.as_many)) met)
-      (λ apart. changes.others s (λ met. both_ways _ apart met));
-}
-
-pub AreRaised-less : (sets : List (List Segment)) (before : List Step) (step : Step) (old mid new : List Listed) → AreRaised sets before mid old
-    → ChangesConflicting sets (segment_of step.arc) (λ s new old. IsRaised s old new) mid new → AreRaised sets (before ++ step ∷ []) new old
-AreRaised-less sets before step old mid new raised changes = record {
-  as_many = raised.as_many ∙ sym changes.as_many;
-  each = λ s low.
-      let in_mid : s.0 < length mid = omega (arith, low, changes.as_many) in
-      lowered-more sets before step s (list_in old s) (list_in mid s) (list_in new s) (raised.each s in_mid) (λ met. changes.changed s in_mid met) (λ apart. changes.others s (λ met. both_ways _ apart met));
-}
-
--- the numbers stay small enough while they are raised, and are large enough to be lowered
-pub few-raised : (sets : List (List Segment)) (steps : List Step) (k : ℕ) (old mid : List Listed) (segment : Segment) → All (λ l. l.held + length steps < 2 ^ 33) old → AreRaised sets (take k steps) old mid
-    → EachInConflict sets segment (λ s l. l.held < 2 ^ 33) mid
-few-raised sets steps k old mid segment few raised s exists met =
-    let in_old : s.0 < length old = omega (arith, exists, raised.as_many) in
-    let number = ap (λ (l : Listed). l.held) (raised.each s in_old) in
-    omega (arith, number, few s.0 no_list in_old, conflicting-le sets s (take k steps), length-take k steps)
-
-pub some-raised : (sets : List (List Segment)) (steps : List Step) (k : ℕ) (d : Step) (old mid : List Listed)
-    → ((s : Segment) → s.0 < length old → conflicting_steps sets s steps ≤ (list_in old s).held) → k < length steps → AreRaised sets (take k steps) mid old
-    → EachInConflict sets (segment_of (get_or steps k d).arc) (λ s l. 1 ≤ l.held) mid
-some-raised sets steps k d old mid enough low raised s exists met =
-    let number = ap (λ (l : Listed). l.held) (raised.each s exists) in
-    omega (arith, number, enough s (omega (arith, exists, raised.as_many)), conflicting-part sets s steps k d low (conflict-turned sets (segment_of (get_or steps k d).arc) s met))

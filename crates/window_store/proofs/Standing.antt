@@ -4,7 +4,7 @@ use Rattle.std.specs.Prelude.{All, map, filter, nat_lt}
 use Rattle.std.specs.List.{list_any}
 use Rattle.std.proofs.lemmas.Bool.{cases_Bool, cond-true, cond-false}
 use Rattle.std.proofs.lemmas.List.{map-append, map_more, length-append}
-use Rattle.std.proofs.lemmas.List.Sums.{length-filter, count_by-le-length, sum_by-cons, sum_by_push, sum_by_more, sum_by-take-le}
+use Rattle.std.proofs.lemmas.List.Sums.{length-filter, count_by-le-length, sum_by-cons, sum_by_more, sum_by-take-le}
 use Rattle.std.proofs.lemmas.List.Elements.{All-from_get_or, filter-append}
 use Rattle.std.proofs.lemmas.List.Folds.{list_any-append}
 use Rattle.taxi_base.specs.declared.numbers.Segment.{Segment}
@@ -159,12 +159,6 @@ conflicting-steps horizon clearance sets s (step ∷ steps) =
     sum_by-cons (λ (h : Hold). cond (conflict sets s h.segment) 1 0) (hold_of horizon clearance step) (holds_of horizon clearance steps)
     ∙ ap (λ n. cond (conflict sets s (segment_of step.arc)) 1 0 + n) (conflicting-steps horizon clearance sets s steps)
     ∙ sym (sum_by-cons (λ (t : Step). cond (conflict sets s (segment_of t.arc)) 1 0) step steps)
-
-pub steps-no : (sets : List (List Segment)) (s : Segment) (step : Step) (steps : List Step) → IsFalse (conflict sets s (segment_of step.arc)) → conflicting_steps sets s (step ∷ steps) ≡ conflicting_steps sets s steps
-steps-no sets s step steps apart = sum_by-cons (λ (t : Step). cond (conflict sets s (segment_of t.arc)) 1 0) step steps ∙ rw apart (omega arith)
-
-pub steps-push : (sets : List (List Segment)) (s : Segment) (steps : List Step) (step : Step) → conflicting_steps sets s (steps ++ step ∷ []) ≡ conflicting_steps sets s steps + cond (conflict sets s (segment_of step.arc)) 1 0
-steps-push sets s steps step = sum_by_push (λ (t : Step). cond (conflict sets s (segment_of t.arc)) 1 0) steps step
 
 pub conflicting-part : (sets : List (List Segment)) (s : Segment) (steps : List Step) (k : ℕ) (d : Step) → k < length steps → IsTrue (conflict sets s (segment_of (get_or steps k d).arc))
     → 1 + conflicting_steps sets s (take k steps) ≤ conflicting_steps sets s steps

@@ -1,25 +1,23 @@
 -- A store before and after its lists were edited.
-use Rattle.std.proofs.Common.{◌≡◌, ℕ, suc, ◌+◌, ◌^◌, ◌<◌, ◌≤◌, List, [], ◌∷◌, ◌++◌, length, drop, ◌⊎◌, inl, inr, refl, sym, ◌∙◌, ap, subst, arith, Vec, Global}
+use Rattle.std.proofs.Common.{◌≡◌, ℕ, suc, ◌+◌, ◌^◌, ◌<◌, ◌≤◌, List, [], ◌∷◌, ◌++◌, length, drop, refl, sym, ◌∙◌, ap, subst, arith, Vec, Global}
 use Rattle.std.specs.Vec.{with_items}
 use Rattle.std.specs.Prelude.{All, sum_by}
-use Rattle.std.proofs.lemmas.Bool.{cases_Bool, le-ltb}
+use Rattle.std.proofs.lemmas.Bool.{le-ltb}
 use Rattle.std.proofs.lemmas.List.{append-nil, take_all, drop_all, with_items_is}
 use Rattle.std.proofs.lemmas.List.Sums.{sum_by-cons}
-use Rattle.std.proofs.lemmas.List.Elements.{All-get_or, All-from_get_or, All-head, All-tail}
+use Rattle.std.proofs.lemmas.List.Elements.{All-get_or, All-from_get_or}
 use Rattle.taxi_base.specs.declared.numbers.Segment.{Segment}
 use Rattle.taxi_base.specs.declared.rows.Step.{Step}
-use Rattle.taxi_base.specs.Airport.{conflict, segment_of}
 use Rattle.taxi_base.specs.Windows.{Hold, holds_of, is_free, AreWindows}
-use Rattle.taxi_base.proofs.HoldLaws.{conflict-turned}
 use Rattle.interval_list.specs.declared.window.Window.{Window}
 use Rattle.interval_list.specs.Intervals.{Intervals, owned, times, spans_of}
 use Rattle.interval_list.proofs.Owning.{times-append, below-same}
 use Rattle.window_store.specs.Spans.{Listed, nodes}
 use Rattle.window_store.specs.Store.{IsStore, HaveRoom, EndBy, no_list, of_lists_and_ids, ids_owned}
-use Rattle.window_store.specs.Stands.{conflicting_steps, ListStandsFor, StandsFor, HasRoomFor}
+use Rattle.window_store.specs.Stands.{ListStandsFor, StandsFor, HasRoomFor}
 use Rattle.window_store.specs.Kept.{IsClearOf, KeepsWindows, KeepsNodes, GainsRoom, DrawsWhatIsLacking}
-use Rattle.window_store.specs.Edits.{of_lists, list_in, KeepsOwned, AllKeepOwned, AreReleased, AreRaised, EachInConflict, HasRoom, GainsNodes}
-use Rattle.window_store.proofs.Standing.{conflicting-append, conflicting-steps, steps-no, conflicting-le}
+use Rattle.window_store.specs.Edits.{of_lists, list_in, KeepsOwned, AllKeepOwned, AreReleased}
+use Rattle.window_store.proofs.Standing.{conflicting-append, conflicting-steps}
 use Rattle.window_store.proofs.Spans.{windows-in_time}
 
 -- what is written back is what the edits made
@@ -106,125 +104,31 @@ module _ (horizon clearance : ℕ) (sets : List (List Segment)) (rest : List Hol
       let is : ListStandsFor sets horizon rest s (list_in new s) = released-all stands s low in
       omega (arith, was.room, was.number, is.number, (released.owned.each s in_old).nodes, conflicting-append sets s rest (holds_of horizon clearance steps), conflicting-steps horizon clearance sets s steps)
 
--- ---- raised, given room, and lowered again
+-- ---- given room
 
-raised-owned : (sets : List (List Segment)) (steps : List Step) (old new : List Listed) → AreRaised sets steps old new → AllKeepOwned old new
-raised-owned sets steps old new raised = record {
-  as_many = raised.as_many;
-  each = λ s low. subst (λ (l : Listed). KeepsOwned (list_in old s) l) (sym (raised.each s low)) (record { ids = λ id. refl; nodes = refl });
-}
+module _ (old new : List Listed) (next more : ℕ) (gained : GainsRoom (of_lists_and_ids old next) (of_lists_and_ids new more)) where
+  pub reserved-ends : (horizon : ℕ) → EndBy horizon old → EndBy horizon new
+  reserved-ends horizon ends = All-from_get_or (λ (l : Listed). All (λ (w : Window). w.until ≤ horizon) l.intervals.windows) new no_list (λ i low.
+      let s : Segment = record { 0 = i } in
+      let in_old : i < length old = omega (arith, low, gained.lists) in
+      subst (All (λ (w : Window). w.until ≤ horizon)) (sym (gained.windows s in_old))
+      (All-get_or (λ (l : Listed). All (λ (w : Window). w.until ≤ horizon) l.intervals.windows) old i no_list in_old ends))
 
--- a list has room, or no step is in conflict with its segment
-room_or_none : (sets : List (List Segment)) (s : Segment) (steps : List Step) (lists : List Listed) → s.0 < length lists → All (λ step. EachInConflict sets (segment_of step.arc) HasRoom lists) steps
-    → (conflicting_steps sets s steps ≡ 0) ⊎ HasRoom s (list_in lists s)
-room_or_none sets s [] lists low rooms = inl refl
-room_or_none sets s (step ∷ steps) lists low rooms =
-    elim (cases_Bool (conflict sets s (segment_of step.arc))) [
-      | inl met ↦ inr (All-head (λ (t : Step). EachInConflict sets (segment_of t.arc) HasRoom lists) step steps rooms s low (conflict-turned sets s (segment_of step.arc) met))
-      | inr apart ↦ elim (room_or_none sets s steps lists low (All-tail (λ (t : Step). EachInConflict sets (segment_of t.arc) HasRoom lists) step steps rooms)) [
-        | inl none ↦ inl (steps-no sets s step steps apart ∙ none)
-        | inr room ↦ inr room
-      ]
-    ]
+  pub reserved-room : HaveRoom old → HaveRoom new
+  reserved-room room = All-from_get_or (λ (l : Listed). 1 + l.held ≤ nodes l) new no_list (λ i low.
+      let s : Segment = record { 0 = i } in
+      let in_old : i < length old = omega (arith, low, gained.lists) in
+      omega (arith, gained.held s in_old, gained.nodes s in_old, All-get_or (λ (l : Listed). 1 + l.held ≤ nodes l) old i no_list in_old room))
 
-pub raised-few : (sets : List (List Segment)) (steps : List Step) (old new : List Listed) → All (λ l. l.held + length steps < 2 ^ 33) old → AreRaised sets steps old new → All (λ l. l.held < 2 ^ 33) new
-raised-few sets steps old new few raised = All-from_get_or (λ (l : Listed). l.held < 2 ^ 33) new no_list (λ i low.
-    let s : Segment = record { 0 = i } in
-    let in_old : i < length old = omega (arith, low, raised.as_many) in
-    let number = ap (λ (l : Listed). l.held) (raised.each s in_old) in
-    omega (arith, number, conflicting-le sets s steps, All-get_or (λ (l : Listed). l.held + length steps < 2 ^ 33) old i no_list in_old few))
-
-pub raised-store : (sets : List (List Segment)) (steps : List Step) (old new : List Listed) (next : ℕ) → IsStore (of_lists_and_ids old next) → AreRaised sets steps old new
-    → IsStore (of_lists_and_ids new next)
-raised-store sets steps old new next store raised = IsStore-kept old new next store (raised-owned sets steps old new raised)
-
-module _ (sets : List (List Segment)) (steps : List Step) (old up roomy new : List Listed) (next more : ℕ) where
-  module _ (raised : AreRaised sets steps old up) (gained : GainsNodes (of_lists_and_ids up next) (of_lists_and_ids roomy more)) where
-    -- the numbers are large enough to be lowered
-    pub lowerable : (s : Segment) → s.0 < length roomy → conflicting_steps sets s steps ≤ (list_in roomy s).held
-    lowerable s low =
-        let in_up : s.0 < length up = omega (arith, low, gained.gained.lists) in
-        let number = ap (λ (l : Listed). l.held) (raised.each s (omega (arith, in_up, raised.as_many))) in
-        omega (arith, number, gained.gained.held s in_up)
-
-    module _ (lowered : AreRaised sets steps new roomy) where
-      as_many : length new ≡ length old
-      as_many = omega (arith, lowered.as_many, raised.as_many, gained.gained.lists)
-
-      pub reserved-store : IsStore (of_lists_and_ids new more)
-      reserved-store =
-          let back : AllKeepOwned roomy new = record {
-            as_many = sym lowered.as_many;
-            each = λ s low. subst (λ (l : Listed). KeepsOwned l (list_in new s)) (sym (lowered.each s (omega (arith, low, lowered.as_many)))) (record { ids = λ id. refl; nodes = refl });
-          } in
-          IsStore-kept roomy new more gained.store back
-
-      pub reserved-gained : GainsRoom (of_lists_and_ids old next) (of_lists_and_ids new more)
-      reserved-gained = record { lists = as_many; windows = windows; held = held; nodes = nodes'; horizon = refl } where
-        windows : (s : Segment) → s.0 < length old → (list_in new s).intervals.windows ≡ (list_in old s).intervals.windows
-        windows s low =
-            let in_up : s.0 < length up = omega (arith, low, raised.as_many) in
-            let down = ap (λ (l : Listed). l.intervals.windows) (lowered.each s (omega (arith, low, as_many))) in
-            let first = ap (λ (l : Listed). l.intervals.windows) (raised.each s low) in
-            sym down ∙ gained.gained.windows s in_up ∙ first
-
-        held : (s : Segment) → s.0 < length old → (list_in new s).held ≡ (list_in old s).held
-        held s low =
-            let in_up : s.0 < length up = omega (arith, low, raised.as_many) in
-            let down = ap (λ (l : Listed). l.held) (lowered.each s (omega (arith, low, as_many))) in
-            let first = ap (λ (l : Listed). l.held) (raised.each s low) in
-            omega (arith, down, first, gained.gained.held s in_up)
-
-        nodes' : (s : Segment) → s.0 < length old → nodes (list_in old s) ≤ nodes (list_in new s)
-        nodes' s low =
-            let in_up : s.0 < length up = omega (arith, low, raised.as_many) in
-            let down = ap nodes (lowered.each s (omega (arith, low, as_many))) in
-            let first = ap nodes (raised.each s low) in
-            omega (arith, down, first, gained.gained.nodes s in_up)
-
-      pub reserved-lacking : DrawsWhatIsLacking sets steps (of_lists_and_ids old next) (of_lists_and_ids new more)
-      reserved-lacking = record {
-        most = λ s low.
-            let in_up : s.0 < length up = omega (arith, low, raised.as_many) in
-            let down = ap nodes (lowered.each s (omega (arith, low, as_many))) in
-            let first = ap nodes (raised.each s low) in
-            let number = ap (λ (l : Listed). l.held) (raised.each s low) in
-            omega (arith, down, first, number, gained.most s in_up);
-        ids = omega (arith, gained.ids, nodes-kept old up (raised-owned sets steps old up raised), nodes-kept new roomy (raised-owned sets steps new roomy lowered));
+  pub reserved-stands : (sets : List (List Segment)) (horizon : ℕ) (holds : List Hold) → StandsFor sets horizon holds (of_lists old) → StandsFor sets horizon holds (of_lists new)
+  reserved-stands sets horizon holds stands s low =
+      let in_old : s.0 < length old = omega (arith, low, gained.lists) in
+      let was : ListStandsFor sets horizon holds s (list_in old s) = stands s in_old in
+      record {
+        windows = subst (λ (ws : List Window). AreWindows (is_free sets horizon holds s) (spans_of ws)) (sym (gained.windows s in_old)) was.windows;
+        number = gained.held s in_old ∙ was.number;
+        room = omega (arith, was.room, gained.held s in_old, gained.nodes s in_old);
       }
-
-      pub reserved-ends : (horizon : ℕ) → EndBy horizon old → EndBy horizon new
-      reserved-ends horizon ends = All-from_get_or (λ (l : Listed). All (λ (w : Window). w.until ≤ horizon) l.intervals.windows) new no_list (λ i low.
-          let s : Segment = record { 0 = i } in
-          let in_old : i < length old = omega (arith, low, as_many) in
-          subst (All (λ (w : Window). w.until ≤ horizon)) (sym (reserved-gained.windows s in_old))
-          (All-get_or (λ (l : Listed). All (λ (w : Window). w.until ≤ horizon) l.intervals.windows) old i no_list in_old ends))
-
-      pub reserved-room : HaveRoom old → HaveRoom new
-      reserved-room room = All-from_get_or (λ (l : Listed). 1 + l.held ≤ nodes l) new no_list (λ i low.
-          let s : Segment = record { 0 = i } in
-          let in_old : i < length old = omega (arith, low, as_many) in
-          omega (arith, reserved-gained.held s in_old, reserved-gained.nodes s in_old, All-get_or (λ (l : Listed). 1 + l.held ≤ nodes l) old i no_list in_old room))
-
-      pub reserved-for : HaveRoom old → All (λ step. EachInConflict sets (segment_of step.arc) HasRoom roomy) steps → HasRoomFor sets steps (of_lists new)
-      reserved-for room rooms s low =
-          let down = lowered.each s low in
-          let number = ap (λ (l : Listed). l.held) down in
-          let count = ap nodes down in
-          elim (room_or_none sets s steps roomy (omega (arith, low, lowered.as_many)) rooms) [
-            | inl none ↦ omega (arith, none, All-get_or (λ (l : Listed). 1 + l.held ≤ nodes l) new s.0 no_list low (reserved-room room))
-            | inr enough ↦ omega (arith, enough, number, count)
-          ]
-
-      pub reserved-stands : (horizon : ℕ) (holds : List Hold) → StandsFor sets horizon holds (of_lists old) → StandsFor sets horizon holds (of_lists new)
-      reserved-stands horizon holds stands s low =
-          let in_old : s.0 < length old = omega (arith, low, as_many) in
-          let was : ListStandsFor sets horizon holds s (list_in old s) = stands s in_old in
-          record {
-            windows = subst (λ (ws : List Window). AreWindows (is_free sets horizon holds s) (spans_of ws)) (sym (reserved-gained.windows s in_old)) was.windows;
-            number = reserved-gained.held s in_old ∙ was.number;
-            room = omega (arith, was.room, reserved-gained.held s in_old, reserved-gained.nodes s in_old);
-          }
 
 -- ---- with the horizon
 

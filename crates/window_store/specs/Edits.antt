@@ -1,6 +1,6 @@
 -- What an edit makes of the lists in conflict with a segment, and what a run of steps makes of all lists. No public clause
 -- cites this module.
-use Rattle.std.specs.Prelude.{ℕ, ◌≡◌, ◌+◌, ◌<◌, ◌≤◌, max, List, ◌++◌, length, ◌∷◌, take, drop, sum_by, Contains, IsTrue}
+use Rattle.std.specs.Prelude.{ℕ, ◌≡◌, ◌+◌, ◌<◌, ◌≤◌, List, ◌++◌, length, ◌∷◌, take, drop, Contains, IsTrue}
 use Rattle.taxi_base.specs.declared.numbers.Segment.{Segment}
 use Rattle.taxi_base.specs.declared.rows.Span.{Span}
 use Rattle.taxi_base.specs.declared.rows.Step.{Step}
@@ -9,9 +9,9 @@ use Rattle.taxi_base.specs.Windows.{Hold, holds_of}
 use Rattle.interval_list.specs.declared.window.Window.{Window}
 use Rattle.interval_list.specs.Intervals.{OwnsSame, KeepsUnmet}
 use Rattle.window_store.specs.Spans.{Listed, nodes, StandsForSpans}
-use Rattle.window_store.specs.Store.{Store, of_lists_and_ids, IsStore, list_at}
-use Rattle.window_store.specs.Stands.{ListStandsFor, StandsFor, conflicting_steps}
-use Rattle.window_store.specs.Kept.{IsApartFrom, IsClearOf, AgainstEach, KeepsWindows, GainsRoom}
+use Rattle.window_store.specs.Store.{Store, of_lists_and_ids, list_at}
+use Rattle.window_store.specs.Stands.{ListStandsFor, StandsFor}
+use Rattle.window_store.specs.Kept.{IsApartFrom, IsClearOf, AgainstEach, KeepsWindows}
 use Rattle.window_store.specs.Stays.{done_by}
 
 -- lists by themselves, as a store
@@ -71,14 +71,6 @@ pub record IsReleased (sets : List (List Segment)) (horizon clearance : ℕ) (re
   pub kept : KeepsClear sets (holds_of horizon clearance steps) s old new
   pub owned : KeepsOwned old new
 
--- the number is raised, and nothing else is changed
-abbrev pub IsRaised : Segment → Listed → Listed → Type 0
-IsRaised segment old new = new ≡ record old { held = old.held + 1 }
-
--- there are nodes for one window more than the number says
-abbrev pub HasRoom : Segment → Listed → Type 0
-HasRoom segment l = 1 + l.held ≤ nodes l
-
 -- ---- all lists
 
 pub record AllKeepOwned (old new : List Listed) : Type 0 where
@@ -97,17 +89,3 @@ pub record AreReleased (sets : List (List Segment)) (horizon clearance : ℕ) (r
       → StandsFor sets horizon (rest ++ holds_of horizon clearance (drop count steps)) (of_lists new)
   pub kept : KeepsWindows IsClearOf sets (holds_of horizon clearance (take count steps)) (of_lists old) (of_lists new)
   pub owned : AllKeepOwned old new
-
--- each number is raised by that of the steps in conflict, and nothing else is changed
-pub record AreRaised (sets : List (List Segment)) (steps : List Step) (old new : List Listed) : Type 0 where
-  pub as_many : length new ≡ length old
-  pub each : (s : Segment) → s.0 < length old
-      → list_in new s ≡ record (list_in old s) { held = (list_in old s).held + conflicting_steps sets s steps }
-
--- The lists and their ids are sound still. Each list has at least as many nodes, and no more than it had or than its
--- number wants; and each id that is drawn is a new node's.
-pub record GainsNodes (old new : Store) : Type 0 where
-  pub store : IsStore new
-  pub gained : GainsRoom old new
-  pub most : (s : Segment) → s.0 < length old.lists → nodes (list_at new s) ≤ max (nodes (list_at old s)) (1 + (list_at old s).held)
-  pub ids : new.next + sum_by nodes old.lists ≡ old.next + sum_by nodes new.lists

@@ -7,3 +7,4 @@ pub mod Conflicting
 pub mod Stays
 pub mod Edits
 pub mod Rows
+pub mod Counts

@@ -1,17 +1,19 @@
 //! Edits of the lists in conflict with the segments of steps.
-ghost use Rattle.std.specs.Prelude.{ℕ, ◌≡◌, ◌+◌, ◌/◌, ◌^◌, ◌<◌, ◌≤◌, List, ◌++◌, length, All, IsTrue, OnOk};
+ghost use Rattle.std.specs.Prelude.{ℕ, ◌≡◌, ◌+◌, ◌/◌, ◌^◌, ◌<◌, ◌≤◌, List, [], ◌∷◌, ◌++◌, length, All, IsTrue, OnOk};
 ghost use Rattle.taxi_base.specs.declared.numbers.Segment.{Segment as SegmentNumber};
 ghost use Rattle.taxi_base.specs.Airport.{conflict, segment_of};
 ghost use Rattle.taxi_base.specs.Windows.{Hold, hold_of, holds_of};
 ghost use Rattle.conflict_sets.specs.Conflicts.{AreConflicts};
-ghost use Rattle.window_store.specs.Store.{of_lists_and_ids, IsStore};
-ghost use Rattle.window_store.specs.Stands.{StandsFor, HasRoomFor, conflicting_steps, AreOnSegments, TakeTime, AreInTime};
+ghost use Rattle.window_store.specs.Store.{of_lists_and_ids, IsStore, HaveRoom};
+ghost use Rattle.window_store.specs.Stands.{StandsFor, HasRoomFor, AreOnSegments, TakeTime, AreInTime};
 ghost use Rattle.window_store.specs.Stays.{step_at};
-ghost use Rattle.window_store.specs.Edits.{of_lists, list_in, EachInConflict, ChangesConflicting, CanHold, IsHeld, StandsForLeft, IsReleased, IsRaised, HasRoom, AreHeld, AreReleased, AreRaised, GainsNodes};
+ghost use Rattle.window_store.specs.Edits.{of_lists, list_in, EachInConflict, ChangesConflicting, CanHold, IsHeld, StandsForLeft, IsReleased, AreHeld, AreReleased};
+ghost use Rattle.window_store.specs.Counts.{count_of, stepped, IsCounted, IsCountedAtMost, HaveRoomFor, GainsNodes, GainsNodesFor};
 
 use crate::held::OtherHolds;
 use crate::segment_windows::SegmentWindows;
 use crate::stays::{begins_stay, stay_from};
+use crate::step_counts::StepCounts;
 use crate::still_held::StillHeld;
 use conflict_sets::Conflicts;
 use interval_list::Ids;
@@ -72,8 +74,9 @@ fn hold_step(lists: &mut [SegmentWindows], conflicts: &Conflicts, step: &Step, t
     requires can { EachInConflict conflicts.now.sets (segment_of step.now.arc) CanHold lists.old }
     ensures { ChangesConflicting conflicts.now.sets (segment_of step.now.arc) (IsHeld (hold_of term.horizon term.clearance step.now).span) lists.old lists.new }
 {
+    let span = span_of(step, term);
     for segment in segments_of(conflicts, step) {
-        lists[segment.0 as usize].hold(span_of(step, term));
+        lists[segment.0 as usize].hold(span);
     }
 }
 
@@ -156,69 +159,28 @@ fn release_stay<R: OtherHolds>(
 
 // ---- making room
 
-/// Each list's number is raised by that of the steps in conflict with it.
-pub(crate) fn raise_for_steps(lists: &mut [SegmentWindows], conflicts: &Conflicts, steps: &[Step])
-    requires segments { length lists.old ≡ conflicts.now.segments }
-    requires steps { AreOnSegments conflicts.now.segments steps.now }
-    requires few { All (λ l. l.held + length steps.now < 2 ^ 33) lists.old }
-    ensures { AreRaised conflicts.now.sets steps.now lists.old lists.new }
-{
-    for step in steps {
-        raise_for_step(lists, conflicts, step);
-    }
-}
-
-fn raise_for_step(lists: &mut [SegmentWindows], conflicts: &Conflicts, step: &Step)
-    requires segments { length lists.old ≡ conflicts.now.segments }
-    requires step { step.now.arc.0 / 2 < conflicts.now.segments }
-    requires few { EachInConflict conflicts.now.sets (segment_of step.now.arc) (λ s l. l.held < 2 ^ 33) lists.old }
-    ensures { ChangesConflicting conflicts.now.sets (segment_of step.now.arc) IsRaised lists.old lists.new }
-{
-    for segment in segments_of(conflicts, step) {
-        lists[segment.0 as usize].count_one_more();
-    }
-}
-
-/// The numbers are lowered again.
-pub(crate) fn lower_for_steps(lists: &mut [SegmentWindows], conflicts: &Conflicts, steps: &[Step])
-    requires segments { length lists.old ≡ conflicts.now.segments }
-    requires steps { AreOnSegments conflicts.now.segments steps.now }
-    requires raised { (s : SegmentNumber) → s.0 < length lists.old → conflicting_steps conflicts.now.sets s steps.now ≤ (list_in lists.old s).held }
-    ensures { AreRaised conflicts.now.sets steps.now lists.new lists.old }
-{
-    for step in steps {
-        lower_for_step(lists, conflicts, step);
-    }
-}
-
-fn lower_for_step(lists: &mut [SegmentWindows], conflicts: &Conflicts, step: &Step)
-    requires segments { length lists.old ≡ conflicts.now.segments }
-    requires step { step.now.arc.0 / 2 < conflicts.now.segments }
-    requires raised { EachInConflict conflicts.now.sets (segment_of step.now.arc) (λ s l. 1 ≤ l.held) lists.old }
-    ensures { ChangesConflicting conflicts.now.sets (segment_of step.now.arc) (λ s new old. IsRaised s old new) lists.old lists.new }
-{
-    for segment in segments_of(conflicts, step) {
-        lists[segment.0 as usize].count_one_fewer();
-    }
-}
-
-/// Each list in conflict with a step has nodes for one window more than its number says. What was made before memory ran
-/// out stays.
+/// Counts the steps that touch each list, and makes nodes there for one window more than its number and its count say.
+/// What was made before memory ran out stays.
 pub(crate) fn make_room(
     lists: &mut [SegmentWindows],
     ids: &mut Ids,
+    counts: &mut StepCounts,
     conflicts: &Conflicts,
     steps: &[Step],
 ) -> Result<(), Memory>
     requires segments { length lists.old ≡ conflicts.now.segments }
+    requires counts { length counts.old ≡ length lists.old }
     requires steps { AreOnSegments conflicts.now.segments steps.now }
-    requires few { All (λ l. l.held < 2 ^ 33) lists.old }
+    requires few { All (λ l. l.held + length steps.now < 2 ^ 33) lists.old }
     requires store { IsStore (of_lists_and_ids lists.old ids.old.next) }
-    ensures room { OnOk result (All (λ step. EachInConflict conflicts.now.sets (segment_of step.arc) HasRoom lists.new) steps.now) }
-    ensures gained { GainsNodes (of_lists_and_ids lists.old ids.old.next) (of_lists_and_ids lists.new ids.new.next) }
+    requires room { HaveRoom lists.old }
+    ensures room { OnOk result (HasRoomFor conflicts.now.sets steps.now (of_lists lists.new)) }
+    ensures gained { GainsNodesFor conflicts.now.sets steps.now (of_lists_and_ids lists.old ids.old.next) (of_lists_and_ids lists.new ids.new.next) }
+    ensures counts { length counts.new ≡ length lists.new }
 {
+    counts.clear();
     for step in steps {
-        make_room_for_step(lists, ids, conflicts, step)?;
+        make_room_for_step(lists, ids, counts, conflicts, step)?;
     }
     Ok(())
 }
@@ -226,19 +188,25 @@ pub(crate) fn make_room(
 fn make_room_for_step(
     lists: &mut [SegmentWindows],
     ids: &mut Ids,
+    counts: &mut StepCounts,
     conflicts: &Conflicts,
     step: &Step,
 ) -> Result<(), Memory>
     requires segments { length lists.old ≡ conflicts.now.segments }
+    requires counts { length counts.old ≡ length lists.old }
     requires step { step.now.arc.0 / 2 < conflicts.now.segments }
-    requires few { All (λ l. l.held < 2 ^ 33) lists.old }
+    requires few { (s : SegmentNumber) → s.0 < length lists.old → (list_in lists.old s).held + count_of counts.old s + 1 < 2 ^ 33 }
     requires store { IsStore (of_lists_and_ids lists.old ids.old.next) }
-    ensures room { OnOk result (EachInConflict conflicts.now.sets (segment_of step.now.arc) HasRoom lists.new) }
-    ensures gained { GainsNodes (of_lists_and_ids lists.old ids.old.next) (of_lists_and_ids lists.new ids.new.next) }
+    requires room { HaveRoomFor counts.old lists.old }
+    ensures counted { OnOk result (IsCounted (stepped conflicts.now.sets (step.now ∷ [])) counts.old counts.new) }
+    ensures at_most { IsCountedAtMost (stepped conflicts.now.sets (step.now ∷ [])) counts.old counts.new }
+    ensures room { OnOk result (HaveRoomFor counts.new lists.new) }
+    ensures gained { GainsNodes counts.new (of_lists_and_ids lists.old ids.old.next) (of_lists_and_ids lists.new ids.new.next) }
 {
     for segment in segments_of(conflicts, step) {
+        let steps = counts.count(*segment);
         let list = &mut lists[segment.0 as usize];
-        list.make_room(ids, list.held() + 1)?;
+        list.make_room(ids, list.held() + steps + 1)?;
     }
     Ok(())
 }

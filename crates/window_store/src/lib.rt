@@ -7,6 +7,7 @@ mod laws;
 mod row;
 mod segment_windows;
 mod stays;
+mod step_counts;
 mod still_held;
 mod store;
 

@@ -124,21 +124,6 @@ impl SegmentWindows {
         self.intervals.draw(ids)
     }
 
-    /// Raises the number by one, and lowers it, while room is made for spans to come.
-    pub(crate) fn count_one_more(&mut self)
-        requires { self.old.held + 1 < 2 ^ 64 }
-        ensures { self.new ≡ record self.old { held = self.old.held + 1 } }
-    {
-        self.held += 1;
-    }
-
-    pub(crate) fn count_one_fewer(&mut self)
-        requires { 1 ≤ self.old.held }
-        ensures { self.new ≡ record self.old { held = self.old.held - 1 } }
-    {
-        self.held -= 1;
-    }
-
     /// Holds the segment for one more span. It needs no memory.
     pub(crate) fn hold(&mut self, span: Span)
         requires some { span.from < span.until }

@@ -8,10 +8,11 @@ ghost use Rattle.window_store.specs.Store.{Store, IsStore, list_at, windows_at, 
 ghost use Rattle.window_store.specs.Stands.{StandsFor, HasRoomFor, AreOnSegments, TakeTime, AreInTime};
 ghost use Rattle.window_store.specs.Kept.{IsApartFrom, IsClearOf, KeepsWindows, KeepsNodes, GainsRoom, DrawsWhatIsLacking, LiesInOne};
 
-use crate::edits::{Term, hold_steps, lower_for_steps, make_room, raise_for_steps, release_steps};
+use crate::edits::{Term, hold_steps, make_room, release_steps};
 use crate::held::OtherHolds;
 use crate::row::lies_in_one;
 use crate::segment_windows::SegmentWindows;
+use crate::step_counts::StepCounts;
 use conflict_sets::Conflicts;
 use interval_list::{Ids, Windows};
 use std::alloc::Global;
@@ -24,16 +25,19 @@ pub struct WindowStore {
     lists: Vec<SegmentWindows>,
     ids: Ids,
     horizon: Time,
+    // While room is made, how many steps touch each list.
+    counts: StepCounts,
 }
 
 impl Model for WindowStore {
+    ghost use Rattle.std.specs.Prelude.{◌≡◌, length};
     ghost use Rattle.window_store.specs.Store.{Store, of_lists_and_ids, IsStore, HaveRoom, EndBy};
 
     ghost Value = { Store };
 
     ghost view = { λ s. record { lists = s.lists.items; next = s.ids.next; horizon = s.horizon } };
 
-    ghost invariant = { λ s. IsStore (of_lists_and_ids s.lists.items s.ids.next) × HaveRoom s.lists.items × EndBy s.horizon s.lists.items };
+    ghost invariant = { λ s. IsStore (of_lists_and_ids s.lists.items s.ids.next) × HaveRoom s.lists.items × EndBy s.horizon s.lists.items × (length s.counts ≡ length s.lists.items) };
 }
 
 impl WindowStore {
@@ -55,6 +59,7 @@ impl WindowStore {
             lists,
             ids,
             horizon,
+            counts: StepCounts::new(alloc, segments)?,
         })
     }
 
@@ -114,10 +119,7 @@ impl WindowStore {
         ensures stands { (horizon : ℕ) (holds : List Hold) → StandsFor conflicts.now.sets horizon holds self.old → StandsFor conflicts.now.sets horizon holds self.new }
     {
         let lists = self.lists.as_mut_slice();
-        raise_for_steps(lists, conflicts, steps);
-        let made = make_room(lists, &mut self.ids, conflicts, steps);
-        lower_for_steps(lists, conflicts, steps);
-        made
+        make_room(lists, &mut self.ids, &mut self.counts, conflicts, steps)
     }
 
     /// Holds what the steps hold, each until the clearance after its leave is over. It needs no memory. A window that has no

@@ -5,4 +5,4 @@ use Rattle.window_store.specs.Edits.{ChangesEach, IsHeld}
 use Rattle.window_store.proofs.edits.hold_step.Given as goal
 
 abbrev pub invariant-loop-segment : goal.invariant-loop-segment
-invariant-loop-segment l = ChangesEach (Contains (take l.segment-index l.segment-items)) (IsHeld (hold_of l.term.horizon l.term.clearance l.step).span) l.initial.lists l.lists
+invariant-loop-segment l = ChangesEach (Contains (take l.segment-index l.segment-items)) (IsHeld (hold_of l.fn.term.horizon l.fn.term.clearance l.step).span) l.initial.lists l.lists

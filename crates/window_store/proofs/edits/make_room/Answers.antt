@@ -1,33 +1,64 @@
-use Rattle.std.proofs.Common.{sym}
-use Rattle.std.proofs.lemmas.List.{take_all}
-use Rattle.std.proofs.lemmas.List.Elements.{All-nil}
+use Rattle.std.proofs.Common.{length, arith}
 use Rattle.taxi_base.specs.declared.rows.Step.{Step}
-use Rattle.taxi_base.specs.Airport.{segment_of}
-use Rattle.window_store.specs.Edits.{EachInConflict, HasRoom}
-use Rattle.window_store.proofs.Rooms.{GainsNodes-none, GainsNodes-both, few-still, steps-more}
+use Rattle.window_store.proofs.Rooms.{GainsNodes-none, GainsNodes-both}
+use Rattle.window_store.proofs.Counting.{AreCounted-none, AreCounted-more, AreCounted-below, AreCounted-few, AreCounted-all, room-none, room-all, gained-for}
 use Rattle.window_store.proofs.edits.make_room.Goals as goal
 
 abbrev none : Step
 none = record { arc = record { 0 = 0 }; enter = 0; leave = 0 }
 
 pub loop-step-init : goal.loop-step-init
-loop-step-init c = (All-nil (λ (step : Step). EachInConflict c.args.conflicts.now.sets (segment_of step.arc) HasRoom c.args.lists.now), GainsNodes-none _ c.requires.store)
+loop-step-init c = (
+  AreCounted-none c.args.conflicts.now.sets c.args.steps.now (length c.args.lists.now) c.clear.new.self (omega (arith, c.clear.ensures.as_many, c.requires.counts)) c.clear.ensures.none,
+  room-none c.clear.new.self c.args.lists.now c.clear.ensures.none c.requires.room,
+  GainsNodes-none c.clear.new.self _ c.requires.store,
+)
+
+pub make_room_for_step-requires-clause-counts : goal.make_room_for_step-requires-clause-counts
+make_room_for_step-requires-clause-counts c = omega (arith, c.loop-step.invariant.0.as_many, c.loop-step.invariant.2.gained.lists)
 
 pub make_room_for_step-requires-clause-few : goal.make_room_for_step-requires-clause-few
-make_room_for_step-requires-clause-few c = few-still _ _ c.loop-step.invariant.1 c.requires.few
+make_room_for_step-requires-clause-few c =
+    AreCounted-few c.args.conflicts.now.sets c.args.steps.now (length c.args.lists.now) c.loop-step.step-index none c.loop-step-test.true c.loop-step.counts c.loop-step.counts c.loop-step.invariant.0
+    _ _ (omega arith) c.loop-step.invariant.2 c.requires.few
 
 pub make_room_for_step-requires-clause-store : goal.make_room_for_step-requires-clause-store
-make_room_for_step-requires-clause-store c = c.loop-step.invariant.1.store
+make_room_for_step-requires-clause-store c = c.loop-step.invariant.2.store
 
-pub returns-in_err-make_room_for_step-clause-gained : goal.returns-in_err-make_room_for_step-clause-gained
-returns-in_err-make_room_for_step-clause-gained c = GainsNodes-both _ _ _ c.loop-step.invariant.1 c.in_err-make_room_for_step.ensures.gained
+pub make_room_for_step-requires-clause-room : goal.make_room_for_step-requires-clause-room
+make_room_for_step-requires-clause-room c = c.loop-step.invariant.1
 
 pub loop-step-preserved : goal.loop-step-preserved
 loop-step-preserved c =
-    let gained = c.in_ok-make_room_for_step.ensures.gained in (
-      steps-more c.args.conflicts.now.sets _ _ c.args.steps.now c.loop-step.step-index none gained c.loop-step-test.true c.loop-step.invariant.0 c.in_ok-make_room_for_step.ensures.room,
-      GainsNodes-both _ _ _ c.loop-step.invariant.1 gained,
+    let counted = c.in_ok-make_room_for_step.ensures.counted in
+    let as_many = c.loop-step.invariant.0.as_many in (
+      AreCounted-more c.args.conflicts.now.sets c.args.steps.now (length c.args.lists.now) c.loop-step.step-index none c.loop-step-test.true c.loop-step.counts c.make_room_for_step.new.counts c.loop-step.invariant.0 counted,
+      c.in_ok-make_room_for_step.ensures.room,
+      GainsNodes-both c.loop-step.counts c.make_room_for_step.new.counts _ _ _ c.loop-step.invariant.2 c.in_ok-make_room_for_step.ensures.gained
+          (λ s low. c.in_ok-make_room_for_step.ensures.at_most.least s (omega (arith, low, as_many))),
     )
 
+pub returns-in_err-make_room_for_step-clause-gained : goal.returns-in_err-make_room_for_step-clause-gained
+returns-in_err-make_room_for_step-clause-gained c =
+    let as_many = c.loop-step.invariant.0.as_many in
+    let at_most = c.in_err-make_room_for_step.ensures.at_most in
+    gained-for c.args.conflicts.now.sets c.args.steps.now c.make_room_for_step.new.counts _ _
+    (AreCounted-below c.args.conflicts.now.sets c.args.steps.now (length c.args.lists.now) c.loop-step.step-index none c.loop-step-test.true c.loop-step.counts c.make_room_for_step.new.counts c.loop-step.invariant.0 at_most)
+    (GainsNodes-both c.loop-step.counts c.make_room_for_step.new.counts _ _ _ c.loop-step.invariant.2 c.in_err-make_room_for_step.ensures.gained (λ s low. at_most.least s (omega (arith, low, as_many))))
+
+pub returns-in_err-make_room_for_step-clause-counts : goal.returns-in_err-make_room_for_step-clause-counts
+returns-in_err-make_room_for_step-clause-counts c =
+    omega (arith, c.in_err-make_room_for_step.ensures.at_most.as_many, c.in_err-make_room_for_step.ensures.gained.gained.lists, c.loop-step.invariant.0.as_many, c.loop-step.invariant.2.gained.lists)
+
 pub returns-clause-room : goal.returns-clause-room
-returns-clause-room c = rw (sym (take_all c.loop-step.step-index c.args.steps.now c.loop-step-test.false)) c.loop-step.invariant.0
+returns-clause-room c =
+    room-all c.args.conflicts.now.sets c.args.steps.now (length c.args.lists.now) c.loop-step.counts c.loop-step.lists c.loop-step.invariant.2.gained.lists
+    (AreCounted-all c.args.conflicts.now.sets c.args.steps.now (length c.args.lists.now) c.loop-step.step-index c.loop-step.counts c.loop-step-test.false c.loop-step.invariant.0) c.loop-step.invariant.1
+
+pub returns-clause-gained : goal.returns-clause-gained
+returns-clause-gained c =
+    let counted = AreCounted-all c.args.conflicts.now.sets c.args.steps.now (length c.args.lists.now) c.loop-step.step-index c.loop-step.counts c.loop-step-test.false c.loop-step.invariant.0 in
+    gained-for c.args.conflicts.now.sets c.args.steps.now c.loop-step.counts _ _ (λ s low. omega (arith, counted.each s low)) c.loop-step.invariant.2
+
+pub returns-clause-counts : goal.returns-clause-counts
+returns-clause-counts c = omega (arith, c.loop-step.invariant.0.as_many, c.loop-step.invariant.2.gained.lists)

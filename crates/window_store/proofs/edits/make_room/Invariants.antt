@@ -1,11 +1,11 @@
-use Rattle.std.proofs.Common.{take}
-use Rattle.std.specs.Prelude.{All}
-use Rattle.taxi_base.specs.Airport.{segment_of}
+use Rattle.std.proofs.Common.{length, take}
 use Rattle.window_store.specs.Store.{of_lists_and_ids}
-use Rattle.window_store.specs.Edits.{EachInConflict, HasRoom, GainsNodes}
+use Rattle.window_store.specs.Counts.{HaveRoomFor, GainsNodes}
+use Rattle.window_store.proofs.Counting.{AreCounted}
 use Rattle.window_store.proofs.edits.make_room.Given as goal
 
 abbrev pub invariant-loop-step : goal.invariant-loop-step
 invariant-loop-step l =
-    All (λ step. EachInConflict l.conflicts.sets (segment_of step.arc) HasRoom l.lists) (take l.step-index l.steps)
-    × GainsNodes (of_lists_and_ids l.initial.lists l.initial.ids.next) (of_lists_and_ids l.lists l.ids.next)
+    AreCounted l.conflicts.sets (take l.step-index l.steps) (length l.initial.lists) l.counts
+    × HaveRoomFor l.counts l.lists
+    × GainsNodes l.counts (of_lists_and_ids l.initial.lists l.initial.ids.next) (of_lists_and_ids l.lists l.ids.next)

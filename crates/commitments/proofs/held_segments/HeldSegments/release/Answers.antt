@@ -32,7 +32,7 @@ pub loop-done-preserved : goal.loop-done-preserved
 loop-done-preserved c =
     let airport = c.args.airport.now in let holder = c.args.holder.now in let steps = c.args.steps.now in
     let old = c.args.self.now in let l = c.loop-done in let new = c.release_at_once.new.self in
-    let clearance = clearance_after airport holder.class in
+    let clearance = clearance_after airport holder in
     record {
       few = omega (arith, c.min.ensures, c.loop-done-test.true);
       stands = c.release_at_once.ensures.stands;
@@ -51,5 +51,5 @@ returns-clause-room c =
 pub returns-clause-kept : goal.returns-clause-kept
 returns-clause-kept c =
     let l = c.loop-done in let airport = c.args.airport.now in
-    subst (λ (done : List Step). KeepsWindows IsClearOf airport.conflicts (holds_of airport.horizon (clearance_after airport c.args.holder.now.class) done) c.args.self.now.store l.self.store)
+    subst (λ (done : List Step). KeepsWindows IsClearOf airport.conflicts (holds_of airport.horizon (clearance_after airport c.args.holder.now) done) c.args.self.now.store l.self.store)
     (take_all l.done c.args.steps.now c.loop-done-test.false) l.invariant.kept

@@ -11,7 +11,7 @@ invariant-loop-done l = record {
   few : l.done ≤ length l.steps;
   stands : StandsFor l.airport.conflicts l.airport.horizon (map (hold_by l.airport) l.self.steps) l.self.store;
   steps : AreAsMany l.initial.self.steps (l.self.steps ++ steps_with l.holder (take l.done l.steps));
-  kept : KeepsWindows IsClearOf l.airport.conflicts (holds_of l.airport.horizon (clearance_after l.airport l.holder.class) (take l.done l.steps)) l.initial.self.store l.self.store;
+  kept : KeepsWindows IsClearOf l.airport.conflicts (holds_of l.airport.horizon (clearance_after l.airport l.holder) (take l.done l.steps)) l.initial.self.store l.self.store;
   nodes : KeepsNodes l.initial.self.store l.self.store;
 }
 

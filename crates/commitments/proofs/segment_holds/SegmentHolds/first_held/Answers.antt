@@ -1,8 +1,13 @@
 use Rattle.std.proofs.Common.{sym, ap, ◌≡◌, get_or, arith}
 use Rattle.std.proofs.lemmas.List.{take_all}
 use Rattle.commitments.specs.declared.segment_holds.HeldStep.{HeldStep}
-use Rattle.commitments.proofs.OneSegment.{first-since, first-stopped}
+use Rattle.commitments.proofs.OneSegment.{first-since, first-stopped, first-none_begun}
 use Rattle.commitments.proofs.segment_holds.SegmentHolds.first_held.Goals as goal
+
+pub returns-then-not-any_begins_before : goal.returns-then-not-any_begins_before
+returns-then-not-any_begins_before c =
+    let late = c.any_begins_before.ensures c.if-not-any_begins_before.true in
+    rw (← c.self.view_is) (first-none_begun c.args.airport.now c.self.inside.steps.items c.args.from c.args.until c.requires (rw c.deref.ensures.value at late))
 
 pub returns-then-first-held : goal.returns-then-first-held
 returns-then-first-held c =

@@ -21,6 +21,7 @@ invariant_of-result c = (
   fresh-store c.args.horizon c.loop.counter c.loop.lists.items c.loop.ids.next c.loop.invariant (omega (arith, c.loop.auto.counter-end, c.requires.segments)),
   fresh-room c.args.horizon c.loop.counter c.loop.lists.items c.loop.ids.next c.loop.invariant,
   ends-standing [] c.args.horizon [] c.loop.lists.items (fresh-stands [] c.args.horizon c.loop.counter c.loop.lists.items c.loop.ids.next c.loop.invariant),
+  omega (arith, c.in_ok-new-2.ensures, c.loop.invariant.count, c.loop.auto.counter-end, c.loop-test.false),
 )
 
 pub returns-clause-segments : goal.returns-clause-segments

@@ -1,4 +1,4 @@
-use Rattle.std.proofs.Common.{◌++◌, List, sym, subst}
+use Rattle.std.proofs.Common.{◌≡◌, ◌∙◌, ◌++◌, List, length, sym, subst}
 use Rattle.taxi_base.specs.Windows.{holds_of}
 use Rattle.window_store.specs.Spans.{Listed}
 use Rattle.window_store.specs.Store.{of_lists_and_ids, IsStore, HaveRoom, EndBy}
@@ -22,10 +22,11 @@ invariant_of-self c =
     let back = sym (written c.self.inside.lists new held.owned.as_many) in
     let some = rw (← c.self.view_is) at c.requires.stands in
     let stands = held.stands some.0 some.1 in
-    subst (λ (lists : List Listed). IsStore (of_lists_and_ids lists c.self.inside.ids.next) × HaveRoom lists × EndBy c.self.inside.horizon lists) back (
+    subst (λ (lists : List Listed). IsStore (of_lists_and_ids lists c.self.inside.ids.next) × HaveRoom lists × EndBy c.self.inside.horizon lists × (length c.self.inside.counts ≡ length lists)) back (
       IsStore-kept old new c.self.inside.ids.next c.self.invariant.0 held.owned,
       room-standing c.args.conflicts.now.sets c.self.inside.horizon (some.0 ++ holds_of c.self.inside.horizon c.args.clearance c.args.steps.now) new stands,
       ends-standing c.args.conflicts.now.sets c.self.inside.horizon (some.0 ++ holds_of c.self.inside.horizon c.args.clearance c.args.steps.now) new stands,
+      c.self.invariant.3 ∙ sym held.owned.as_many,
     )
 
 pub returns-clause-stands : goal.returns-clause-stands

@@ -1,4 +1,4 @@
-use Rattle.std.proofs.Common.{List, length, sym, subst}
+use Rattle.std.proofs.Common.{◌≡◌, ◌∙◌, List, length, sym, subst}
 use Rattle.taxi_base.specs.Windows.{Hold, holds_of}
 use Rattle.window_store.specs.Spans.{Listed}
 use Rattle.window_store.specs.Store.{of_lists_and_ids, IsStore, HaveRoom, EndBy}
@@ -23,10 +23,11 @@ invariant_of-self g c =
     let back = sym (written c.self.inside.lists new released.owned.as_many) in
     let some = rw (← c.self.view_is) at c.requires.stands in
     let stands = released-all c.self.inside.horizon c.args.clearance c.args.conflicts.now.sets rest c.args.steps.now old new released some in
-    subst (λ (lists : List Listed). IsStore (of_lists_and_ids lists c.self.inside.ids.next) × HaveRoom lists × EndBy c.self.inside.horizon lists) back (
+    subst (λ (lists : List Listed). IsStore (of_lists_and_ids lists c.self.inside.ids.next) × HaveRoom lists × EndBy c.self.inside.horizon lists × (length c.self.inside.counts ≡ length lists)) back (
       IsStore-kept old new c.self.inside.ids.next c.self.invariant.0 released.owned,
       room-standing c.args.conflicts.now.sets c.self.inside.horizon rest new stands,
       ends-standing c.args.conflicts.now.sets c.self.inside.horizon rest new stands,
+      c.self.invariant.3 ∙ sym released.owned.as_many,
     )
 
 pub returns-clause-stands : goal.returns-clause-stands
