@@ -3,5 +3,6 @@ mod PlainLines
 mod BuildLaws
 mod ReadLaws
 mod RowsLeft
+mod LineLaws
 pub mod NamedPlaces
 pub mod AcceptedLaws

@@ -8,7 +8,7 @@ use Rattle.csv.specs.declared.parser.State.TheVariants as st
 use Rattle.airport_file.specs.Plain.{split_from, split_at_commas, IsPlain, IsPlainLine, ArePlainLines, text_of_lines}
 
 -- a byte that is no mark joins the field
-plain-byte : (fields : List (List ℕ)) (field : List ℕ) (b : ℕ) (tail : List ℕ) → (b == 44) ≡ false → (b == 13) ≡ false → (b == 10) ≡ false
+pub plain-byte : (fields : List (List ℕ)) (field : List ℕ) (b : ℕ) (tail : List ℕ) → (b == 44) ≡ false → (b == 13) ≡ false → (b == 10) ≡ false
     → next_record default_config st.InField fields field (b ∷ tail) ≡ next_record default_config st.InField fields (field ++ b ∷ []) tail
 unfolding next_record
 plain-byte fields field b tail c r n = rw (c, r, n) refl
@@ -19,7 +19,7 @@ after-comma : (fields : List (List ℕ)) (rest tail : List ℕ) → IsPlain rest
 after-comma fields [] tail p = start-same fields [] 10 tail refl
 after-comma fields (b ∷ rest) tail p = start-same fields [] b (rest ++ 10 ∷ tail) p.1
 
-comma : (fields : List (List ℕ)) (field u : List ℕ)
+pub comma : (fields : List (List ℕ)) (field u : List ℕ)
     → next_record default_config st.InField fields field (44 ∷ u) ≡ next_record default_config st.StartField (fields ++ field ∷ []) [] u
 unfolding next_record
 comma fields field u = refl
@@ -102,7 +102,7 @@ unfolding next_record
 then-are lines last p q = (st.StartRecord, [], then-reached lines last p q, refl)
 
 -- a text of ASCII has no byte order mark
-strip-first : (b : ℕ) (rest : List ℕ) → (b == 239) ≡ false → strip_bom (b ∷ rest) ≡ b ∷ rest
+pub strip-first : (b : ℕ) (rest : List ℕ) → (b == 239) ≡ false → strip_bom (b ∷ rest) ≡ b ∷ rest
 unfolding strip_bom
 strip-first b [] n = refl
 strip-first b (c ∷ []) n = refl

@@ -33,7 +33,7 @@ same-turns cfg (suc n) (suc m) s xs good few low =
     go (Some q) is more = ap (λ rows. q.0 ∷ rows) (more q is)
 
 -- the first record, and then those after it
-first-row : (s : State) (xs : List ℕ) (q : Read) → ends_at_end s ≡ false → next_record default_config s [] [] xs ≡ Some q
+pub first-row : (s : State) (xs : List ℕ) (q : Read) → ends_at_end s ≡ false → next_record default_config s [] [] xs ≡ Some q
     → rows_of s (Some xs) ≡ q.0 ∷ rows_of q.1 (Some q.2)
 unfolding records_from
 first-row s xs q good is =
@@ -41,7 +41,7 @@ first-row s xs q good is =
     let same = same-turns default_config (length xs) (length q.2 + 1) q.1 q.2 (good-after default_config s [] [] xs q is) fewer (omega arith) in
     rw (add-one, is) (ap (λ rows. q.0 ∷ rows) same)
 
-no-row : (s : State) (xs : List ℕ) → next_record default_config s [] [] xs ≡ None → rows_of s (Some xs) ≡ []
+pub no-row : (s : State) (xs : List ℕ) → next_record default_config s [] [] xs ≡ None → rows_of s (Some xs) ≡ []
 unfolding records_from
 no-row s xs is = rw (add-one, is) refl
 

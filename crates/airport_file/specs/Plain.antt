@@ -1,5 +1,5 @@
 -- The records of a text of plain lines.
-use Rattle.std.specs.Prelude.{◌≡◌, ◌<◌, ◌++◌, ◌==◌, ℕ, List, [], ◌∷◌, if◌then◌else◌, false}
+use Rattle.std.specs.Prelude.{◌≡◌, ◌<◌, ◌++◌, ◌==◌, ◌||◌, ℕ, Bool, List, [], ◌∷◌, if◌then◌else◌, false}
 
 -- a line split at its commas, with the bytes so far of the field at hand
 abbrev pub split_from : List ℕ → List ℕ → List (List ℕ)
@@ -26,3 +26,7 @@ ArePlainLines (l ∷ ls) = IsPlainLine l × ArePlainLines ls
 abbrev pub text_of_lines : List (List ℕ) → List ℕ
 text_of_lines [] = []
 text_of_lines (l ∷ ls) = l ++ (10 ∷ text_of_lines ls)
+
+-- a comma, LF, CR or double quote
+abbrev pub is_mark : ℕ → Bool
+is_mark b = b == 44 || b == 10 || b == 13 || b == 34

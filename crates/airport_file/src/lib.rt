@@ -4,6 +4,7 @@
 mod airport;
 mod build;
 mod laws;
+mod lines;
 mod read;
 mod records;
 

@@ -1,15 +1,17 @@
 //! Reading an airport file.
-ghost use Rattle.std.specs.Prelude.{◌≡◌, ◌+◌, ◌≤◌, ◌<◌, ◌∷◌, [], Some, None, Ok, Err, length, IfOk, bytes_eq, codes, if◌then◌else◌};
+ghost use Rattle.std.specs.Prelude.{◌≡◌, ◌+◌, ◌≤◌, ◌<◌, ◌∷◌, [], Some, None, Ok, Err, true, length, IfOk, IfSome, bytes_eq, codes, if◌then◌else◌};
 ghost use Rattle.csv.specs.Records.{fields_of};
 ghost use Rattle.airport_rules.specs.Versions.{version_named};
 ghost use Rattle.airport_rules.specs.Plan.{empty_plan};
 ghost use Rattle.airport_rules.specs.Rules.{judge};
 ghost use Rattle.airport_rules.specs.Judged.{Answers, texts_of};
-ghost use Rattle.airport_file.specs.Reading.{version_of, judged_after, airport_of};
+ghost use Rattle.airport_file.specs.Reading.{records_of, version_of, judged_after, airport_of};
 ghost use Rattle.airport_file.specs.Refused.{ForBad};
-ghost use Rattle.airport_file.specs.Rows.{IsReading, rows_left};
+ghost use Rattle.airport_file.specs.Rows.{IsReading, rows_of, rows_left};
+ghost use Rattle.csv.specs.declared.parser.State.TheVariants as st;
 
 use crate::build::build;
+use crate::lines::read_line;
 use crate::records::{MOST_FIELDS, fields_of, read_row, reader_of, short_fields};
 use crate::{Airport, AirportFault};
 use airport_rules::{NotTaken, Plan, Version, judge};
@@ -40,8 +42,82 @@ impl From<Memory> for AirportRefused {
 }
 
 /// The airport that the bytes of a file give. Each record is judged as it is read, and none is kept.
-#[tactic(auto, unfolding(crate::specs::Reading::airport_of))]
 pub fn read_airport(alloc: Global, bytes: &[u8]) -> Result<Airport, AirportRefused>
+    requires { length bytes.now ≤ 4194304 }
+    ensures ok { IfOk result (λ airport. airport_of bytes.now ≡ Ok airport) }
+    ensures bad { ForBad result (λ at why. airport_of bytes.now ≡ Err (record { at = at; why = why })) }
+{
+    if begins_as_file(bytes) {
+        if let Some(airport) = read_lines(alloc, bytes)? {
+            return Ok(airport);
+        }
+    }
+    read_records(alloc, bytes)
+}
+
+/// Whether a text begins with the letter that each airport file begins with, and so with no mark of the byte order.
+fn begins_as_file(bytes: &[u8]) -> bool
+    ensures { result ≡ true → records_of bytes.now ≡ rows_of st.StartRecord (Some bytes.now) }
+{
+    match bytes.first() {
+        Some(first) => *first == b't',
+        None => false,
+    }
+}
+
+/// The airport of a text of plain lines. None where a line is not plain.
+#[tactic(auto, unfolding(crate::specs::Reading::airport_of))]
+fn read_lines(alloc: Global, bytes: &[u8]) -> Result<Option<Airport>, AirportRefused>
+    requires few { length bytes.now ≤ 4194304 }
+    requires rows { records_of bytes.now ≡ rows_of st.StartRecord (Some bytes.now) }
+    ensures ok { IfOk result (λ found. IfSome found (λ airport. airport_of bytes.now ≡ Ok airport)) }
+    ensures bad { ForBad result (λ at why. airport_of bytes.now ≡ Err (record { at = at; why = why })) }
+{
+    let mut fields = Vec::new(alloc);
+    let Some(rest) = read_line(bytes, &mut fields)? else {
+        return Ok(None);
+    };
+    match version_in(fields.as_slice()) {
+        Some(version) => judge_lines(alloc, version, rest, &mut fields),
+        None => Err(bad(1, AirportFault::FirstRow)),
+    }
+}
+
+/// Judges the lines after the first, each against those before it.
+fn judge_lines<'a>(
+    alloc: Global,
+    version: Version,
+    text: &'a [u8],
+    fields: &mut Vec<&'a [u8]>,
+) -> Result<Option<Airport>, AirportRefused>
+    requires { length text.now ≤ 4194304 }
+    ensures ok { IfOk result (λ found. IfSome found (λ airport. judged_after version 1 empty_plan (rows_of st.StartRecord (Some text.now)) ≡ Ok airport)) }
+    ensures bad { ForBad result (λ at why. judged_after version 1 empty_plan (rows_of st.StartRecord (Some text.now)) ≡ Err (record { at = at; why = why })) }
+{
+    let mut plan = Plan::new(alloc);
+    let mut last: u32 = 1;
+    let mut rest = text;
+    'lines: while !rest.is_empty() {
+        let Some(behind) = read_line(rest, fields)? else {
+            return Ok(None);
+        };
+        rest = behind;
+        last += 1;
+        match judge(alloc, version, &mut plan, fields.as_slice()) {
+            Ok(()) => {}
+            Err(NotTaken::Fault(why)) => return Err(bad(last, why)),
+            Err(NotTaken::Memory) => return Err(AirportRefused::Memory),
+        }
+    }
+    match plan.horizon() {
+        Some(horizon) => Ok(Some(build(alloc, plan, horizon)?)),
+        None => Err(bad(last, AirportFault::NoHorizon)),
+    }
+}
+
+/// The airport of any text.
+#[tactic(auto, unfolding(crate::specs::Reading::airport_of))]
+fn read_records(alloc: Global, bytes: &[u8]) -> Result<Airport, AirportRefused>
     requires { length bytes.now ≤ 4194304 }
     ensures ok { IfOk result (λ airport. airport_of bytes.now ≡ Ok airport) }
     ensures bad { ForBad result (λ at why. airport_of bytes.now ≡ Err (record { at = at; why = why })) }
@@ -69,9 +145,15 @@ fn version_of(alloc: Global, row: &ByteRecord) -> Result<Option<Version>, Memory
     ensures { IfOk result (λ version. version ≡ version_of (fields_of row.now)) }
 {
     let fields = fields_of(alloc, row)?;
-    match fields.as_slice() {
-        [word, number] => Ok(version_by(word, number)),
-        _ => Ok(None),
+    Ok(version_in(fields.as_slice()))
+}
+
+fn version_in(fields: &[&[u8]]) -> Option<Version>
+    ensures { result ≡ version_of (texts_of fields.now) }
+{
+    match fields {
+        [word, number] => version_by(word, number),
+        _ => None,
     }
 }
 

@@ -2,6 +2,7 @@ pub mod NumberLaws
 pub mod PlaceLaws
 pub mod CountLaws
 pub mod PairLaws
+pub mod TimeLaws
 pub mod ArcLaws
 pub mod AirportViews
 pub mod MemberLaws

@@ -6,15 +6,12 @@ use Rattle.std.specs.List.{list_any}
 use Rattle.std.specs.Ordering.{is_eq, is_lt, match_ordering}
 use Rattle.std.specs.BTreeMap.{is_at}
 use Rattle.std.specs.BTreeSet.{insert_key}
-use Rattle.std.specs.HashSet.{HashSet, Updates}
 use Rattle.std.specs.declared.cmp.Ordering.{Ordering}
 use Rattle.std.specs.declared.cmp.Ordering.TheVariants.{Less, Equal, Greater}
 use Rattle.std.proofs.lemmas.Bool.Decides.{nat_tests}
-use Rattle.std.proofs.lemmas.List.Folds.{list_any-append}
 use Rattle.taxi_base.specs.Airport.{pair_precedes, is_forbidden}
-use Rattle.airport_rules.specs.declared.rows.TimeRow.{TimeRow}
 use Rattle.airport_rules.specs.Rules.{with_pair}
-use Rattle.airport_rules.specs.Indexed.{pair_cmp, arcs_of_pair, time_key, AreTimed}
+use Rattle.airport_rules.specs.Indexed.{pair_cmp, arcs_of_pair}
 
 pub pair-equal : (x y a b : ℕ) → is_eq (pair_cmp (x, y) (a, b)) ≡ (a == x && b == y)
 pair-equal x y a b = grind (arith, nat_tests)
@@ -43,16 +40,3 @@ insert-arcs x y [] none = refl
 insert-arcs x y (k ∷ keys) none =
     let parts = or_parts (k.0 == x && k.1 == y) (is_forbidden (map arcs_of_pair keys) (record { 0 = x }) (record { 0 = y })) none in
     insert-arcs_by x y k keys (pair_cmp (x, y) k) refl (pair-equal x y k.0 k.1 ∙ parts.0) (insert-arcs x y keys parts.1)
-
--- two keys are equal where their segments and classes are
-same-key : (a b c d : ℕ) → b < 4294967296 → d < 4294967296 → nat_eq (a * 4294967296 + b) (c * 4294967296 + d) ≡ (a == c && b == d)
-same-key a b c d low small = grind (arith, nat_tests, low, small)
-
--- one more time
-pub AreTimed-push : {S : Type 0} (times : List TimeRow) (timed added : HashSet ℕ S) (row : TimeRow) → row.class.0 < 4294967296 → AreTimed times timed
-    → Updates nat_eq timed added (time_key row.segment row.class) true → AreTimed (times ++ row ∷ []) added
-AreTimed-push times timed added row small old updates segment class low =
-    let equal = same-key row.segment.0 row.class.0 segment.0 class.0 small low in
-    let before = old segment class low in
-    let appended = list_any-append (λ (t : TimeRow). t.segment.0 == segment.0 && t.class.0 == class.0) times (row ∷ []) in
-    updates.0 (time_key segment class) ∙ rw (appended, equal, before) (grind (arith, nat_tests))

@@ -1,8 +1,7 @@
 -- What a plan keeps beside its rows, to find things at once.
-use Rattle.std.specs.Prelude.{ℕ, ◌≡◌, ◌<◌, ◌+◌, ◌*◌, List, length, slice_index, nat_eq, All}
+use Rattle.std.specs.Prelude.{ℕ, ◌≡◌, ◌<◌, ◌+◌, ◌*◌, List, length, slice_index, get_or, Bool, false, All}
 use Rattle.std.specs.declared.cmp.Ordering.{Ordering}
 use Rattle.std.specs.Ordering.{nat_cmp, ordering_then}
-use Rattle.std.specs.HashSet.{HashSet, contains}
 use Rattle.taxi_base.specs.declared.numbers.Segment.{Segment}
 use Rattle.taxi_base.specs.declared.numbers.Arc.{Arc}
 use Rattle.taxi_base.specs.declared.numbers.Class.{Class}
@@ -27,10 +26,10 @@ pub record AreCounted (nodes : ℕ) (links : List Link) (ends : List ℕ) : Type
   pub each : length ends ≡ nodes
   pub count : (k : ℕ) → k < length ends → slice_index ends k ≡ link_ends (record { 0 = k }) links
 
--- a segment and a class as one number
-abbrev pub time_key : Segment → Class → ℕ
-time_key segment class = segment.0 * 4294967296 + class.0
+-- where it stands whether a class has a time on a segment, of which there are at most 10,000
+abbrev pub time_place : Segment → Class → ℕ
+time_place segment class = class.0 * 10000 + segment.0
 
--- the segments and classes that have a time are in the set
-abbrev pub AreTimed : {S : Type 0} → List TimeRow → HashSet ℕ S → Type 0
-AreTimed times timed = (segment : Segment) (class : Class) → class.0 < 4294967296 → contains nat_eq timed (time_key segment class) ≡ is_timed segment class times
+-- it is kept which segments and classes have a time, with none for what was never asked for
+abbrev pub AreTimed : List TimeRow → List Bool → Type 0
+AreTimed times timed = (segment : Segment) (class : Class) → segment.0 < 10000 → get_or timed (time_place segment class) false ≡ is_timed segment class times

@@ -215,11 +215,8 @@ pub(crate) fn judge_seconds(
         class: Class(class),
         seconds,
     };
-    refused(
-        AirportFault::RowTwice,
-        plan.is_timed(row.segment, row.class),
-    )?;
-    plan.add_time(&row)?;
+    let added = plan.add_time(&row)?;
+    refused(AirportFault::RowTwice, !added)?;
     Ok(())
 }
 

@@ -3,16 +3,16 @@
 //! The rows stand in the order of the file. Beside them are the indexes by which names, times and forbidden turns are
 //! found, and the number of segment ends at each node. Each call that wants memory asks for it first, and changes
 //! nothing where it gets none.
-ghost use Rattle.std.specs.Prelude.{◌≡◌, ◌<◌, ◌≤◌, ◌++◌, ◌∷◌, [], ℕ, length, None, Some, Bool, false, true, OnOk, OnErr, IfOk, option_map, map};
+ghost use Rattle.std.specs.Prelude.{◌≡◌, ◌<◌, ◌≤◌, ◌++◌, ◌∷◌, [], ℕ, length, None, Some, Bool, false, true, not, if◌then◌else◌, OnOk, OnErr, IfOk, option_map, map};
 ghost use Rattle.taxi_base.specs.Airport.{place_of, ends, arc_exists, is_forbidden};
 ghost use Rattle.airport_rules.specs.Plan.{empty_plan, layout_of_plan};
 ghost use Rattle.airport_rules.specs.Rules.{is_crowded, is_timed, has_clearance, goes_on, with_pair};
-ghost use Rattle.airport_rules.specs.Indexed.{link_of_way, time_key};
+ghost use Rattle.airport_rules.specs.Indexed.{link_of_way, time_place};
 
 use crate::name_list::NameList;
 use crate::{ClearanceRow, Taxiway, TimeRow};
 use std::alloc::Global;
-use std::collections::{BTreeSet, HashSet};
+use std::collections::BTreeSet;
 use std::marker::Model;
 use taxi_base::{Arc, Class, Kind, List, Memory, Name, Node, Segment, Time};
 
@@ -28,8 +28,8 @@ pub struct Plan {
     segments: NameList,
     ways: Vec<Taxiway>,
     times: Vec<TimeRow>,
-    // The segment and the class of each time, as one number.
-    timed: HashSet<u64>,
+    // Whether each class has a time on each of 10,000 segments, for the classes up to the last that has any.
+    timed: Vec<bool>,
     clearances: Vec<ClearanceRow>,
     // The numbers of the arcs of each forbidden turn.
     forbidden: BTreeSet<(u32, u32)>,
@@ -46,7 +46,7 @@ impl Model for Plan {
 
     ghost view = { λ p. record { horizon = p.horizon; nodes = p.nodes; kinds = p.kinds.items; classes = p.classes; segments = p.segments; links = map link_of_way p.ways.items; times = p.times.items; clearances = p.clearances.items; forbidden = map arcs_of_pair p.forbidden.keys; conflicts = p.conflicts.items } };
 
-    ghost invariant = { λ p. AreCounted (length p.nodes) (map link_of_way p.ways.items) p.ends.items × AreTimed p.times.items p.timed };
+    ghost invariant = { λ p. AreCounted (length p.nodes) (map link_of_way p.ways.items) p.ends.items × AreTimed p.times.items p.timed.items };
 }
 
 impl Plan {
@@ -63,7 +63,7 @@ impl Plan {
             segments: NameList::new(alloc),
             ways: Vec::new(alloc),
             times: Vec::new(alloc),
-            timed: HashSet::new(alloc),
+            timed: Vec::new(alloc),
             clearances: Vec::new(alloc),
             forbidden: BTreeSet::new(alloc),
             conflicts: Vec::new(alloc),
@@ -180,22 +180,24 @@ impl Plan {
         Ok(())
     }
 
-    /// Whether the class has a time on the segment.
-    pub fn is_timed(&self, segment: Segment, class: Class) -> bool
-        ensures { result ≡ is_timed segment class self.now.times }
-    {
-        self.timed.contains(&time_key(segment, class))
-    }
-
-    /// One more least time.
-    pub fn add_time(&mut self, row: &TimeRow) -> Result<(), Memory>
-        ensures ok { OnOk result (self.new ≡ record self.old { times = self.old.times ++ row.now ∷ [] }) }
+    /// One more least time, and whether the class had none on the segment before; else the plan stays as it is.
+    pub fn add_time(&mut self, row: &TimeRow) -> Result<bool, Memory>
+        requires few { row.now.segment.0 < 10000 }
+        ensures added { IfOk result (λ added. is_timed row.now.segment row.now.class self.old.times ≡ not added) }
+        ensures ok { IfOk result (λ added. self.new ≡ (if added then record self.old { times = self.old.times ++ row.now ∷ [] } else self.old)) }
         ensures err { OnErr result (self.new ≡ self.old) }
     {
-        self.times.reserve(1)?;
-        self.timed.insert(time_key(row.segment, row.class))?;
-        self.times.push_reserved(*row);
-        Ok(())
+        let at = time_place(row.segment, row.class);
+        if at >= self.timed.len() {
+            self.timed
+                .resize((row.class.0 as usize + 1) * MOST_SEGMENTS, false)?;
+        }
+        if self.timed[at] {
+            return Ok(false);
+        }
+        self.times.push(*row)?;
+        self.timed[at] = true;
+        Ok(true)
     }
 
     /// The clearances that were given, in the order of the file.
@@ -306,10 +308,11 @@ impl Plan {
 
 const MOST_ENDS: u32 = 32;
 
-/// A segment and a class as one number.
-fn time_key(segment: Segment, class: Class) -> u64
-    ensures key { result ≡ time_key segment class }
-    ensures small { class.0 < 4294967296 }
+const MOST_SEGMENTS: usize = 10_000;
+
+/// Where it stands whether a class has a time on a segment.
+fn time_place(segment: Segment, class: Class) -> usize
+    ensures { result ≡ time_place segment class }
 {
-    segment.0 as u64 * 4_294_967_296 + class.0 as u64
+    class.0 as usize * MOST_SEGMENTS + segment.0 as usize
 }
