@@ -1,5 +1,5 @@
 -- The marks of cells, as labels come and go.
-use Rattle.std.proofs.Common.{◌≡◌, ◌≢◌, ℕ, ◌+◌, ◌*◌, ◌/◌, ◌%◌, ◌^◌, ◌<◌, ◌≤◌, ◌⊎◌, List, length, set, get_or, replicate, Option, Some, None, refl, sym, ap, ◌∙◌, inl, inr, arith, w64}
+use Rattle.std.proofs.Common.{◌≡◌, ◌≢◌, ℕ, ◌+◌, ◌*◌, ◌/◌, ◌%◌, ◌^◌, ◌<◌, ◌≤◌, ◌⊎◌, List, length, set, get_or, replicate, min, Option, Some, None, refl, sym, ap, ◌∙◌, inl, inr, arith, w64}
 use Rattle.std.specs.Int.{bit_at, bit_not}
 use Rattle.std.specs.Prelude.{bit_and, bit_or}
 use Rattle.std.proofs.lemmas.Bool.{cases_eq, cases_lt}
@@ -150,9 +150,21 @@ module _ (known₀ known : List (Option Label)) (groups₀ groups : List ℕ) (g
             | inr one ↦ taken (c % 64) (omega arith) one
           ]
 
-  pub taken_all : length groups ≤ group → length groups₀ ≡ length known₀ / 64 + 1 → (c : ℕ) → label_of known c ≡ None
-  taken_all over counted c =
-      elim (cases_lt c (length known)) [
-        | inl on ↦ so_far.marked.others c (ap (λ word. bit_at word (c % 64)) (so_far.done (c / 64) (omega (arith, on, over, counted, so_far.same_length, so_far.as_many))) ∙ bit_at-zero (c % 64))
-        | inr past ↦ get_or_past known c None past
+  -- where only cells below a count had a label, none has one once the groups of these are done
+  pub taken_below : (count : ℕ) → min (length groups) (count / 64 + 1) ≤ group → length groups₀ ≡ length known₀ / 64 + 1
+      → ((c : ℕ) → group * 64 ≤ c → label_of known c ≡ label_of known₀ c) → ((c : ℕ) (label : Label) → label_of known₀ c ≡ Some label → c < count)
+      → (c : ℕ) → label_of known c ≡ None
+  taken_below count over counted rest inside c =
+      elim (cases_lt (c / 64) group) [
+        | inl before ↦ so_far.marked.others c (ap (λ word. bit_at word (c % 64)) (so_far.done (c / 64) before) ∙ bit_at-zero (c % 64))
+        | inr past ↦ elim (cases_lt c (length known)) [
+          | inl on ↦ none on past (label_of known c) refl
+          | inr out ↦ get_or_past known c None out
+        ]
       ]
+    where
+      none : c < length known → group ≤ c / 64 → (o : Option Label) → label_of known c ≡ o → label_of known c ≡ None
+      none on past None is = is
+      none on past (Some label) is =
+          absurd (let below : c < count = inside c label (sym (rest c (omega (arith, past))) ∙ is) in
+          omega (arith, on, past, below, over, counted, so_far.same_length, so_far.as_many))

@@ -1,5 +1,6 @@
 //! What is known of a cell: its label, if it has one.
 ghost use Rattle.std.specs.Prelude.{◌≡◌, ◌<◌, ◌^◌, ◌↔◌, Some, None, IsTrue, IfSome};
+ghost use Rattle.label_search.specs.Values.{value_kept};
 
 use crate::labels::Label;
 use std::marker::Model;
@@ -61,6 +62,17 @@ impl Known {
                 value: self.value,
                 via: self.via as usize,
             })
+        }
+    }
+
+    /// The value of the label, if there is one and it is below the bound, if there is a bound. One comparison tells both.
+    pub(crate) fn value_below(self, bound: Option<u32>) -> Option<u32>
+        ensures { result ≡ value_kept bound self }
+    {
+        if self.value < bound.unwrap_or(u32::MAX) {
+            Some(self.value)
+        } else {
+            None
         }
     }
 

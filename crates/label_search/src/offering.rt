@@ -2,7 +2,7 @@
 ghost use Rattle.std.specs.Prelude.{◌≡◌, ◌<◌, ◌^◌, ℕ, length, map, replicate, Some, None, IfOk, OnOk, slice_set};
 ghost use Rattle.label_queue.specs.Keys.{key_of};
 ghost use Rattle.label_search.specs.declared.labels.Label.{Label as KnownLabel};
-ghost use Rattle.label_search.specs.Problem.{MayComeTo};
+ghost use Rattle.label_search.specs.Problem.{IsProblem, MayComeTo};
 ghost use Rattle.label_search.specs.Labels.{IsImproved, standing, label_of};
 ghost use Rattle.label_search.specs.Expanding.{HasRoom};
 ghost use Rattle.label_search.specs.Values.{rows_from, values_kept};
@@ -102,6 +102,7 @@ impl Labels {
         cells: &C,
         bound: Option<u32>,
     ) -> Result<List<C::Told>, Memory>
+        requires sound { IsProblem (C.problem cells.now) }
         requires come_to { (c : ℕ) (label : KnownLabel) → label_of self.old.known.items c ≡ Some label → MayComeTo (C.problem cells.now) c }
         ensures { IfOk result (λ rows. rows ≡ map (C.told cells.now) (rows_from 0 (values_kept bound self.old.known.items))) }
     {

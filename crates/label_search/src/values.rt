@@ -2,7 +2,7 @@
 ghost use Rattle.std.specs.Prelude.{◌≡◌, ℕ, ◌+◌, ◌/◌, ◌<◌, ◌≤◌, List, [], min, length, map, slice_set, Option, None, Some, OnOk};
 ghost use Rattle.std.specs.Int.{bit_at};
 ghost use Rattle.label_search.specs.declared.labels.Label.{Label as KnownLabel};
-ghost use Rattle.label_search.specs.Problem.{MayComeTo};
+ghost use Rattle.label_search.specs.Problem.{IsProblem, MayComeTo};
 ghost use Rattle.label_search.specs.Labels.{label_of};
 ghost use Rattle.label_search.specs.Groups.{AreMarked, HaveNothing};
 ghost use Rattle.label_search.specs.Values.{rows_from, value_kept, values_kept, AreAsBeforeFrom, AreRowsTo};
@@ -10,7 +10,6 @@ ghost use Rattle.label_search.specs.Values.{rows_from, value_kept, values_kept, 
 use crate::cells::ForwardCells;
 use crate::groups::GROUP;
 use crate::known::Known;
-use crate::labels::Label;
 use std::alloc::Global;
 use taxi_base::{List, Memory};
 
@@ -21,24 +20,13 @@ pub struct CellValue {
     pub value: u32,
 }
 
-/// The label's value, if there is a label and its value is below the bound, if there is a bound.
-fn value_below(bound: Option<u32>, known: Option<Label>) -> Option<u32>
-    ensures { result ≡ value_kept bound known }
-{
-    match (known, bound) {
-        (None, _) => None,
-        (Some(label), Some(bound)) if bound <= label.value => None,
-        (Some(label), _) => Some(label.value),
-    }
-}
-
 /// Takes the label of a cell away.
-fn take_label(known: &mut [Known], cell: usize) -> Option<Label>
+fn take_label(known: &mut [Known], cell: usize) -> Known
     requires { cell < length known.old }
     ensures label { result ≡ label_of known.old cell }
     ensures taken { known.new ≡ slice_set known.old cell None }
 {
-    let label = known[cell].get();
+    let label = known[cell];
     known[cell] = Known::none();
     label
 }
@@ -51,6 +39,7 @@ pub(crate) fn take_marked<C: ForwardCells>(
     groups: &mut [u64],
     bound: Option<u32>,
 ) -> Result<(), Memory>
+    requires sound { IsProblem (C.problem cells.now) }
     requires come_to { (c : ℕ) (label : KnownLabel) → label_of known.old c ≡ Some label → MayComeTo (C.problem cells.now) c }
     requires none_yet { rows.old ≡ [] }
     requires counted { length groups.old ≡ length known.old / 64 + 1 }
@@ -61,7 +50,9 @@ pub(crate) fn take_marked<C: ForwardCells>(
     ensures taken { OnOk result (HaveNothing known.new) }
     ensures rows { OnOk result (rows.new ≡ map (C.told cells.now) (rows_from 0 (values_kept bound known.old))) }
 {
-    for group in 0..groups.len() {
+    // There may be room for more cells than there are.
+    let until = groups.len().min(cells.count() / GROUP + 1);
+    for group in 0..until {
         let marks = groups[group];
         if marks != 0 {
             take_group(cells, rows, known, bound, group * GROUP, marks)?;
@@ -97,7 +88,7 @@ fn take_group<C: ForwardCells>(
         let lowest = left.trailing_zeros();
         left &= !(1u64 << lowest);
         let cell = first + lowest as usize;
-        if let Some(value) = value_below(bound, take_label(known, cell)) {
+        if let Some(value) = take_label(known, cell).value_below(bound) {
             rows.push(cells.tell(CellValue { cell, value }))?;
         }
     }

@@ -10,6 +10,7 @@ use Rattle.label_search.proofs.forward.search_cells.Goals as goal
 
 pub take_rows-requires : goal.take_rows-requires
 take_rows-requires g c = record {
+  sound = c.requires.sound;
   come_to = λ d label is. traced_come_to (g.C.ForwardCells.problem c.args.cells.now) (SettledValue (standing c.settle-goal.new.labels) c.settle-goal.ensures.settled) d label (c.settle-goal.ensures.traced d label is);
 }
 

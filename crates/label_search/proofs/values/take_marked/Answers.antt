@@ -1,19 +1,41 @@
-use Rattle.std.proofs.Common.{◌≡◌, ℕ, None, ◌-◌, ◌+◌, ◌*◌, ◌<◌, ◌≤◌, length, map, take, min, sym, ap, ◌∙◌, arith}
+use Rattle.std.proofs.Common.{◌≡◌, ℕ, List, Option, None, ◌-◌, ◌+◌, ◌*◌, ◌<◌, ◌≤◌, length, map, take, min, sym, ap, ◌∙◌, arith}
 use Rattle.std.specs.Int.{bit_at}
-use Rattle.std.proofs.lemmas.List.{length-map}
+use Rattle.std.proofs.lemmas.List.{length-map, take_all}
 use Rattle.std.proofs.lemmas.Nat.Bits.{bit_at-zero}
 use Rattle.label_search.specs.Labels.{label_of}
 use Rattle.label_search.specs.Groups.{bits_of_group}
 use Rattle.label_search.specs.Values.{rows_from, value_kept, values_kept}
-use Rattle.label_search.proofs.GroupLaws.{unmarked, marked_inside, taken_past, taken_more, taken_all}
+use Rattle.label_search.proofs.GroupLaws.{unmarked, marked_inside, taken_past, taken_more, taken_below}
+use Rattle.label_search.proofs.Steps.{come_to_inside}
 use Rattle.label_search.proofs.ValueLaws.{rows_skip, none_kept}
 use Rattle.label_search.proofs.values.take_marked.Goals as goal
 use Rattle.label_search.proofs.values.take_marked.Goals.{then-marks-ne0+in_ok-take_group, else-marks-ne0}
 
 pub returns-clause-taken : goal.returns-clause-taken
 returns-clause-taken g c =
-    taken_all c.args.known.now c.loop-group.known c.args.groups.now c.loop-group.groups c.loop-group.group c.loop-group.invariant.taken
-    (omega (arith, c.loop-group-test.false, c.loop-group.invariant.taken.as_many)) c.requires.counted
+    let p = g.C.ForwardCells.problem c.args.cells.now in
+    let so_far = c.loop-group.invariant.taken in
+    taken_below c.args.known.now c.loop-group.known c.args.groups.now c.loop-group.groups c.loop-group.group so_far p.count
+    (omega (arith, c.loop-group-test.false, c.count.ensures, so_far.as_many)) c.requires.counted c.loop-group.invariant.rest
+    (λ x label is. come_to_inside p c.requires.sound x (c.requires.come_to x label is))
+
+pub returns-clause-rows : goal.returns-clause-rows
+returns-clause-rows g c =
+    let p = g.C.ForwardCells.problem c.args.cells.now in
+    let known = c.args.known.now in
+    let group = c.loop-group.group in
+    let so_far = c.loop-group.invariant.taken in
+    let rest = c.loop-group.invariant.rest in
+    let values : List (Option ℕ) = values_kept c.args.bound known in
+    let long : length values ≡ length known = length-map known (value_kept c.args.bound) in
+    let none = taken_below known c.loop-group.known c.args.groups.now c.loop-group.groups group so_far p.count
+    (omega (arith, c.loop-group-test.false, c.count.ensures, so_far.as_many)) c.requires.counted rest
+    (λ x label is. come_to_inside p c.requires.sound x (c.requires.come_to x label is)) in
+    c.loop-group.invariant.rows
+    ∙ ap (map (g.C.ForwardCells.told c.args.cells.now))
+    (sym (rows_skip values (min (group * 64) (length known)) (length known) (omega arith) (omega (arith, long))
+    (λ x from less. none_kept c.args.bound known x (sym (rest x (omega (arith, from, less))) ∙ none x)))
+    ∙ ap (rows_from 0) (take_all (length known) values (omega (arith, long))))
 
 pub take_group-requires-clause-inside : goal.take_group-requires-clause-inside
 take_group-requires-clause-inside g c =
