@@ -205,3 +205,15 @@ module _ (last : ℕ) (bytes : List ℕ) (separates : IsSeparator last) where
     go false false at next e =
         let value : number ≡ worth_of_six bytes = ap (λ (p : ℕ × ℕ). p.0) e ∙ six in
         ended 6 _ (omega arith) (omega arith) (six-digits (omega (arith, value, small))) value (ap (λ (p : ℕ × ℕ). p.1) e)
+
+  pub five-number : (front : List ℕ) (number : ℕ) → front ≡ take 6 bytes → number ≡ worth_of_five front → get_or front 0 0 ≢ 48 → number < 1000000 → get_or front 5 0 ≡ last
+      → field_at number_of last bytes ≡ Some (number, drop 6 bytes)
+  five-number front number is worths led small here =
+      rw value (digits-end 5 _ (omega arith) (omega arith) (five-digits (omega (arith, value, small))) (λ e. led (same 0 (omega arith) ∙ e)) (sym (same 5 (omega arith)) ∙ here)) where
+        same : (k : ℕ) → k < 6 → get_or front k 0 ≡ get_or bytes k 0
+        same k low = ap (λ l. get_or l k 0) is ∙ get_or-take 6 bytes k 0 low
+
+        value : number ≡ worth_of_five bytes
+        value =
+            worths
+            ∙ omega (arith, ap worth (same 0 (omega arith)), ap worth (same 1 (omega arith)), ap worth (same 2 (omega arith)), ap worth (same 3 (omega arith)), ap worth (same 4 (omega arith)))

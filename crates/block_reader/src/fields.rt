@@ -2,7 +2,7 @@
 ghost use Rattle.std.specs.Prelude.{◌≡◌, ◌<◌, ◌≤◌, ◌^◌, ◌*◌, ◌==◌, bytes_eq, IfSome, Some, length, position};
 ghost use Rattle.taxi_text.specs.Fields.{name_of};
 ghost use Rattle.block_reader.specs.Fields.{digits_of, decimal_of, number_of, count_of, some_count_of, batch_count_of, total_of, step_number_of, kind_of, class_of_word, segment_of_word};
-ghost use Rattle.block_reader.specs.Fronts.{IsSeparator, IsFrontOf, worth, front_number};
+ghost use Rattle.block_reader.specs.Fronts.{IsSeparator, IsFrontOf, worth, worth_of_five, front_number};
 ghost use Rattle.block_reader.specs.Reading.{behind, begins_with, word_at, field_at, Finds};
 
 use airport_file::Airport;
@@ -161,9 +161,60 @@ pub(crate) fn start_field(bytes: &[u8]) -> Option<(Time, &[u8])>
     second_field(b' ', bytes)
 }
 
-/// A number before a blank or a line feed. Most seconds of a day have four or five digits, and most of a week six. They take no loop.
+/// The second until which a label holds, and a blank. For most labels it is the end of a day.
+#[inline(always)]
+pub(crate) fn end_field(bytes: &[u8]) -> Option<(Time, &[u8])>
+    ensures { Finds (λ x. (x.0, x.1.now)) result (field_at number_of 32 bytes.now) }
+{
+    if let Some(rest) = behind(b"86400 ", bytes) {
+        return Some((86400, rest));
+    }
+    second_field(b' ', bytes)
+}
+
+/// A number before a blank or a line feed. Most seconds of a day have five digits, so these are tried first.
 #[inline(always)]
 pub(crate) fn second_field(last: u8, bytes: &[u8]) -> Option<(Time, &[u8])>
+    requires { IsSeparator last }
+    ensures { Finds (λ x. (x.0, x.1.now)) result (field_at number_of last bytes.now) }
+{
+    if let Some(found) = five_field(last, bytes) {
+        return Some(found);
+    }
+    short_field(last, bytes)
+}
+
+// A number of five digits.
+#[inline(always)]
+fn five_field(last: u8, bytes: &[u8]) -> Option<(Time, &[u8])>
+    requires { IsSeparator last }
+    ensures { IfSome result (λ x. field_at number_of last bytes.now ≡ Some (x.0, x.1.now)) }
+{
+    let front = bytes.first_chunk::<6>()?;
+    if front[5] == last && front[0] != b'0' {
+        let number = worth_of_five(front);
+        if number < NO {
+            return Some((number as Time, &bytes[6..]));
+        }
+    }
+    None
+}
+
+// What the first five bytes are worth together.
+#[inline(always)]
+fn worth_of_five(front: &[u8; 6]) -> u64
+    ensures { result ≡ worth_of_five front.now }
+{
+    worth(front[0]) * 10_000
+        + worth(front[1]) * 1_000
+        + worth(front[2]) * 100
+        + worth(front[3]) * 10
+        + worth(front[4])
+}
+
+// The same where the number may have any digits. Most have four, and most of a week six. They take no loop.
+#[inline(always)]
+fn short_field(last: u8, bytes: &[u8]) -> Option<(Time, &[u8])>
     requires { IsSeparator last }
     ensures { Finds (λ x. (x.0, x.1.now)) result (field_at number_of last bytes.now) }
 {

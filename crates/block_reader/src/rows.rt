@@ -6,11 +6,13 @@ ghost use Rattle.block_reader.specs.Blocks.{step_at, label_at, window_at, held_a
 
 use crate::arcs::{label_arc, step_arc};
 use crate::fields::{
-    behind, class_field, kind_field, name_field, second_field, segment_field, start_field,
+    behind, class_field, end_field, kind_field, name_field, second_field, segment_field,
+    start_field,
 };
 use crate::refused::BlockRefused;
 use airport_file::Airport;
 use std::alloc::Global;
+use std::cmp::min;
 use taxi_base::{Arc, FlightRow, HeldRow, LabelRow, List, Span, Step};
 
 /// What is written as one line.
@@ -51,7 +53,7 @@ impl Row for LabelRow {
         let rest = behind(b"label ", bytes)?;
         let (arc, rest) = label_arc(airport, near, rest)?;
         let (from, rest) = start_field(rest)?;
-        let (until, rest) = second_field(b' ', rest)?;
+        let (until, rest) = end_field(rest)?;
         let (value, rest) = second_field(b'\n', rest)?;
         let row = LabelRow {
             arc,
@@ -138,7 +140,10 @@ impl Row for FlightRow {
     }
 }
 
-/// So many rows. Room is taken for each only once it is read.
+// Room for so many rows may be taken before they are read: a count may be wrong in any way.
+const AT_ONCE: u64 = 512;
+
+/// So many rows. Room for the first of them is taken at once, and for each other only once it is read.
 pub(crate) fn read_rows<'a, R: Row>(
     alloc: Global,
     airport: &Airport,
@@ -147,7 +152,7 @@ pub(crate) fn read_rows<'a, R: Row>(
 ) -> Result<(List<R>, &'a [u8]), BlockRefused>
     ensures { IsRead (λ x. (x.0, x.1.now)) result (rows_at (R.row_at airport.now) count bytes.now) }
 {
-    let mut rows = List::new(alloc);
+    let mut rows = List::with_capacity(alloc, min(count, AT_ONCE) as usize)?;
     let mut rest = bytes;
     let mut near = Arc(0);
     for _ in 0..count {

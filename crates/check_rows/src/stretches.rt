@@ -6,6 +6,7 @@ ghost use Rattle.taxi_base.specs.Walks.{conditions_among, free_among};
 ghost use Rattle.walk_labels.specs.Places.{IsPlace, place_of};
 ghost use Rattle.table_rows.specs.Rows.{AreOrdered};
 ghost use Rattle.check_rows.specs.Known.{AreKnown};
+ghost use Rattle.check_rows.specs.Comes.{conditions_at};
 ghost use Rattle.table_rows.specs.HasRows.{HasEach};
 ghost use Rattle.table_rows.specs.Reached.{IsReachedAt};
 ghost use Rattle.table_rows.specs.Served.{AreServed};
@@ -44,6 +45,9 @@ pub fn arcs_are_served<H: HoldsOf>(
     ensures closed { IfOk result (λ yes. IsTrue yes ↔ All (λ arc. HasEach reach.way (IsReachedAt (conditions_among airport.now class (H.held holds.now)) reach arc) table.now.bound table.now.rows.now) arcs.now) }
 {
     for arc in arcs {
+        if first_row_serves(airport, class, table, reach, *arc) {
+            continue;
+        }
         if served.holds(reach, *arc) {
             continue;
         }
@@ -86,6 +90,23 @@ fn arc_is_served<H: HoldsOf>(
         served.keep(reach, arc);
     }
     Ok(closed)
+}
+
+/// Whether the first row noted of an arc is as good as each label of it that is reached in time.
+#[inline(always)]
+fn first_row_serves(
+    airport: &Airport,
+    class: Class,
+    table: &Table<'_>,
+    reach: Reach,
+    arc: Arc,
+) -> bool
+    ensures { (free : Segment → ℕ → Bool) → All (λ row. IsPlace (conditions_at airport.now class free) (place_of row)) table.now.rows.now → IsTrue result → HasEach reach.way (IsReachedAt (conditions_at airport.now class free) reach arc) table.now.bound table.now.rows.now }
+{
+    match airport.classes().seconds(class, arc.segment()) {
+        Some(seconds) => table.first_serves(reach, arc, seconds),
+        None => false,
+    }
 }
 
 /// A stretch in which each label of an arc that is reached has a row. It holds the reach where that can be seen by the rows of

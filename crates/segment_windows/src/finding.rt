@@ -7,12 +7,17 @@ use std::cell::Cell;
 use taxi_base::{Span, Time};
 use window_rows::{first_not_over, part_between};
 
-/// Whether a span is one of some windows.
+/// Whether a span is one of some windows. Mostly it is the last, until the horizon.
 #[inline(always)]
 pub fn has_window(windows: &[Span], window: Span, found: &Cell<usize>) -> bool
     requires { AreApart 0 windows.now }
     ensures { IsTrue result ↔ Contains windows.now window }
 {
+    if let Some(last) = windows.last() {
+        if is_same(*last, window) {
+            return true;
+        }
+    }
     match windows.get(first_not_over(windows, window.until, found)) {
         Some(there) => is_same(*there, window),
         None => false,

@@ -15,7 +15,7 @@ use Rattle.table_rows.specs.declared.reach.Way.{Way}
 use Rattle.table_rows.specs.declared.reach.Way.TheVariants.{Forward, Backward}
 use Rattle.table_rows.specs.declared.reach.Reach.{Reach}
 use Rattle.table_rows.specs.HasRows.{HasAsGood, HasEach}
-use Rattle.table_rows.specs.Reached.{until_bound, short_part, label_in, IsReachedAt, IsReachedIn, IsValueIn}
+use Rattle.table_rows.specs.Reached.{until_bound, short_part, label_in, IsGoodEnough, IsReachedAt, IsReachedIn, IsValueIn}
 use Rattle.table_rows.specs.Served.{IsWithin}
 use Rattle.table_rows.proofs.ReachLaws.{value-near, each-short, arc-by_windows}
 
@@ -103,6 +103,13 @@ module _ (c : Conditions) (row : LabelRow) (n : ℕ) (reach : Reach) (bound : Op
 
   pub each-left : reach.way ≡ Backward → ((v : ℕ) → IsValueIn reach.way c reach.from reach.by n (window_of row) v → v ≤ row.value) → HasEach reach.way (IsReachedIn c reach row.arc n (window_of row)) bound rows
   each-left way late label at short = subst (λ (w : Way). HasAsGood w rows label) (sym way) (row.value, row-at label at, late label.value at.value)
+
+  -- so it is where the row's value is good enough for all that is reached
+  pub each-good : IsGoodEnough reach.way reach.from reach.by n row.value → HasEach reach.way (IsReachedIn c reach row.arc n (window_of row)) bound rows
+  each-good = go reach.way reach.from reach.by where
+    go : (way : Way) (from by : ℕ) → IsGoodEnough way from by n row.value → HasEach way (IsReachedIn c (record { way = way; from = from; by = by }) row.arc n (window_of row)) bound rows
+    go Forward from by good label at short = (row.value, same-place rows row.arc (window_of row) label row.value at.is there, omega (arith, good, at.value.1))
+    go Backward from by good label at short = (row.value, same-place rows row.arc (window_of row) label row.value at.is there, omega (arith, good, at.value.1))
 
 -- ---- the part that is short of a bound
 

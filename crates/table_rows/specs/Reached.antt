@@ -1,5 +1,5 @@
 -- Which labels of an arc are reached in time, and with which value in a window?
-use Rattle.std.specs.Prelude.{ℕ, ◌≡◌, ◌+◌, ◌≤◌, max, min, List, Option, Some, None, Contains}
+use Rattle.std.specs.Prelude.{ℕ, ◌≡◌, ◌+◌, ◌-◌, ◌≤◌, max, min, List, Option, Some, None, Contains}
 use Rattle.taxi_base.specs.declared.numbers.Arc.{Arc}
 use Rattle.taxi_base.specs.declared.rows.Step.{Step}
 use Rattle.taxi_base.specs.declared.rows.Span.{Span}
@@ -50,6 +50,11 @@ pub record IsRowAround (reach : Reach) (arc : Arc) (rows : List LabelRow) (row :
   pub on : row.arc ≡ arc
   pub begins : row.from ≤ reach.from
   pub ends : reach.by ≤ row.until
+
+-- a value is as good as any that is reached from a second on and by another, where the class takes these seconds
+abbrev pub IsGoodEnough : Way → ℕ → ℕ → ℕ → ℕ → Type 0
+IsGoodEnough Forward from by seconds value = value - seconds ≤ from
+IsGoodEnough Backward from by seconds value = by - seconds ≤ value
 
 -- ---- in one window
 

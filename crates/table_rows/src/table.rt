@@ -1,12 +1,16 @@
 //! A table to be checked: its rows, and the bound of which they fall short.
-ghost use Rattle.std.specs.Prelude.{◌≡◌, ◌↔◌, ◌≤◌, ◌&&◌, nat_le, true, false, length, All, Contains, IsTrue};
+ghost use Rattle.std.specs.Prelude.{◌≡◌, ◌↔◌, ◌≤◌, ◌&&◌, nat_le, true, false, Some, length, All, Contains, IfSome, IsTrue};
 ghost use Rattle.std.specs.List.Sorted.{IsPartitionPoint};
+ghost use Rattle.taxi_base.specs.Airport.{segment_of, seconds as seconds_on};
 ghost use Rattle.taxi_base.specs.Labels.{precedes};
+ghost use Rattle.taxi_base.specs.Walks.{Conditions};
+ghost use Rattle.walk_labels.specs.Places.{IsPlace, place_of};
 ghost use Rattle.table_rows.specs.Rows.{AreOrdered, is_at_place, is_before};
-ghost use Rattle.table_rows.specs.HasRows.{IsShort, HasAsGood};
+ghost use Rattle.table_rows.specs.HasRows.{IsShort, HasAsGood, HasEach};
+ghost use Rattle.table_rows.specs.Reached.{IsReachedAt};
 
-use crate::around::rows_from;
-use crate::reach::Way;
+use crate::around::{row_serves, rows_from};
+use crate::reach::{Reach, Way};
 use crate::rows::{is_as_good, is_at_place, precedes};
 use taxi_base::{Arc, LabelRow, Time};
 
@@ -72,6 +76,28 @@ impl<'a> Table<'a> {
         }
     }
 
+    /// Whether the first row noted of an arc is as good as each label of it that is reached in time.
+    #[inline(always)]
+    pub fn first_serves(&self, reach: Reach, arc: Arc, seconds: Time) -> bool
+        ensures { (c : Conditions) → seconds_on c.airport c.class (segment_of arc) ≡ Some seconds → All (λ row. IsPlace c (place_of row)) self.now.rows.now → IsTrue result → HasEach reach.way (IsReachedAt c reach arc) self.now.bound self.now.rows.now }
+    {
+        match self.first_of(arc) {
+            Some(row) => row_serves(row, reach, arc, seconds),
+            None => false,
+        }
+    }
+
+    /// The row at which those of an arc were noted to begin.
+    #[inline(always)]
+    fn first_of(&self, arc: Arc) -> Option<LabelRow>
+        ensures { IfSome result (Contains self.now.rows.now) }
+    {
+        match self.firsts.get(arc.0 as usize) {
+            Some(first) => row_of(self.rows, *first),
+            None => None,
+        }
+    }
+
     fn has_as_good(&self, way: Way, label: LabelRow) -> bool
         requires { AreOrdered self.now.rows.now }
         ensures { IsTrue result ↔ HasAsGood way self.now.rows.now label }
@@ -89,6 +115,18 @@ impl<'a> Table<'a> {
         ensures point { IsPartitionPoint (λ row. precedes row label ≡ true) (λ row. precedes row label ≡ false) self.now.rows.now result }
     {
         self.rows.partition_point(|row| precedes(*row, label))
+    }
+}
+
+/// The row at a place, if there is one.
+#[inline(always)]
+fn row_of(rows: &[LabelRow], place: usize) -> Option<LabelRow>
+    ensures { IfSome result (Contains rows.now) }
+{
+    if place < rows.len() {
+        Some(rows[place])
+    } else {
+        None
     }
 }
 

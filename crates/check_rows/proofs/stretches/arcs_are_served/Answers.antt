@@ -1,5 +1,5 @@
 use Rattle.taxi_base.specs.declared.numbers.Arc.{Arc}
-use Rattle.taxi_base.specs.Walks.{conditions_among}
+use Rattle.taxi_base.specs.Walks.{conditions_among, free_among}
 use Rattle.table_rows.specs.HasRows.{HasEach}
 use Rattle.table_rows.specs.Reached.{IsReachedAt}
 use Rattle.check_rows.proofs.LoopLaws.{all-holds, all-more, says-yes}
@@ -19,6 +19,20 @@ loop-arc-preserved-then-holds g c =
       closed =
           all-more (λ arc. HasEach c.args.reach.way (IsReachedAt conditions c.args.reach arc) bound rows) c.args.arcs.now c.loop-arc.arc-index none c.loop-arc-test.true c.loop-arc.invariant.closed
           (c.holds.ensures conditions bound rows c.loop-arc.invariant.served c.if-holds.true);
+    }
+
+pub loop-arc-preserved-then-first_row_serves : goal.loop-arc-preserved-then-first_row_serves
+loop-arc-preserved-then-first_row_serves g c =
+    let conditions = conditions_among c.args.airport.now c.args.class (g.H.HoldsOf.held c.args.holds.now) in
+    let free = free_among c.args.airport.now (g.H.HoldsOf.held c.args.holds.now) in
+    let bound = c.args.table.now.bound in
+    let rows = c.args.table.now.rows.now in
+    record {
+      known = c.loop-arc.invariant.known;
+      served = c.loop-arc.invariant.served;
+      closed =
+          all-more (λ arc. HasEach c.args.reach.way (IsReachedAt conditions c.args.reach arc) bound rows) c.args.arcs.now c.loop-arc.arc-index none c.loop-arc-test.true c.loop-arc.invariant.closed
+          (c.first_row_serves.ensures free c.requires.places c.if-first_row_serves.true);
     }
 
 pub loop-arc-preserved : goal.loop-arc-preserved

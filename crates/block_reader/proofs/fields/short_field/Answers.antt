@@ -1,7 +1,7 @@
 use Rattle.std.proofs.Common.{◌∙◌, ◌+◌, List, ℕ, Some, sym, ap}
 use Rattle.std.proofs.lemmas.List.{take_rest}
 use Rattle.block_reader.proofs.NumberFields.{front-number}
-use Rattle.block_reader.proofs.fields.second_field.Goals as goal
+use Rattle.block_reader.proofs.fields.short_field.Goals as goal
 
 pub returns-then-front-end : goal.returns-then-front-end
 returns-then-front-end c =
