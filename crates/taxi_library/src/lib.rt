@@ -26,9 +26,9 @@ pub struct Rusboqan {
 /// The version of the library: 10,000 for each major one, 100 for each minor one, and the patch.
 #[unsafe(no_mangle)]
 pub extern "C" fn rusboqan_version() -> u32
-    ensures { result ≡ 10200 }
+    ensures { result ≡ 10201 }
 {
-    10200
+    10201
 }
 
 /// Opens an engine over the airport of a file's bytes, and writes its handle. False where the bytes are no airport, or
