@@ -8,44 +8,13 @@ import subprocess
 import tempfile
 import unittest
 
-import programs
-from programs import AIRPORT_REFUSED, DONE, READ_FAULT, SCHEDULE_REFUSED, TOO_LARGE, USAGE, WRITE_FAULT, WRONG
+from programs import AIRPORT_REFUSED, DONE, READ_FAULT, TOO_LARGE, USAGE, WRITE_FAULT, WRONG
+from router import CHECK, FIRST_VERSION, ONE_STAND, SMALL, TWO_STANDS, RouterTest
 
-ROUTE = "route airport.csv commands.txt"
 USAGE_LINE = (
     b"usage: taxi route AIRPORT COMMANDS; taxi check AIRPORT COMMANDS TRANSCRIPT; taxi generate NUMBER SIDE FLIGHTS; "
     b"taxi migrate AIRPORT; taxi import AIRPORT SCHEDULE\n"
 )
-
-# The records of an airport with one stand, behind the first two.
-ONE_STAND = b"""node,R,runway
-node,J,junction
-node,S1,stand
-class,M
-segment,A,R,J,both
-segment,B,J,S1,both
-seconds,A,M,30
-seconds,B,M,20
-"""
-# Two stands behind one runway node. An aircraft on A shuts C.
-TWO_STANDS = b"""node,R,runway
-node,J,junction
-node,K,junction
-node,S1,stand
-node,S2,stand
-class,M
-segment,A,R,J,both
-segment,B,J,S1,both
-segment,C,J,K,both
-segment,D,K,S2,both
-seconds,A,M,30
-seconds,B,M,20
-seconds,C,M,25
-seconds,D,M,15
-conflict,A,C
-"""
-FIRST_VERSION = b"taxi-airport,1\nhorizon,3600\n"
-SMALL = FIRST_VERSION + TWO_STANDS
 
 # Aircraft that wait for each other.
 WORKED = b"""arrival F1 M R S1 100 0
@@ -81,18 +50,7 @@ def changed_at(number, other):
     return b"".join(PIECES[:number]) + other + b"".join(PIECES[number + 1 :])
 
 
-class TaxiTest(programs.ProgramTest):
-    crate = "taxi_cli"
-
-    def route(self, airport, commands, text, status=DONE):
-        self.expect(ROUTE, {"airport.csv": airport, "commands.txt": commands}, status, text)
-
-    def check(self, transcript, status, line):
-        files = {"airport.csv": SMALL, "commands.txt": WORKED, "transcript.txt": transcript}
-        self.expect("check airport.csv commands.txt transcript.txt", files, status, line)
-
-
-class Calls(TaxiTest):
+class Calls(RouterTest):
     """Each way in which a call ends."""
 
     airport = FIRST_VERSION + ONE_STAND
@@ -111,9 +69,20 @@ class Calls(TaxiTest):
             self.expect(words, {"airport.csv": self.airport, "commands.txt": b""}, USAGE, USAGE_LINE)
 
     def test_calls_that_do_nothing(self):
-        self.expect("route airport.cs commands.txt", {"airport.csv": self.airport, "commands.txt": WORKED}, READ_FAULT, b"read fault\n")
+        # A file that is not there, and two folders.
+        for words in ["route airport.cs commands.txt", "route . commands.txt", "route airport.csv ."]:
+            self.expect(words, {"airport.csv": self.airport, "commands.txt": WORKED}, READ_FAULT, b"read fault\n")
         self.route(b"taxi-airport,3\n", WORKED, b"airport refused at record 1: first-row\n", AIRPORT_REFUSED)
-        self.route(b"x" * 4_194_305, WORKED, b"too large\n", TOO_LARGE)
+
+    def test_files_of_the_largest_size_and_one_byte_longer(self):
+        for airport, line, status in [
+            (b"x" * 4_194_304, b"airport refused at record 1: first-row\n", AIRPORT_REFUSED),
+            (b"x" * 4_194_305, b"too large\n", TOO_LARGE),
+        ]:
+            self.route(airport, WORKED, line, status)
+        commands = b"cancel F1\n#" + b"x" * (16_777_216 - 11)
+        self.route(self.airport, commands, b"refused not-in-force\ndone 1\n")
+        self.route(self.airport, commands + b"x", b"refused not-in-force\ntoo large\n", TOO_LARGE)
 
     def test_runs(self):
         self.route(self.airport, b"", b"done 0\n")
@@ -121,54 +90,15 @@ class Calls(TaxiTest):
         commands = b"# morning\r\n\nfile X1 M 0 A+ 30 B+ 50\r\n \t\nfile X2 M 20 A+ 50"
         self.route(self.airport, commands, b"filed X1 0 50\nrefused step 1 taken 20 X1\ndone 2\n")
 
-    def test_an_airport_is_written_as_today(self):
-        text = self.airport.replace(b"taxi-airport,1", b"taxi-airport,2")
-        self.expect("migrate airport.csv", {"airport.csv": self.airport}, DONE, text)
-
     def test_made_traffic(self):
         self.expect("generate 7 2 0", {}, DONE, b"nodes 4\nsegments 4\ncommands 0\nroutes 0\nno-route 0\nseconds 0\n")
         # Worked out by a program in another language.
         self.expect("generate 7 12 120", {}, DONE, b"nodes 144\nsegments 264\ncommands 120\nroutes 120\nno-route 0\nseconds 71863\n")
-
-    def test_refused_airports(self):
-        for airport, line in [
-            (b"taxi-airport,1\nhorizon,3600\nnode,R,runway\nnode,R,stand\n", b"airport refused at record 4: name-twice\n"),
-            (b"taxi-airport,1\nnode,R,runway\nnode,R,stand\n", b"airport refused at record 3: name-twice\n"),
-            (b"", b"airport refused at record 1: first-row\n"),
-        ]:
-            self.route(airport, b"cancel X\n", line, AIRPORT_REFUSED)
-            self.expect("migrate airport.csv", {"airport.csv": airport}, AIRPORT_REFUSED, line)
-
-    def test_airport_files_cut_short(self):
-        for lost, line in [
-            (b",15\nconflict,A,C\n", b"airport refused at record 16: field-count\n"),
-            (b",C\n", b"airport refused at record 17: field-count\n"),
-            (b"C\n", b"airport refused at record 17: bad-name\n"),
-        ]:
-            self.route(SMALL.removesuffix(lost), b"cancel X\n", line, AIRPORT_REFUSED)
+        # Worked by hand: two departures of 32 seconds each, and an arrival of 49 and 32.
+        self.expect("generate 7 2 3", {}, DONE, b"nodes 4\nsegments 4\ncommands 3\nroutes 3\nno-route 0\nseconds 145\n")
 
 
-class Schedules(TaxiTest):
-    """A day's schedule turned into commands, and schedules that are refused."""
-
-    def test_schedules(self):
-        day = b"""taxi-schedule,1
-start,2025-06-01T00:00:00+02:00
-arrival,F1,M,R,S1,2025-06-01T00:01:40+02:00,0
-departure,G1,M,S2,R,2025-05-31T22:05:00Z,60
-arrival,F2,M,R,S1,2025-02-29T00:00:00Z,0
-arrival,F3,M,R,S1,2025-05-31T23:59:59+02:00,0
-"""
-        commands = b"arrival F1 M R S1 100 0\ndeparture G1 M S2 R 300 60\n# row 5 bad-time\n# row 6 out-of-day\n"
-        for schedule, status, text in [
-            (day, DONE, commands),
-            (b"taxi-schedule,1\n", SCHEDULE_REFUSED, b"schedule refused at record 2: bad-start\n"),
-            (b"", SCHEDULE_REFUSED, b"schedule refused at record 1: first-row\n"),
-        ]:
-            self.expect("import airport.csv schedule.csv", {"airport.csv": SMALL, "schedule.csv": schedule}, status, text)
-
-
-class Runs(TaxiTest):
+class Runs(RouterTest):
     """Runs over a small airport, written whole."""
 
     def test_a_cancel_that_makes_three_windows(self):
@@ -252,11 +182,6 @@ done 7
 """
         self.route(SMALL, commands, text)
 
-    def test_lines_off_the_grammar(self):
-        # Two blanks, a pair more than a line may have, and a byte that is no character's.
-        commands = b"cancel  F1\nfile F1 M 0" + b" A+ 30" * 257 + b"\ncancel F\xff\n"
-        self.route(SMALL, commands, b"refused bad-line\n" * 3 + b"done 3\n")
-
     def test_as_many_flights_as_may_be_in_force(self):
         # Each on the same segment after the one before. The last one is routed anew twice, and then one more asks.
         commands = b"".join(b"file F%d M %d A+ %d\n" % (k, 30 * k, 30 * k + 30) for k in range(4095))
@@ -277,8 +202,12 @@ done 4099
         self.route(b"taxi-airport,1\nhorizon,604800\n" + TWO_STANDS, commands, text)
 
 
-class Transcripts(TaxiTest):
+class Transcripts(RouterTest):
     """The worked run, and its check with one change of the transcript."""
+
+    def check(self, transcript, status, line):
+        files = {"airport.csv": SMALL, "commands.txt": WORKED, "transcript.txt": transcript}
+        self.expect(CHECK, files, status, line)
 
     def test_the_worked_run(self):
         self.route(SMALL, WORKED, TRANSCRIPT)
@@ -312,7 +241,7 @@ class Transcripts(TaxiTest):
         self.check(b"route F1 150 2 1\nstep A+ 100", WRONG, b"wrong 1 form\n")
 
 
-class Devices(TaxiTest):
+class Devices(RouterTest):
     """Reads that bring few bytes or fail, and output that takes no more."""
 
     def folder(self):
@@ -375,10 +304,15 @@ class Devices(TaxiTest):
                 with open(f"{folder}/out", "rb") as it:
                     self.assertEqual(it.read(), b"route F1 150 2")
 
-    def test_a_folder_is_no_file(self):
+    def test_an_airport_whose_read_fails(self):
         for program in self.programs:
-            ran = subprocess.run([program, "route", "airport.csv", "."], cwd=self.folder(), stdout=subprocess.PIPE, check=False)
-            self.assertEqual((ran.returncode, ran.stdout), (READ_FAULT, b"read fault\n"))
+            ours, theirs = connection()
+            words = [program, "route", "-", "airport.csv"]
+            with self.subTest(program=program), subprocess.Popen(words, cwd=self.folder(), stdin=theirs, stdout=subprocess.PIPE) as run:
+                theirs.close()
+                ours.sendall(SMALL)
+                ours.close()
+                self.assertEqual((run.stdout.read(), run.wait()), (b"read fault\n", READ_FAULT))
 
 
 def connection():

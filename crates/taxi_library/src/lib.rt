@@ -3,8 +3,6 @@
 
 mod calls;
 mod loose;
-#[cfg(test)]
-mod tests;
 
 ghost use Rattle.std.specs.Prelude.{◌≡◌, Option, length};
 ghost use types.Logic.{sem};

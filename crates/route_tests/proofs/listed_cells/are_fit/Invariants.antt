@@ -1,8 +1,0 @@
-use Rattle.std.proofs.Common.{ℕ, ◌<◌, length, get_or}
-use Rattle.route_tests.specs.declared.listed_cells.ListedCell.{ListedCell}
-use Rattle.route_tests.specs.Listed.{IsFit}
-use Rattle.route_tests.proofs.listed_cells.are_fit.Given as goal
-
--- the cells so far are fit
-abbrev pub invariant-loop-cell : goal.invariant-loop-cell
-invariant-loop-cell l = (k : ℕ) (x : ListedCell) → k < l.cell-index → IsFit (length l.cells) (get_or l.cells k x)

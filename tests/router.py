@@ -1,0 +1,57 @@
+"""Calls of the router over small airports, for the tests beside this file."""
+
+import programs
+from programs import DONE
+
+# The records of an airport with one stand, behind the first two.
+ONE_STAND = b"""node,R,runway
+node,J,junction
+node,S1,stand
+class,M
+segment,A,R,J,both
+segment,B,J,S1,both
+seconds,A,M,30
+seconds,B,M,20
+"""
+# Two stands behind one runway node. An aircraft on A shuts C.
+TWO_STANDS = b"""node,R,runway
+node,J,junction
+node,K,junction
+node,S1,stand
+node,S2,stand
+class,M
+segment,A,R,J,both
+segment,B,J,S1,both
+segment,C,J,K,both
+segment,D,K,S2,both
+seconds,A,M,30
+seconds,B,M,20
+seconds,C,M,25
+seconds,D,M,15
+conflict,A,C
+"""
+FIRST_VERSION = b"taxi-airport,1\nhorizon,3600\n"
+SECOND_VERSION = b"taxi-airport,2\nhorizon,3600\n"
+SMALL = FIRST_VERSION + TWO_STANDS
+ROUTE = "route airport.csv commands.txt"
+CHECK = "check airport.csv commands.txt transcript.txt"
+
+
+class RouterTest(programs.ProgramTest):
+    crate = "taxi_cli"
+
+    def route(self, airport, commands, text, status=DONE):
+        self.expect(ROUTE, {"airport.csv": airport, "commands.txt": commands}, status, text)
+
+    def answers(self, airport, dialogue):
+        """The commands of a dialogue, which follow `> `, get the replies behind them, and the check accepts these."""
+        lines = dialogue.splitlines(keepends=True)
+        commands = [it[2:] for it in lines if it.startswith(b"> ")]
+        replies = [it for it in lines if not it.startswith(b"> ")]
+        files = {
+            "airport.csv": airport,
+            "commands.txt": b"".join(commands),
+            "transcript.txt": b"".join(replies) + b"done %d\n" % len(commands),
+        }
+        self.expect(ROUTE, files, DONE, files["transcript.txt"])
+        self.expect(CHECK, files, DONE, b"ok %d\n" % len(commands))
