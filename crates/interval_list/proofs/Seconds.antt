@@ -233,14 +233,3 @@ length-without_span low s (w ∷ ws) some apart =
         | inr e ↦ rw (before-no s w b) (rw (behind-no s w e) (omega (arith, length-without_span (w.until + 1) s ws some apart.2)))
       ]
     ]
-
-pub length-with_span : (s : Span) (ws : List Span) → length (with_span s ws) ≤ length ws + 1
-length-with_span s [] = omega arith
-length-with_span s (w ∷ ws) =
-    elim (cases_lt s.until w.from) [
-      | inl stop ↦ rw (with_span-stops s w ws stop) (omega arith)
-      | inr near ↦ elim (cases_lt w.until s.from) [
-        | inl past ↦ rw (with_span-past s w ws near past) (omega (arith, length-with_span s ws))
-        | inr low ↦ rw (with_span-joins s w ws near low) (omega (arith, length-with_span (hull s w) ws))
-      ]
-    ]

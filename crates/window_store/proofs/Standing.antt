@@ -1,11 +1,11 @@
 -- Which lists stand for which holds: only the spans of those in conflict count, and not their order.
 use Rattle.std.proofs.Common.{◌≡◌, ℕ, suc, ◌+◌, ◌<◌, ◌≤◌, Bool, true, false, not, cond, ◌&&◌, ◌||◌, List, [], ◌∷◌, ◌++◌, length, get_or, take, IsTrue, IsFalse, inl, inr, refl, sym, ◌∙◌, ap, arith}
-use Rattle.std.specs.Prelude.{All, map, filter, nat_lt}
+use Rattle.std.specs.Prelude.{map, filter, nat_lt}
 use Rattle.std.specs.List.{list_any}
 use Rattle.std.proofs.lemmas.Bool.{cases_Bool, cond-true, cond-false}
 use Rattle.std.proofs.lemmas.List.{map-append, map_more, length-append}
 use Rattle.std.proofs.lemmas.List.Sums.{length-filter, count_by-le-length, sum_by-cons, sum_by_more, sum_by-take-le}
-use Rattle.std.proofs.lemmas.List.Elements.{All-from_get_or, filter-append}
+use Rattle.std.proofs.lemmas.List.Elements.{filter-append}
 use Rattle.std.proofs.lemmas.List.Folds.{list_any-append}
 use Rattle.taxi_base.specs.declared.numbers.Segment.{Segment}
 use Rattle.taxi_base.specs.declared.rows.Span.{Span}
@@ -14,7 +14,7 @@ use Rattle.taxi_base.specs.Airport.{conflict, segment_of}
 use Rattle.interval_list.specs.Intervals.{spans_of}
 use Rattle.taxi_base.specs.Windows.{Hold, hold_of, holds_of, span_has, covers, blocks, is_free, AreWindows}
 use Rattle.window_store.specs.Spans.{Listed, StandsForSpans, is_unheld}
-use Rattle.window_store.specs.Store.{no_list, Store, list_at}
+use Rattle.window_store.specs.Store.{Store, list_at}
 use Rattle.window_store.specs.Stands.{conflicting, conflicting_steps, ListStandsFor, StandsFor}
 use Rattle.window_store.specs.Conflicting.{spans_in_conflict}
 
@@ -169,11 +169,3 @@ conflicting-part sets s steps k d low met =
 
 pub conflicting-le : (sets : List (List Segment)) (s : Segment) (steps : List Step) → conflicting_steps sets s steps ≤ length steps
 conflicting-le sets s steps = count_by-le-length (λ (t : Step). conflict sets s (segment_of t.arc)) steps
-
--- where there are few holds, the numbers are small
-pub StandsFor-few : (sets : List (List Segment)) (horizon : ℕ) (holds : List Hold) (store : Store) (more bound : ℕ) → length holds + more < bound → StandsFor sets horizon holds store
-    → All (λ l. l.held + more < bound) store.lists
-StandsFor-few sets horizon holds store more bound few stands =
-    All-from_get_or (λ (l : Listed). l.held + more < bound) store.lists no_list (λ i low.
-    let s : Segment = record { 0 = i } in
-    omega (arith, few, (stands s low).number, count_by-le-length (λ (h : Hold). conflict sets s h.segment) holds))
