@@ -41,13 +41,22 @@ fn parts_of(alloc: Global, plan: &Plan) -> Result<Parts, Memory>
     ensures { IfOk result (λ parts. (parts.graph ≡ layout_of_plan plan.now) × (parts.classes ≡ times_of_plan plan.now) × (parts.conflicts ≡ conflicts_of_plan plan.now)) }
 {
     let graph = graph_of(alloc, plan)?;
-    let classes = classes_of(alloc, plan)?;
-    let conflicts = Conflicts::build(alloc, plan.segments().len(), plan.conflicts())?;
+    let (classes, conflicts) = tables_of(alloc, plan)?;
     Ok(Parts {
         graph,
         classes,
         conflicts,
     })
+}
+
+// The times of the classes and the conflicts, without the graph.
+fn tables_of(alloc: Global, plan: &Plan) -> Result<(Classes, Conflicts), Memory>
+    requires { IsSound plan.now }
+    ensures { IfOk result (λ tables. (tables.0 ≡ times_of_plan plan.now) × (tables.1 ≡ conflicts_of_plan plan.now)) }
+{
+    let classes = classes_of(alloc, plan)?;
+    let conflicts = Conflicts::build(alloc, plan.segments().len(), plan.conflicts())?;
+    Ok((classes, conflicts))
 }
 
 fn graph_of(alloc: Global, plan: &Plan) -> Result<Graph, Memory>

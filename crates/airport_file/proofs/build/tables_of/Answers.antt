@@ -1,6 +1,6 @@
 -- The members of each conflict are segments of the plan.
 use Rattle.std.proofs.Common.{◌≡◌, ◌∙◌, ap, length}
-use Rattle.airport_file.proofs.build.parts_of.Goals as goal
+use Rattle.airport_file.proofs.build.tables_of.Goals as goal
 
 pub build-requires-clause-members : goal.build-requires-clause-members
 build-requires-clause-members c =
