@@ -2,7 +2,7 @@
 ghost use Rattle.std.specs.Prelude.{◌≡◌, ◌+◌, ◌≤◌, [], Some, None, length, replicate, IfOk};
 ghost use Rattle.airport_rules.specs.Plan.{layout_of_plan, table_of, airport_of_plan};
 ghost use Rattle.airport_rules.specs.Sound.{IsSound};
-ghost use Rattle.airport_file.specs.Built.{times_of_plan};
+ghost use Rattle.airport_file.specs.Built.{times_of_plan, conflicts_of_plan};
 
 use crate::Airport;
 use aircraft_class::Classes;
@@ -17,16 +17,46 @@ pub(crate) fn build(alloc: Global, plan: Plan, horizon: Time) -> Result<Airport,
     requires sound { IsSound plan }
     ensures { IfOk result (λ airport. airport ≡ airport_of_plan horizon plan) }
 {
-    let graph = graph_of(alloc, &plan)?;
-    let classes = classes_of(alloc, &plan)?;
-    let conflicts = Conflicts::build(alloc, plan.segments().len(), plan.conflicts())?;
+    let parts = parts_of(alloc, &plan)?;
     Ok(Airport {
         horizon,
         plan,
+        graph: parts.graph,
+        classes: parts.classes,
+        conflicts: parts.conflicts,
+    })
+}
+
+/// What an airport has beside its plan.
+#[derive(Drop)]
+struct Parts {
+    graph: Graph,
+    classes: Classes,
+    conflicts: Conflicts,
+}
+
+// The plan is lent, so that each want of memory gives up finished parts alone.
+fn parts_of(alloc: Global, plan: &Plan) -> Result<Parts, Memory>
+    requires { IsSound plan.now }
+    ensures { IfOk result (λ parts. (parts.graph ≡ layout_of_plan plan.now) × (parts.classes ≡ times_of_plan plan.now) × (parts.conflicts ≡ conflicts_of_plan plan.now)) }
+{
+    let graph = graph_of(alloc, plan)?;
+    let (classes, conflicts) = tables_of(alloc, plan)?;
+    Ok(Parts {
         graph,
         classes,
         conflicts,
     })
+}
+
+// The times of the classes and the conflicts, without the graph.
+fn tables_of(alloc: Global, plan: &Plan) -> Result<(Classes, Conflicts), Memory>
+    requires { IsSound plan.now }
+    ensures { IfOk result (λ tables. (tables.0 ≡ times_of_plan plan.now) × (tables.1 ≡ conflicts_of_plan plan.now)) }
+{
+    let classes = classes_of(alloc, plan)?;
+    let conflicts = Conflicts::build(alloc, plan.segments().len(), plan.conflicts())?;
+    Ok((classes, conflicts))
 }
 
 fn graph_of(alloc: Global, plan: &Plan) -> Result<Graph, Memory>

@@ -4,8 +4,9 @@ ghost use Rattle.csv.specs.Records.{fields_of};
 ghost use Rattle.airport_rules.specs.Versions.{version_named};
 ghost use Rattle.airport_rules.specs.Plan.{empty_plan};
 ghost use Rattle.airport_rules.specs.Rules.{judge};
+ghost use Rattle.airport_rules.specs.Sound.{IsSound};
 ghost use Rattle.airport_rules.specs.Judged.{Answers, texts_of};
-ghost use Rattle.airport_file.specs.Reading.{records_of, version_of, judged_after, airport_of};
+ghost use Rattle.airport_file.specs.Reading.{records_of, version_of, finished, judged_after, airport_of_records, airport_of};
 ghost use Rattle.airport_file.specs.Refused.{ForBad};
 ghost use Rattle.airport_file.specs.Rows.{IsReading, rows_of, rows_left};
 ghost use Rattle.csv.specs.declared.parser.State.TheVariants as st;
@@ -78,13 +79,13 @@ fn read_lines(alloc: Global, bytes: &[u8]) -> Result<Option<Airport>, AirportRef
         return Ok(None);
     };
     match version_in(fields.as_slice()) {
-        Some(version) => judge_lines(alloc, version, rest, &mut fields),
+        Some(version) => airport_of_lines(alloc, version, rest, &mut fields),
         None => Err(bad(1, AirportFault::FirstRow)),
     }
 }
 
-/// Judges the lines after the first, each against those before it.
-fn judge_lines<'a>(
+/// The airport of the lines after the first. None where a line is not plain.
+fn airport_of_lines<'a>(
     alloc: Global,
     version: Version,
     text: &'a [u8],
@@ -95,6 +96,26 @@ fn judge_lines<'a>(
     ensures bad { ForBad result (λ at why. judged_after version 1 empty_plan (rows_of st.StartRecord (Some text.now)) ≡ Err (record { at = at; why = why })) }
 {
     let mut plan = Plan::new(alloc);
+    match judge_lines(alloc, version, text, fields, &mut plan)? {
+        Some(last) => Ok(Some(finished(alloc, plan, last)?)),
+        None => Ok(None),
+    }
+}
+
+/// Judges the lines after the first, each against those before it, and gives the number of the last.
+fn judge_lines<'a>(
+    alloc: Global,
+    version: Version,
+    text: &'a [u8],
+    fields: &mut Vec<&'a [u8]>,
+    plan: &mut Plan,
+) -> Result<Option<u32>, AirportRefused>
+    requires few { length text.now ≤ 4194304 }
+    requires sound { IsSound plan.old }
+    ensures sound { IfOk result (λ found. IfSome found (λ _. IsSound plan.new)) }
+    ensures ok { IfOk result (λ found. IfSome found (λ last. judged_after version 1 plan.old (rows_of st.StartRecord (Some text.now)) ≡ finished last plan.new plan.new.horizon)) }
+    ensures bad { ForBad result (λ at why. judged_after version 1 plan.old (rows_of st.StartRecord (Some text.now)) ≡ Err (record { at = at; why = why })) }
+{
     let mut last: u32 = 1;
     let mut rest = text;
     'lines: while !rest.is_empty() {
@@ -103,14 +124,23 @@ fn judge_lines<'a>(
         };
         rest = behind;
         last += 1;
-        match judge(alloc, version, &mut plan, fields.as_slice()) {
+        match judge(alloc, version, plan, fields.as_slice()) {
             Ok(()) => {}
             Err(NotTaken::Fault(why)) => return Err(bad(last, why)),
             Err(NotTaken::Memory) => return Err(AirportRefused::Memory),
         }
     }
+    Ok(Some(last))
+}
+
+/// The airport of a plan to which no record comes any more, where the last one has this number.
+fn finished(alloc: Global, plan: Plan, last: u32) -> Result<Airport, AirportRefused>
+    requires { IsSound plan }
+    ensures ok { IfOk result (λ airport. finished last plan plan.horizon ≡ Ok airport) }
+    ensures bad { ForBad result (λ at why. finished last plan plan.horizon ≡ Err (record { at = at; why = why })) }
+{
     match plan.horizon() {
-        Some(horizon) => Ok(Some(build(alloc, plan, horizon)?)),
+        Some(horizon) => Ok(build(alloc, plan, horizon)?),
         None => Err(bad(last, AirportFault::NoHorizon)),
     }
 }
@@ -124,11 +154,25 @@ fn read_records(alloc: Global, bytes: &[u8]) -> Result<Airport, AirportRefused>
 {
     let mut reader = reader_of(alloc, bytes);
     let mut row = ByteRecord::new(alloc);
-    if !read_row(&mut reader, &mut row)? {
+    airport_of_records(alloc, &mut reader, &mut row)
+}
+
+/// The airport of the records that a reader has still to read.
+fn airport_of_records(
+    alloc: Global,
+    reader: &mut Reader<&[u8]>,
+    row: &mut ByteRecord,
+) -> Result<Airport, AirportRefused>
+    requires ready { IsReading reader.old }
+    requires few { length (rows_left reader.old) ≤ 4194304 }
+    ensures ok { IfOk result (λ airport. airport_of_records (rows_left reader.old) ≡ Ok airport) }
+    ensures bad { ForBad result (λ at why. airport_of_records (rows_left reader.old) ≡ Err (record { at = at; why = why })) }
+{
+    if !read_row(reader, row)? {
         return Err(bad(1, AirportFault::FirstRow));
     }
-    match version_of(alloc, &row)? {
-        Some(version) => judge_rows(alloc, version, &mut reader, &mut row),
+    match version_of(alloc, row)? {
+        Some(version) => airport_of_rows(alloc, version, reader, row),
         None => Err(bad(1, AirportFault::FirstRow)),
     }
 }
@@ -167,8 +211,8 @@ fn version_by(word: &[u8], number: &[u8]) -> Option<Version>
     }
 }
 
-/// Judges the records after the first, each against those before it.
-fn judge_rows(
+/// The airport of the records after the first.
+fn airport_of_rows(
     alloc: Global,
     version: Version,
     reader: &mut Reader<&[u8]>,
@@ -180,19 +224,35 @@ fn judge_rows(
     ensures bad { ForBad result (λ at why. judged_after version 1 empty_plan (rows_left reader.old) ≡ Err (record { at = at; why = why })) }
 {
     let mut plan = Plan::new(alloc);
+    let last = judge_rows(alloc, version, reader, row, &mut plan)?;
+    finished(alloc, plan, last)
+}
+
+/// Judges the records after the first, each against those before it, and gives the number of the last.
+fn judge_rows(
+    alloc: Global,
+    version: Version,
+    reader: &mut Reader<&[u8]>,
+    row: &mut ByteRecord,
+    plan: &mut Plan,
+) -> Result<u32, AirportRefused>
+    requires ready { IsReading reader.old }
+    requires few { length (rows_left reader.old) ≤ 4194304 }
+    requires sound { IsSound plan.old }
+    ensures sound { IfOk result (λ _. IsSound plan.new) }
+    ensures ok { IfOk result (λ last. judged_after version 1 plan.old (rows_left reader.old) ≡ finished last plan.new plan.new.horizon) }
+    ensures bad { ForBad result (λ at why. judged_after version 1 plan.old (rows_left reader.old) ≡ Err (record { at = at; why = why })) }
+{
     let mut at: u32 = 1;
     'rows: while read_row(reader, row)? {
         at += 1;
-        match judge_row(alloc, version, &mut plan, row) {
+        match judge_row(alloc, version, plan, row) {
             Ok(()) => {}
             Err(NotTaken::Fault(why)) => return Err(bad(at, why)),
             Err(NotTaken::Memory) => return Err(AirportRefused::Memory),
         }
     }
-    match plan.horizon() {
-        Some(horizon) => Ok(build(alloc, plan, horizon)?),
-        None => Err(bad(at, AirportFault::NoHorizon)),
-    }
+    Ok(at)
 }
 
 fn judge_row(

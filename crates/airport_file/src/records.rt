@@ -50,9 +50,17 @@ pub fn all_records(alloc: Global, bytes: &[u8]) -> Result<Vec<ByteRecord>, Memor
     ensures few { IfOk result (λ v. length v.items ≤ length bytes.now) }
 {
     let mut reader = reader_of(alloc, bytes);
+    records_left(alloc, &mut reader)
+}
+
+/// Every record that a reader has still to read.
+fn records_left(alloc: Global, reader: &mut Reader<&[u8]>) -> Result<Vec<ByteRecord>, Memory>
+    requires { IsReading reader.old }
+    ensures { IfOk result (λ v. map fields_of v.items ≡ rows_left reader.old) }
+{
     let mut row = ByteRecord::new(alloc);
     let mut rows = Vec::new(alloc);
-    'rows: while read_row(&mut reader, &mut row)? {
+    'rows: while read_row(reader, &mut row)? {
         rows.push(row.clone()?)?;
     }
     Ok(rows)

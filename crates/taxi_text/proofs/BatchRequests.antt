@@ -1,7 +1,8 @@
 -- The requests of words, when some of them were read.
-use Rattle.std.proofs.Common.{◌≡◌, ◌≤◌, ◌++◌, ◌∷◌, ◌∙◌, [], ℕ, List, sym, ap, refl, length, take, drop, Option, Some, None, arith}
+use Rattle.std.proofs.Common.{◌≡◌, ◌≤◌, ◌<◌, ◌++◌, ◌∷◌, ◌∙◌, [], ℕ, List, sym, ap, refl, length, length-append, take, drop, Option, Some, None, false, arith}
 use Rattle.std.specs.Prelude.{Err, if◌then◌else◌}
 use Rattle.taxi_text.specs.declared.command.BatchRequest.{BatchRequest}
+use Rattle.taxi_text.specs.declared.command.Command.{Command}
 use Rattle.taxi_text.specs.declared.command.Command.TheVariants.{Batch}
 use Rattle.taxi_text.specs.declared.command.CommandRefused.{CommandRefused}
 use Rattle.taxi_text.specs.declared.command.CommandRefused.TheVariants.{BadLine, Memory}
@@ -42,8 +43,41 @@ request_more all done request verb left words after e l s a =
     ∙ ap (λ o. going_on done (o >>= (λ request. requests_of (drop 6 words) >>= (λ requests. Some (request ∷ requests))))) (sym s)
     ∙ onto done request (requests_of (drop 6 words)) ∙ ap (λ w. going_on (done ++ request ∷ []) (requests_of w)) (sym a)
 
--- all were read, and they are as many as a batch may have
+-- the batch that requests are, if they are as many as one may have
+abbrev pub as_batch : Option (List BatchRequest) → Option Command
+as_batch all = all >>= (λ requests. if is_batch_count (length requests) then Some (Batch requests) else None)
+
+-- words that are no request end no batch
+pub request_bad : (all : Option (List BatchRequest)) (done : List BatchRequest) (verb : List ℕ) (left words : List (List ℕ))
+    → all ≡ going_on done (requests_of left) → left ≡ verb ∷ words → None ≡ request_of verb (take 6 words) → as_batch all ≡ None
+request_bad all done verb left words e l s =
+    ap as_batch
+    (next all done verb left words e l
+    ∙ ap (λ o. going_on done (o >>= (λ request. requests_of (drop 6 words) >>= (λ requests. Some (request ∷ requests))))) (sym s))
+
+no-batch : (items : List BatchRequest) → is_batch_count (length items) ≡ false → as_batch (Some items) ≡ None
+no-batch items h = ap (λ b. if b then Some (Batch items) else None) h
+
+beyond : (done : List BatchRequest) (rest : Option (List BatchRequest)) → 6 < length done → as_batch (going_on done rest) ≡ None
+beyond done None h = refl
+beyond done (Some items) h = no-batch (done ++ items) (let more = length-append done items in grind (arith, h, more))
+
+-- one more after six are no batch
+pub requests_many : (all : Option (List BatchRequest)) (done : List BatchRequest) (request : BatchRequest) (rest : Option (List BatchRequest))
+    → all ≡ going_on (done ++ request ∷ []) rest → length done ≡ 6 → as_batch all ≡ None
+requests_many all done request rest e l = ap as_batch e ∙ beyond (done ++ request ∷ []) rest (omega (arith, l, length-append done (request ∷ [])))
+
+-- one alone is no batch
+pub requests_few : (all : Option (List BatchRequest)) (done : List BatchRequest) → all ≡ Some done → length done < 2 → as_batch all ≡ None
+requests_few all done e h = ap as_batch e ∙ no-batch done (grind (arith, h))
+
+-- all were read, and they are the batch
+pub batch_read : (all : Option (List BatchRequest)) (done requests : List BatchRequest) → all ≡ Some done → 2 ≤ length done → length done ≤ 6 → up_to 6 done ≡ Some requests
+    → as_batch all ≡ Some (Batch requests)
+batch_read all done requests e least most read = grind arith
+
+-- all were read, and they are as many as a batch may have, but not all kept
 pub refusal_read : (all : Option (List BatchRequest)) (done : List BatchRequest) (why : CommandRefused) → all ≡ Some done → 2 ≤ length done → length done ≤ 6
-    → IsReading (up_to 6 done) (Err why) → IsReading (all >>= (λ requests. if is_batch_count (length requests) then Some (Batch requests) else None)) (Err why)
+    → IsReading (up_to 6 done) (Err why) → IsReading (as_batch all) (Err why)
 refusal_read all done BadLine e least most read = grind arith
 refusal_read all done Memory e least most read = grind arith

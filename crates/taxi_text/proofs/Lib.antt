@@ -6,5 +6,6 @@ mod Gathering
 mod FiledSteps
 mod ChosenNames
 mod BatchRequests
+mod AskedWords
 pub mod ArcWords
 pub mod FirstPlace

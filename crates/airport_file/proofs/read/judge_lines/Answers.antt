@@ -1,9 +1,9 @@
 -- A line that breaks no rule leaves a sound plan, and the rest to judge.
-use Rattle.std.proofs.Common.{◌≡◌, ◌∷◌, ◌∙◌, Some, sym, ap, arith, rules}
+use Rattle.std.proofs.Common.{◌≡◌, ◌∷◌, ◌∙◌, Some, refl, sym, ap, arith}
 use Rattle.std.proofs.lemmas.Bool.Decides.{nat_tests}
 use Rattle.csv.specs.declared.parser.State.TheVariants as st
 use Rattle.airport_rules.specs.Judged.{texts_of}
-use Rattle.airport_rules.proofs.SoundLaws.{IsSound-empty, IsSound-judge}
+use Rattle.airport_rules.proofs.SoundLaws.{IsSound-judge}
 use Rattle.airport_file.specs.Reading.{judged_after}
 use Rattle.airport_file.specs.Rows.{rows_of}
 use Rattle.airport_file.proofs.ReadLaws.{judged-taken}
@@ -12,9 +12,9 @@ use Rattle.airport_file.proofs.read.judge_lines.Goals as goal
 
 pub lines-init : goal.lines-init
 lines-init c = record {
-  few = omega (arith, c.requires);
-  sound = rw c.new-plan.ensures IsSound-empty;
-  so_far = ap (λ plan. judged_after c.args.version 1 plan (rows_of st.StartRecord (Some c.args.text.now))) (sym c.new-plan.ensures);
+  few = omega (arith, c.requires.few);
+  sound = c.requires.sound;
+  so_far = refl;
 }
 
 pub lines-preserved : goal.lines-preserved
@@ -30,12 +30,7 @@ lines-preserved c =
           ∙ judged-taken c.args.version c.lines.last c.lines.plan c.judge.new.plan (texts_of c.as_slice.result.now) (rows_of st.StartRecord (Some c.in-Some.behind.now)) c.in-Ok.ensures;
     }
 
-pub returns-in_ok-build-in-Some-horizon-clause-ok : goal.returns-in_ok-build-in-Some-horizon-clause-ok
-returns-in_ok-build-in-Some-horizon-clause-ok c =
+pub returns-clause-ok : goal.returns-clause-ok
+returns-clause-ok c =
     let none = empty-rows c.lines.rest.now (grind (arith, nat_tests, c.lines-test.false, c.lines-test.ensures, c.is_empty.ensures)) in
-    c.lines.invariant.so_far ∙ ap (judged_after c.args.version c.lines.last c.lines.plan) none ∙ search rules
-
-pub returns-in-None-clause-bad : goal.returns-in-None-clause-bad
-returns-in-None-clause-bad c =
-    let none = empty-rows c.lines.rest.now (grind (arith, nat_tests, c.lines-test.false, c.lines-test.ensures, c.is_empty.ensures)) in
-    rw c.bad-in-None.ensures (c.lines.invariant.so_far ∙ ap (judged_after c.args.version c.lines.last c.lines.plan) none ∙ search rules)
+    c.lines.invariant.so_far ∙ ap (judged_after c.args.version c.lines.last c.lines.plan) none

@@ -1,7 +1,7 @@
 -- A record that breaks no rule leaves a sound plan, and the rest to judge.
-use Rattle.std.proofs.Common.{◌≡◌, ◌∷◌, ◌∙◌, sym, ap, arith, length}
+use Rattle.std.proofs.Common.{◌≡◌, ◌∷◌, ◌∙◌, refl, ap, arith, length}
 use Rattle.csv.specs.Records.{fields_of}
-use Rattle.airport_rules.proofs.SoundLaws.{IsSound-empty, IsSound-judge}
+use Rattle.airport_rules.proofs.SoundLaws.{IsSound-judge}
 use Rattle.airport_file.specs.Reading.{judged_after}
 use Rattle.airport_file.specs.Rows.{rows_left}
 use Rattle.airport_file.proofs.ReadLaws.{judged-taken}
@@ -11,8 +11,8 @@ pub rows-init : goal.rows-init
 rows-init c = record {
   ready = c.requires.ready;
   few = omega (arith, c.requires.few);
-  sound = rw c.new-plan.ensures IsSound-empty;
-  so_far = ap (λ plan. judged_after c.args.version 1 plan (rows_left c.args.reader.now)) (sym c.new-plan.ensures);
+  sound = c.requires.sound;
+  so_far = refl;
 }
 
 pub rows-preserved : goal.rows-preserved

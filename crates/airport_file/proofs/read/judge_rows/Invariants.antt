@@ -1,5 +1,4 @@
 use Rattle.std.proofs.Common.{◌≡◌, ◌≤◌, ◌+◌, length}
-use Rattle.airport_rules.specs.Plan.{empty_plan}
 use Rattle.airport_rules.specs.Sound.{IsSound}
 use Rattle.airport_file.specs.Reading.{judged_after}
 use Rattle.airport_file.specs.Rows.{IsReading, rows_left}
@@ -10,7 +9,7 @@ invariant-rows l = record {
   ready : IsReading l.reader;
   few : l.at + length (rows_left l.reader) ≤ 4194305;
   sound : IsSound l.plan;
-  so_far : judged_after l.version 1 empty_plan (rows_left l.initial.reader) ≡ judged_after l.version l.at l.plan (rows_left l.reader);
+  so_far : judged_after l.version 1 l.initial.plan (rows_left l.initial.reader) ≡ judged_after l.version l.at l.plan (rows_left l.reader);
 }
 
 abbrev pub decreases-rows : goal.decreases-rows
