@@ -1,6 +1,6 @@
 -- How a block is judged as the answer to a command, from what was found out about it.
 use Rattle.std.proofs.Common.{◌≡◌, ◌∙◌, ℕ, Bool, true, false, List, [], ◌∷◌, Option, Some, None, inl, refl, sym, subst, arith}
-use Rattle.std.specs.Prelude.{All, Result, Ok, Err, bytes_eq, flat_map, ⊤}
+use Rattle.std.specs.Prelude.{All, Result, Ok, Err, bytes_eq, flat_map}
 use Rattle.std.specs.Cmp.Lexicographic.{bytes_decides}
 use Rattle.std.proofs.lemmas.List.Elements.{All-cons, All-nil}
 use Rattle.taxi_base.specs.Airport.{Airport}
@@ -21,7 +21,7 @@ use Rattle.replies.specs.Passes.{IsFormOf, IsAsAskedAlone, IsAsAsked, KeepsSough
 use Rattle.replies.proofs.TurnLaws.{IsAlone, asked-alone}
 use Rattle.transcripts.specs.declared.refused.CheckRefused.{CheckRefused}
 use Rattle.transcripts.specs.declared.refused.CheckRefused.TheVariants.{Wrong, Memory}
-use Rattle.certificate_check.specs.Judged.{passed_if, answer_of, IsAnsweredBy, KeepsTold, IsToldOf, IsDueForm, KeepsFor, BreaksFor, IsAfterFor, IsJudged}
+use Rattle.certificate_check.specs.Judged.{passed_if, answer_of, IsAnsweredBy, KeepsTold, IsToldOf, IsDueForm, KeepsFor, BreaksFor, IsAfterFor, IsPlain, IsJudged}
 
 -- ---- what is answered
 
@@ -92,16 +92,6 @@ module _ (s : Sought) (block : Block) where
   told-passed form all old new is = (told-of form None all, is)
 
 -- ---- commands that seek no walk
-
-abbrev pub IsPlain : Command → Type 0
-IsPlain (command.File filed) = ⊤
-IsPlain (command.Cancel name) = ⊤
-IsPlain (command.Windows name) = ⊤
-IsPlain (command.Occupancy name) = ⊤
-IsPlain command.Timetable = ⊤
-IsPlain (command.Work shut) = ⊤
-IsPlain (command.WorkDone name) = ⊤
-IsPlain _ = ⊥
 
 plain-alone : (c : Command) → IsPlain c → IsAlone c
 plain-alone (command.Batch requests) plain = absurd plain

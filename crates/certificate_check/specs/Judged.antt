@@ -3,6 +3,7 @@ use Rattle.std.specs.Prelude.{◌≡◌, Bool, if◌then◌else◌, Option, Some
 use Rattle.taxi_base.specs.Airport.{Airport}
 use Rattle.taxi_base.specs.State.{State}
 use Rattle.taxi_text.specs.declared.command.Command.{Command}
+use Rattle.taxi_text.specs.declared.command.Command.TheVariants as command
 use Rattle.replies.specs.declared.block.Block.{Block}
 use Rattle.replies.specs.declared.block.Block.TheVariants.{Refused, Filed, Cancelled}
 use Rattle.replies.specs.declared.rule.Rule.{Rule}
@@ -47,6 +48,17 @@ IsToldOf s block old (Err (Wrong broken)) new = IsFirstOf (KeepsTold s block) (S
 IsToldOf s block old (Err Memory) new = new ≡ old
 
 -- ---- a command
+
+-- it seeks no walk
+abbrev pub IsPlain : Command → Type 0
+IsPlain (command.File filed) = ⊤
+IsPlain (command.Cancel name) = ⊤
+IsPlain (command.Windows name) = ⊤
+IsPlain (command.Occupancy name) = ⊤
+IsPlain command.Timetable = ⊤
+IsPlain (command.Work shut) = ⊤
+IsPlain (command.WorkDone name) = ⊤
+IsPlain _ = ⊥
 
 -- where a refusal is due, the block is that refusal
 abbrev pub IsDueForm : Airport → State → Command → Block → Type 0

@@ -46,7 +46,8 @@ pub fn check_batch(
     ensures judged { IsJudged airport.now (command.Batch requests.now) block (state_of held.old) result (state_of held.new) }
     ensures ready { IsReady airport.now held.new known.new }
 {
-    match named_batch(alloc, airport, held, requests)? {
+    let named = named_batch(alloc, airport, held, requests)?;
+    match &named {
         NamedBatch::Named { wishes } => check_wishes(
             airport,
             held,
@@ -54,7 +55,7 @@ pub fn check_batch(
             wishes.as_slice(),
             block,
         ),
-        NamedBatch::Refused { why } => pass_if(is_refusal(&block, &why)),
+        NamedBatch::Refused { why } => pass_if(is_refusal(&block, why)),
     }
 }
 

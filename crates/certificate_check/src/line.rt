@@ -7,7 +7,7 @@ ghost use Rattle.replies.specs.Asked.{IsInGrammar};
 ghost use Rattle.replies.specs.Replies.{NeedsNoMemory};
 ghost use Rattle.checked_state.specs.Flights.{state_of};
 ghost use Rattle.certificate_check.specs.Desk.{IsReady};
-ghost use Rattle.certificate_check.specs.Judged.{IsJudged};
+ghost use Rattle.certificate_check.specs.Judged.{IsPlain, IsJudged};
 ghost use Rattle.transcripts.specs.Turns.{ChecksIn};
 ghost use Rattle.certificate_check.specs.Checker.{IsBadLineChecked};
 
@@ -89,21 +89,14 @@ fn judge(
     ensures ready { IsSound airport.now (state_of held.new) → IsReady airport.now held.new known.new }
 {
     match command {
-        Command::File(filed) => check_file(alloc, airport, held, known, filed, &block),
         Command::Arrival(asked) => check_arrival(airport, held, known, asked, block),
         Command::Departure(asked) => check_departure(airport, held, known, asked, block),
-        Command::Cancel { flight } => check_cancel(airport, held, known, flight, &block),
         Command::Reroute { flight, time } => {
             check_reroute(airport, held, known, flight, *time, block)
         }
         Command::Divert { flight, time, node } => {
             check_divert(airport, held, known, flight, *time, node, block)
         }
-        Command::Windows { segment } => check_windows(airport, held, known, segment, &block),
-        Command::Occupancy { segment } => check_occupancy(airport, held, segment, &block),
-        Command::Timetable => check_timetable(held, &block),
-        Command::Work(shut) => check_work(airport, held, known, shut, &block),
-        Command::WorkDone { name } => check_work_done(airport, held, known, name, &block),
         Command::ArrivalAny(asked) => check_arrival_any(alloc, airport, held, known, asked, block),
         Command::DepartureAny(asked) => {
             check_departure_any(alloc, airport, held, known, asked, block)
@@ -116,5 +109,46 @@ fn judge(
             time,
             until,
         } => check_late(alloc, airport, held, known, flight, *time, *until, block),
+        Command::File(_)
+        | Command::Cancel { .. }
+        | Command::Windows { .. }
+        | Command::Occupancy { .. }
+        | Command::Timetable
+        | Command::Work(_)
+        | Command::WorkDone { .. } => judge_plain(alloc, airport, held, known, command, &block),
+    }
+}
+
+// The same for a command that seeks no walk. It keeps nothing of the block.
+fn judge_plain(
+    alloc: Global,
+    airport: &Airport,
+    held: &mut HeldFlights,
+    known: &mut KnownWindows,
+    command: &Command,
+    block: &Block,
+) -> Result<(), CheckRefused>
+    requires plain { IsPlain command.now }
+    requires grammar { IsInGrammar command.now }
+    requires ready { IsReady airport.now held.old known.old }
+    ensures judged { IsJudged airport.now command.now block.now (state_of held.old) result (state_of held.new) }
+    ensures ready { IsReady airport.now held.new known.new }
+{
+    match command {
+        Command::File(filed) => check_file(alloc, airport, held, known, filed, block),
+        Command::Cancel { flight } => check_cancel(airport, held, known, flight, block),
+        Command::Windows { segment } => check_windows(airport, held, known, segment, block),
+        Command::Occupancy { segment } => check_occupancy(airport, held, segment, block),
+        Command::Timetable => check_timetable(held, block),
+        Command::Work(shut) => check_work(airport, held, known, shut, block),
+        Command::WorkDone { name } => check_work_done(airport, held, known, name, block),
+        Command::Arrival(_)
+        | Command::Departure(_)
+        | Command::Reroute { .. }
+        | Command::Divert { .. }
+        | Command::ArrivalAny(_)
+        | Command::DepartureAny(_)
+        | Command::Batch(_)
+        | Command::Late { .. } => unreachable!(),
     }
 }

@@ -15,7 +15,7 @@ returns-in-Named-clause-judged c =
     let state = state_of c.args.held.now in
     let asked = c.args.asked.now in
     let nodes = c.in-Named.nodes in
-    let known = rw c.in-Named.is at c.in_ok-class.ensures in
+    let known = rw c.in-Named.is at c.in_ok-named.ensures in
     let some = some-named airport asked.nodes nodes known.2 c.requires.some in
     let choice = departure_any c.in-Named.from nodes asked.time asked.slack in
     let node = get_or nodes 0 no_node in
@@ -26,18 +26,18 @@ returns-in-Named-clause-judged c =
 
 pub bounds-nodes-0 : goal.bounds-nodes-0
 bounds-nodes-0 c =
-    let known = rw c.in-Named.is at c.in_ok-class.ensures in
+    let known = rw c.in-Named.is at c.in_ok-named.ensures in
     rw c.as_slice-nodes.ensures (some-named c.args.airport.now c.args.asked.now.nodes c.in-Named.nodes known.2 c.requires.some)
 
 pub check_new_to_any-requires-clause-sought : goal.check_new_to_any-requires-clause-sought
 check_new_to_any-requires-clause-sought c node there =
-    let known = rw c.in-Named.is at c.in_ok-class.ensures in
+    let known = rw c.in-Named.is at c.in_ok-named.ensures in
     let exist = (nodes_named-are c.args.airport.now c.args.asked.now.nodes c.in-Named.nodes known.2).exist in
     (All-contains (λ n. n.0 < length c.args.airport.now.nodes) c.in-Named.nodes node exist (rw c.as_slice-nodes.ensures at there), (c.requires.time, c.requires.queue))
 
 pub check_new_to_any-requires-clause-choice : goal.check_new_to_any-requires-clause-choice
 check_new_to_any-requires-clause-choice c =
     let nodes = c.in-Named.nodes in
-    let known = rw c.in-Named.is at c.in_ok-class.ensures in
+    let known = rw c.in-Named.is at c.in_ok-named.ensures in
     let some = some-named c.args.airport.now c.args.asked.now.nodes nodes known.2 c.requires.some in
     rw c.as_slice-nodes.ensures (departure_any c.in-Named.from nodes c.args.asked.now.time c.args.asked.now.slack, get_or nodes 0 no_node, others_of nodes, refl, first-others nodes no_node some)
