@@ -28,13 +28,28 @@ use taxi_text::{Command, CommandRefused, read_command};
 pub fn explain(
     alloc: Global,
     airport: &Airport,
-    ledger: Ledger,
+    mut ledger: Ledger,
     line: &[u8],
 ) -> Result<List<Reason>, Memory>
     requires fits { Fits airport.now ledger }
     requires unlifted { ledger.lifted ≡ None }
     requires sound { IsSound airport.now ledger.state }
     ensures { IfOk result (λ reasons. IsExplained airport.now ledger.state line.now reasons) }
+{
+    explain_line(alloc, airport, &mut ledger, line)
+}
+
+// The same over a ledger that is lent, so that it is let go in one place.
+fn explain_line(
+    alloc: Global,
+    airport: &Airport,
+    ledger: &mut Ledger,
+    line: &[u8],
+) -> Result<List<Reason>, Memory>
+    requires fits { Fits airport.now ledger.old }
+    requires unlifted { ledger.old.lifted ≡ None }
+    requires sound { IsSound airport.now ledger.old.state }
+    ensures { IfOk result (λ reasons. IsExplained airport.now ledger.old.state line.now reasons) }
 {
     match read_command(alloc, line) {
         Ok(command) => explain_command(alloc, airport, ledger, &command),
@@ -46,18 +61,18 @@ pub fn explain(
 fn explain_command(
     alloc: Global,
     airport: &Airport,
-    mut ledger: Ledger,
+    ledger: &mut Ledger,
     command: &Command,
 ) -> Result<List<Reason>, Memory>
-    requires fits { Fits airport.now ledger }
-    requires unlifted { ledger.lifted ≡ None }
-    requires sound { IsSound airport.now ledger.state }
+    requires fits { Fits airport.now ledger.old }
+    requires unlifted { ledger.old.lifted ≡ None }
+    requires sound { IsSound airport.now ledger.old.state }
     requires grammar { IsInGrammar command.now }
-    ensures { IfOk result (λ reasons. IsCommandExplained airport.now ledger.state command.now reasons) }
+    ensures { IfOk result (λ reasons. IsCommandExplained airport.now ledger.old.state command.now reasons) }
 {
-    match asked_by(alloc, airport, &mut ledger, command)? {
-        Some(asking) => explain_route(alloc, airport, &mut ledger, &asking),
-        None => explain_refusal(alloc, airport, &mut ledger, command),
+    match asked_by(alloc, airport, ledger, command)? {
+        Some(asking) => explain_route(alloc, airport, ledger, &asking),
+        None => explain_refusal(alloc, airport, ledger, command),
     }
 }
 
@@ -79,20 +94,67 @@ fn explain_route<'a>(
         asking,
     };
     let mut room = SearchRoom::new(alloc)?;
-    let route = search.find(&mut room, others, asking.request)?;
-    let answer = second_found(&asking.request, &route);
-    let mut reasons = List::new(alloc);
-    reasons.push(Reason::Answer { second: answer })?;
-    let alone = search.second_alone(&mut room)?;
-    reasons.push(Reason::Alone { second: alone })?;
-    let seconds = Seconds { answer, alone };
-    search.push_left_out(&mut reasons, &mut room, others, seconds)?;
-    search.push_freed(&mut reasons, &mut room, others, answer)?;
-    push_waits_of(&mut reasons, airport, others, asking, &route)?;
-    Ok(reasons)
+    search.explain(&mut room, others)
 }
 
 impl<'a> Search<'a> {
+    // What explains the route that is found among the other holders.
+    fn explain(&self, room: &mut SearchRoom, others: &mut Ledger) -> Result<List<Reason>, Memory>
+        requires fits { Fits self.now.airport.now others.old }
+        requires unlifted { others.old.lifted ≡ None }
+        requires timely { IsTimely self.now.airport.now self.now.asking.now.request self.now.asking.now.way }
+        ensures { IfOk result (λ reasons. IsRouteExplained self.now.airport.now self.now.asking.now others.old.state reasons) }
+    {
+        let route = self.find(room, others, self.asking.request)?;
+        self.explain_found(room, others, &route)
+    }
+
+    // What explains a route that was found.
+    fn explain_found(
+        &self,
+        room: &mut SearchRoom,
+        others: &mut Ledger,
+        route: &Option<List<Step>>,
+    ) -> Result<List<Reason>, Memory>
+        requires fits { Fits self.now.airport.now others.old }
+        requires unlifted { others.old.lifted ≡ None }
+        requires timely { IsTimely self.now.airport.now self.now.asking.now.request self.now.asking.now.way }
+        requires found { IsFoundAmong self.now.airport.now self.now.asking.now others.old.state route.now }
+        requires some { IfSome route.now (λ steps. 0 < length steps) }
+        ensures { IfOk result (λ reasons. IsRouteExplained self.now.airport.now self.now.asking.now others.old.state reasons) }
+    {
+        let mut reasons = List::new(self.alloc);
+        self.push_explained(&mut reasons, room, others, route)?;
+        Ok(reasons)
+    }
+
+    // Adds to no reasons all that explain a route that was found.
+    fn push_explained(
+        &self,
+        reasons: &mut List<Reason>,
+        room: &mut SearchRoom,
+        others: &mut Ledger,
+        route: &Option<List<Step>>,
+    ) -> Result<(), Memory>
+        requires fits { Fits self.now.airport.now others.old }
+        requires unlifted { others.old.lifted ≡ None }
+        requires timely { IsTimely self.now.airport.now self.now.asking.now.request self.now.asking.now.way }
+        requires found { IsFoundAmong self.now.airport.now self.now.asking.now others.old.state route.now }
+        requires some { IfSome route.now (λ steps. 0 < length steps) }
+        requires empty { reasons.old ≡ [] }
+        ensures { OnOk result (IsRouteExplained self.now.airport.now self.now.asking.now others.old.state reasons.new) }
+    {
+        let answer = second_found(&self.asking.request, route);
+        reasons.push(Reason::Answer { second: answer })?;
+        let alone = self.second_alone(room)?;
+        reasons.push(Reason::Alone { second: alone })?;
+        let seconds = Seconds { answer, alone };
+        self.push_left_out(reasons, room, others, seconds)?;
+        self.push_freed(reasons, room, others, answer)?;
+        push_waits_of(reasons, self.airport, others, self.asking, route)?;
+        Ok(())
+    }
+
     // The best second with no other holder.
     fn second_alone(&self, room: &mut SearchRoom) -> Result<Option<Time>, Memory>
         requires { IsTimely self.now.airport.now self.now.asking.now.request self.now.asking.now.way }

@@ -231,13 +231,21 @@ fn explain_taken(
 {
     let rows = occupancy(alloc, airport, ledger, taking.segment)?;
     let mut reasons = List::new(alloc);
+    push_taken(&mut reasons, taking, rows.as_slice())?;
+    Ok(reasons)
+}
+
+// Adds the refusal, and those of some rows that have a second of the span.
+fn push_taken(reasons: &mut List<Reason>, taking: &Taking, rows: &[HeldRow]) -> Result<(), Memory>
+    requires { reasons.old ≡ [] }
+    ensures { OnOk result (reasons.new ≡ reason.Refused taking.now.step taking.now.at taking.now.by ∷ map held_reason (filter (shares taking.now.span) rows.now)) }
+{
     reasons.push(Reason::Refused {
         step: taking.step,
         at: taking.at,
         by: taking.by,
     })?;
-    push_held(&mut reasons, rows.as_slice(), taking.span)?;
-    Ok(reasons)
+    push_held(reasons, rows, taking.span)
 }
 
 // Adds the rows that have a second in common with a span.

@@ -1,7 +1,6 @@
 -- Of a flight that is late and refused nothing: what comes of it can be written, keeps the state sound, and is due.
-use Rattle.std.proofs.Common.{◌≡◌, ℕ, true, List, Some, None, Result, Ok, Err, OnOk, inl, inr}
+use Rattle.std.proofs.Common.{◌≡◌, ℕ, List, Some, None, Result, Ok, Err, OnOk, inl, inr}
 use Rattle.std.specs.Prelude.{All}
-use Rattle.std.specs.Result.{is_err}
 use Rattle.std.proofs.lemmas.List.Elements.{All-weaker}
 use Rattle.taxi_base.specs.Airport.{Airport, IsWellFormed}
 use Rattle.taxi_base.specs.State.{State, IsSound}
@@ -47,16 +46,12 @@ module _ (airport : Airport) (state : State) (well : IsWellFormed airport) (soun
   pub told-named : HaveNames after
   told-named = repair-names airport state entries after names (late-kept airport state sound name time until (Late name entries) after none told-so).as_it_says fine.1.1
 
--- ---- where it can't be printed
+-- ---- where it is printed
 
--- what a call promises where it goes well: that it holds, or that it does not go well
-pub for-ok : {A E : Type 0} (r : Result A E) (P : Type 0) → P → OnOk r P
-for-ok (Ok x) P holds = holds
-for-ok (Err e) P holds = tt
-
-pub for-err : {A E : Type 0} (r : Result A E) (P : Type 0) → is_err r ≡ true → OnOk r P
-for-err (Ok x) P failed = absurd (cc failed)
-for-err (Err e) P failed = tt
+-- what follows from two promises of a call that goes well
+pub follows-ok : {A E : Type 0} (r : Result A E) (P Q R : Type 0) → (P → Q → R) → OnOk r P → OnOk r Q → OnOk r R
+follows-ok (Ok x) P Q R follows p q = follows p q
+follows-ok (Err e) P Q R follows p q = tt
 
 -- ---- it is due
 

@@ -1,6 +1,6 @@
 -- What was found for a flight in force and is told, and the flight on its other route.
 use Rattle.std.proofs.Common.{◌≡◌, ◌∙◌, ℕ, List, Option, Some, None, Ok, Err, refl, sym, ap, subst, inl, inr}
-use Rattle.std.specs.Prelude.{Result, All, MatchOption, IfSome, IsSomeAnd, IsOkUnless}
+use Rattle.std.specs.Prelude.{◌⊎◌, Result, All, MatchOption, IfSome, IsSomeAnd, IsOkUnless}
 use Rattle.std.specs.Option.{option_and_then}
 use Rattle.std.proofs.lemmas.List.Elements.{All-contains}
 use Rattle.taxi_base.specs.declared.numbers.Node.{Node}
@@ -11,6 +11,8 @@ use Rattle.taxi_base.specs.declared.answers.Request.TheVariants as request
 use Rattle.taxi_base.specs.declared.answers.Flight.{Flight}
 use Rattle.taxi_base.specs.declared.answers.Found.{Found}
 use Rattle.taxi_base.specs.declared.answers.Found.TheVariants as found
+use Rattle.taxi_base.specs.declared.answers.Refusal.{Refusal}
+use Rattle.taxi_base.specs.declared.answers.Refusal.TheVariants as refusal
 use Rattle.taxi_base.specs.Airport.{Airport, IsWellFormed}
 use Rattle.taxi_base.specs.Walks.{IsFeasibleWalk, Meets}
 use Rattle.taxi_base.specs.State.{State, flight_named, with_flight, with_route, without, holds_in, conditions_of, IsSound}
@@ -25,15 +27,15 @@ use Rattle.replies.specs.Replies.{HaveNames}
 use Rattle.replies.proofs.FlightLaws.{flight_named-there}
 use Rattle.replies.proofs.HolderNames.{with_flight-names, without-names}
 use Rattle.replies.proofs.FoundLaws.{labels_of, found_again-meets, second-retargeted}
-use Rattle.commitments.specs.Book.{Book, lifted_flight}
+use Rattle.commitments.specs.Book.{Book, Fits, lifted_flight}
 use Rattle.reroute.specs.declared.refused.RerouteRefused.{RerouteRefused}
 use Rattle.reroute.specs.declared.refused.RerouteRefused.TheVariants as reroute
 use Rattle.reroute.specs.Refused.{again_refusal}
-use Rattle.reroute.specs.Anew.{IsMeant, IsFoundAnew}
+use Rattle.reroute.specs.Anew.{IsMeant, IsFoundAnew, IsAsBefore}
 use Rattle.taxi_engine.specs.Engine.{EngineState}
 use Rattle.taxi_engine.specs.Done.{IsDone}
 use Rattle.taxi_engine.specs.Routed.{IsToldOrMemory}
-use Rattle.taxi_engine.specs.Rerouted.{request_to, IsOnAnother, IsToldAgain}
+use Rattle.taxi_engine.specs.Rerouted.{refusal_told, request_to, IsOnAnother, IsToldAgain}
 use Rattle.taxi_engine.proofs.RouteLaws.{label-arcs_again}
 
 -- ---- flights by their names
@@ -155,3 +157,25 @@ module _ (airport : Airport) (state : State) (flight : Flight) (another : IsOnAn
       with_flight-names (record (another.old) { request = flight.request; steps = flight.steps }) (without another.old.name state)
       (All-contains (λ f. IsName f.name) state.flights another.old names.0 (flight_named-there flight.name state.flights another.old another.in_force))
       (without-names another.old.name state names)
+
+-- ---- where it is refused, and what stays
+
+-- what an engine keeps holds of a ledger that is as before
+pub as-before-kept : (airport : Airport) (before after : Book) → IsAsBefore airport before after → IsSound airport before.state → HaveNames before.state
+    → IsSound airport after.state × Fits airport after × HaveNames after.state × (after.lifted ≡ None)
+as-before-kept airport before after as_before sound names = (
+  subst (λ (s : State). IsSound airport s) (sym as_before.state) sound,
+  as_before.fits,
+  subst (λ (s : State). HaveNames s) (sym as_before.state) names,
+  as_before.unlifted,
+)
+
+same-err : (a b : RerouteRefused) → ◌≡◌ {A = Result Found RerouteRefused} (Err a) (Err b) → a ≡ b
+same-err a b e = cc
+
+-- a search that fails tells the refusal that is due, or that memory ran out
+pub refused-told : (X : Type 0) (due : Option RerouteRefused) (why : RerouteRefused) (Told : Refusal → Type 0)
+    → MatchOption due (why ≡ reroute.Memory) (λ w. ◌≡◌ {A = Result Found RerouteRefused} (Err why) (Err w)) → Told (refusal_told why)
+    → MatchOption due (X ⊎ Told refusal.Memory) (λ w. Told (refusal_told w))
+refused-told X None why Told is told = inr (subst (λ (w : RerouteRefused). Told (refusal_told w)) is told)
+refused-told X (Some w) why Told is told = subst (λ (w : RerouteRefused). Told (refusal_told w)) (same-err why w is) told

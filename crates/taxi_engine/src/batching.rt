@@ -12,6 +12,7 @@ ghost use Rattle.replies.specs.Asked.{asked_in, IsAskedInGrammar};
 ghost use Rattle.replies.specs.Batches.{IsSequenced};
 ghost use Rattle.commitments.specs.Book.{Fits};
 ghost use Rattle.sequence_exchange.specs.Serving.{IsShortRequest, AreNew};
+ghost use Rattle.block_writer.specs.Printed.{IsWritable};
 ghost use Rattle.taxi_engine.specs.Done.{IsDoneOrMemory};
 ghost use Rattle.taxi_engine.specs.Batched.{IsSequencedTold};
 
@@ -85,11 +86,32 @@ fn print_sequenced(
         total: done.total,
         entries: done.entries,
     };
-    let printed = reply.print(airport, &block);
-    if printed.is_err() {
-        take_back(airport, ledger, &block);
+    print_batch(airport, ledger, reply, &block)
+}
+
+// Writes the block of a batch as the reply. Where memory runs out its flights are taken out of force again.
+fn print_batch(
+    airport: &Airport,
+    ledger: &mut Ledger,
+    reply: &mut ReplyText,
+    told: &Block,
+) -> Result<(), Memory>
+    requires fits { Fits airport.now ledger.old }
+    requires unlifted { ledger.old.lifted ≡ None }
+    requires writable { IsWritable airport.now told.now }
+    ensures text { OnOk result (reply.new ≡ block_text airport.now told.now) }
+    ensures kept { OnOk result (ledger.new.state ≡ ledger.old.state) }
+    ensures err { OnErr result ((before : State) (wishes : List WishSeen) (total : ℕ) (entries : List (List ℕ × Entry)) → told.now ≡ block.Batch total entries → AreNew before wishes → IsSequenced airport.now before wishes total entries ledger.old.state → ledger.new.state ≡ before) }
+    ensures unlifted { ledger.new.lifted ≡ None }
+    ensures fits { Fits airport.now ledger.new }
+{
+    match reply.print_lent(airport, told) {
+        Ok(()) => Ok(()),
+        Err(memory) => {
+            take_back(airport, ledger, told);
+            Err(memory)
+        }
     }
-    printed
 }
 
 // Takes the flights of a block out of force again.

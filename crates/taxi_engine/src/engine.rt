@@ -28,6 +28,13 @@ pub struct Engine {
     pub(crate) room: SearchRoom,
 }
 
+// What an engine begins with beside its airport, and wants memory for.
+#[derive(Drop)]
+struct Beginning {
+    ledger: Ledger,
+    room: SearchRoom,
+}
+
 impl Model for Engine {
     ghost use Rattle.std.specs.Prelude.{◌≡◌, None};
     ghost use Rattle.taxi_base.specs.State.{IsSound};
@@ -47,16 +54,26 @@ impl Engine {
     pub fn new(alloc: Global, airport: Airport) -> Result<Engine, Memory>
         ensures { IfOk result (λ e. e ≡ record { airport = airport; state = no_holder; reply = [] }) }
     {
-        let ledger = Ledger::new(alloc, &airport)?;
+        let beginning = beginning_over(alloc, &airport)?;
+        Ok(Engine::begun(alloc, airport, beginning))
+    }
+
+    // The engine that begins so. Nothing fails any more where the airport goes in.
+    fn begun(alloc: Global, airport: Airport, beginning: Beginning) -> Engine
+        requires state { beginning.ledger.state ≡ no_holder }
+        requires unlifted { beginning.ledger.lifted ≡ None }
+        requires fits { Fits airport beginning.ledger }
+        ensures { result ≡ record { airport = airport; state = no_holder; reply = [] } }
+    {
+        let Beginning { ledger, room } = beginning;
         let reply = ReplyText::new(alloc);
-        let room = SearchRoom::new(alloc)?;
-        Ok(Engine {
+        Engine {
             alloc,
             airport,
             ledger,
             reply,
             room,
-        })
+        }
     }
 
     /// The airport for which it answers.
@@ -147,4 +164,15 @@ impl Engine {
     {
         self.reply.set_short(refused_text(&self.airport, why));
     }
+}
+
+// No holder over an airport, and room for searches. The airport is lent, so that only the caller lets it go.
+fn beginning_over(alloc: Global, airport: &Airport) -> Result<Beginning, Memory>
+    ensures state { IfOk result (λ b. b.ledger.state ≡ no_holder) }
+    ensures unlifted { IfOk result (λ b. b.ledger.lifted ≡ None) }
+    ensures fits { IfOk result (λ b. Fits airport.now b.ledger) }
+{
+    let ledger = Ledger::new(alloc, airport)?;
+    let room = SearchRoom::new(alloc)?;
+    Ok(Beginning { ledger, room })
 }

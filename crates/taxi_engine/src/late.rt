@@ -1,6 +1,6 @@
 //! A flight that stays on its segment longer than planned, and everyone in its way.
 ghost use Rattle.std.specs.Prelude.{◌≡◌, OnOk, OnErr, None};
-ghost use Rattle.taxi_base.specs.State.{IsSound};
+ghost use Rattle.taxi_base.specs.State.{IsSound, IsFeasibleState};
 ghost use Rattle.taxi_text.specs.declared.command.Command.TheVariants as command;
 ghost use Rattle.replies.specs.declared.block.Block.{Block as BlockSeen};
 ghost use Rattle.replies.specs.Texts.{block_text};
@@ -8,7 +8,10 @@ ghost use Rattle.replies.specs.Printable.{IsName};
 ghost use Rattle.replies.specs.Refusals.{first_refusal};
 ghost use Rattle.replies.specs.Replies.{HaveNames};
 ghost use Rattle.replies.specs.Repairs.{IsRepairTold};
+ghost use Rattle.block_writer.specs.Printed.{IsWritable};
 ghost use Rattle.commitments.specs.Book.{Fits};
+ghost use Rattle.commitments.specs.Room.{HasRoomForAll};
+ghost use Rattle.late_repair.specs.TakenOut.{taken_back};
 ghost use Rattle.taxi_engine.specs.Done.{IsDoneOrMemory};
 ghost use Rattle.taxi_engine.specs.Repaired.{IsRepairedTold};
 
@@ -17,7 +20,7 @@ use crate::reply::ReplyText;
 use airport_file::Airport;
 use command_refusals::asked_late;
 use commitments::Ledger;
-use late_repair::{Lateness, Repaired, repair, take_back};
+use late_repair::{Lateness, Repaired, TakenOut, repair, take_back};
 use place_cells::SearchRoom;
 use replies::Block;
 use std::alloc::Global;
@@ -82,9 +85,33 @@ fn print_repaired(
         flight: late.flight,
         entries,
     };
-    let printed = reply.print(airport, &block);
-    if printed.is_err() {
-        take_back(airport, ledger, before);
+    print_late(airport, ledger, reply, block, before)
+}
+
+// Writes the block of a repair as the reply. Where memory runs out those who were taken out are in force again as before.
+fn print_late(
+    airport: &Airport,
+    ledger: &mut Ledger,
+    reply: &mut ReplyText,
+    block: Block,
+    before: TakenOut,
+) -> Result<(), Memory>
+    requires fits { Fits airport.now ledger.old }
+    requires unlifted { ledger.old.lifted ≡ None }
+    requires writable { IsWritable airport.now block }
+    requires feasible { IsFeasibleState airport.now (taken_back before ledger.old.state) }
+    requires room { HasRoomForAll airport.now (taken_back before ledger.old.state) ledger.old }
+    ensures text { OnOk result (reply.new ≡ block_text airport.now block) }
+    ensures kept { OnOk result (ledger.new.state ≡ ledger.old.state) }
+    ensures err { OnErr result (ledger.new.state ≡ taken_back before ledger.old.state) }
+    ensures unlifted { ledger.new.lifted ≡ None }
+    ensures fits { Fits airport.now ledger.new }
+{
+    match reply.print(airport, block) {
+        Ok(()) => Ok(()),
+        Err(memory) => {
+            take_back(airport, ledger, before);
+            Err(memory)
+        }
     }
-    printed
 }

@@ -61,7 +61,15 @@ impl ReplyText {
     }
 
     /// The text of a block in place of what was there. Where memory runs out nothing is said of what stands there.
-    pub fn print(&mut self, airport: &Airport, block: &Block) -> Result<(), Memory>
+    pub fn print(&mut self, airport: &Airport, block: Block) -> Result<(), Memory>
+        requires { IsWritable airport.now block }
+        ensures { OnOk result (self.new ≡ block_text airport.now block) }
+    {
+        self.print_lent(airport, &block)
+    }
+
+    /// The same of a block that is still of use.
+    pub fn print_lent(&mut self, airport: &Airport, block: &Block) -> Result<(), Memory>
         requires { IsWritable airport.now block.now }
         ensures { OnOk result (self.new ≡ block_text airport.now block.now) }
     {

@@ -60,7 +60,7 @@ fn print_occupancy(
     // The airport keeps its rules, so each row is of one of its segments.
     let _ = airport.horizon();
     let held = occupancy(alloc, airport, ledger, segment)?;
-    reply.print(airport, &Block::Occupancy { segment, held })
+    reply.print(airport, Block::Occupancy { segment, held })
 }
 
 // Writes the flights in force as the reply.
@@ -77,5 +77,5 @@ fn print_timetable(
     // The airport keeps its rules, so each flight is of one of its classes.
     let _ = airport.horizon();
     let flights = timetable(alloc, ledger)?;
-    reply.print(airport, &Block::Timetable { flights })
+    reply.print(airport, Block::Timetable { flights })
 }

@@ -115,7 +115,7 @@ impl Engine {
         ensures { IsToldOrMemory (record { block = block.NoRoute labels; after = self.old.state }) self.old self.new }
     {
         let block = Block::NoRoute { labels };
-        if self.reply.print(&self.airport, &block).is_err() {
+        if self.reply.print(&self.airport, block).is_err() {
             self.refuse(&Refusal::Memory);
         }
     }

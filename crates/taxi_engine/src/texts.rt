@@ -18,7 +18,7 @@ pub(crate) fn filed_text(airport: &Airport, flight: &Flight) -> ShortText
     let steps = flight.steps.as_slice();
     text_of(
         airport,
-        &Block::Filed {
+        Block::Filed {
             flight: flight.name,
             start: begin_of(steps),
             end: end_of(steps),
@@ -32,7 +32,7 @@ pub(crate) fn shut_text(airport: &Airport, party: &Party) -> ShortText
 {
     text_of(
         airport,
-        &Block::Filed {
+        Block::Filed {
             flight: party.name,
             start: party.from,
             end: party.until,
@@ -44,20 +44,20 @@ pub(crate) fn shut_text(airport: &Airport, party: &Party) -> ShortText
 pub(crate) fn cancelled_text(airport: &Airport, flight: &Name) -> ShortText
     ensures { result ≡ block_text airport.now (Cancelled flight.now) }
 {
-    text_of(airport, &Block::Cancelled { flight: *flight })
+    text_of(airport, Block::Cancelled { flight: *flight })
 }
 
 /// The reply where a command is refused.
 pub(crate) fn refused_text(airport: &Airport, why: &Refusal) -> ShortText
     ensures { result ≡ block_text airport.now (Refused why.now) }
 {
-    text_of(airport, &Block::Refused(*why))
+    text_of(airport, Block::Refused(*why))
 }
 
-// The text of a short block.
-fn text_of(airport: &Airport, block: &Block) -> ShortText
-    requires { is_long block.now ≡ false }
-    ensures { result ≡ block_text airport.now block.now }
+// The text of a short block, which is let go here for all of them.
+fn text_of(airport: &Airport, block: Block) -> ShortText
+    requires { is_long block ≡ false }
+    ensures { result ≡ block_text airport.now block }
 {
-    print_short(airport, block).unwrap()
+    print_short(airport, &block).unwrap()
 }

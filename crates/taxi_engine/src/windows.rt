@@ -47,7 +47,7 @@ fn print_windows(
     ensures { OnOk result (reply.new ≡ block_text airport.now (Windows segment (windows_among airport.now ledger.now.state segment))) }
 {
     let windows = spans_of(alloc, ledger.store(), segment)?;
-    reply.print(airport, &Block::Windows { segment, windows })
+    reply.print(airport, Block::Windows { segment, windows })
 }
 
 // The windows of a segment without their ids.

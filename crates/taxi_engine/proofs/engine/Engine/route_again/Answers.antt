@@ -1,14 +1,17 @@
 use Rattle.std.proofs.Common.{◌≡◌, sym, subst}
 use Rattle.std.specs.Prelude.{IfSome}
 use Rattle.taxi_base.specs.declared.answers.Found.TheVariants as found
+use Rattle.taxi_base.specs.declared.answers.Refusal.{Refusal}
 use Rattle.taxi_base.specs.State.{State, flight_named, with_flight, without, IsSound}
 use Rattle.replies.specs.declared.block.Block.TheVariants.{Route, NoRoute}
 use Rattle.replies.specs.CarriedOut.{second_of}
+use Rattle.replies.specs.Replies.{refused}
 use Rattle.reroute.specs.Refused.{again_refusal}
 use Rattle.taxi_engine.specs.Engine.{EngineState}
+use Rattle.taxi_engine.specs.Done.{IsDone}
 use Rattle.taxi_engine.specs.Routed.{IsToldOrMemory}
-use Rattle.taxi_engine.specs.Rerouted.{request_to, IsToldAgain}
-use Rattle.taxi_engine.proofs.ReroutedTold.{flight-meets, IsFoundFor, found-unrefused, found-arcs, made-another, route-told, no_route-told}
+use Rattle.taxi_engine.specs.Rerouted.{refusal_told, request_to, IsFoundAgainTold, IsToldAgain}
+use Rattle.taxi_engine.proofs.ReroutedTold.{flight-meets, IsFoundFor, found-unrefused, found-arcs, made-another, route-told, no_route-told, as-before-kept, refused-told}
 use Rattle.taxi_engine.proofs.engine.Engine.route_again.Goals as goal
 
 pub again-requires-clause-meets : goal.again-requires-clause-meets
@@ -62,3 +65,23 @@ returns-in-Ok-NoRoute c =
     (no_route-told airport c.self.inside.ledger.state c.self.inside.reply c.tell_no_route.new.self name c.args.time c.args.to none labels told
     (subst (λ (s : State). IsToldOrMemory (record { block = NoRoute labels; after = s }) (record { airport = airport; state = s; reply = c.self.inside.reply }) c.tell_no_route.new.self)
     same c.tell_no_route.ensures))
+
+pub invariant_of-self : goal.invariant_of-self
+invariant_of-self c = as-before-kept c.self.inside.airport c.self.inside.ledger c.again.new.ledger c.again.ensures.as_before c.self.invariant.0 c.self.invariant.2
+
+pub invariant_of-self-in-Ok-NoRoute : goal.invariant_of-self-in-Ok-NoRoute
+invariant_of-self-in-Ok-NoRoute c = as-before-kept c.self.inside.airport c.self.inside.ledger c.again.new.ledger c.again.ensures.as_before c.self.invariant.0 c.self.invariant.2
+
+pub invariant_of-self-in-Err : goal.invariant_of-self-in-Err
+invariant_of-self-in-Err c = as-before-kept c.self.inside.airport c.self.inside.ledger c.again.new.ledger c.again.ensures.as_before c.self.invariant.0 c.self.invariant.2
+
+pub returns-in-Err : goal.returns-in-Err
+returns-in-Err c =
+    let name = c.args.name.now in
+    let old : EngineState = record { airport = c.self.inside.airport; state = c.self.inside.ledger.state; reply = c.self.inside.reply } in
+    let told : IsDone (refused old.state (refusal_told c.in-Err.why)) old c.refuse.new.self =
+    subst (λ (why : Refusal). IsDone (refused old.state why) old c.refuse.new.self) c.refusal_told.ensures
+    (subst (λ (s : State). IsDone (refused s c.refusal_told.result) old c.refuse.new.self) c.again.ensures.as_before.state c.refuse.ensures) in
+    subst (λ (s : EngineState). IsToldAgain name c.args.time c.args.to s c.refuse.new.self) c.self.view_is
+    (refused-told (IsFoundAgainTold name c.args.time c.args.to old c.refuse.new.self) (again_refusal old.state.flights name c.args.time c.args.to) c.in-Err.why
+    (λ (why : Refusal). IsDone (refused old.state why) old c.refuse.new.self) c.in-Err.ensures.refused told)
