@@ -83,10 +83,6 @@ module _ (s : Sought) (block : Block) where
   told-found form old new (Err (Wrong broken)) found same left = (told-of form (Some broken) found, same)
   told-found form old new (Err Memory) found same left = same
 
-  -- a rule that is broken is told, and the state stays
-  pub told-err : IsFormOf s block → (state : State) (broken : Option Rule) (why : CheckRefused) → answer_of broken ≡ Err why → IsFirstOf (λ r. KeepsSought r s block) broken → IsToldOf s block state (Err why) state
-  told-err form state broken why is first = told-found form state state (Err why) (answered-by (λ r. KeepsSought r s block) broken (Err why) is first) refl (λ done e. absurd (cc e))
-
   -- a route that breaks no rule is in force
   pub told-passed : IsFormOf s block → IsFirstOf (λ r. KeepsSought r s block) None → (old new : State) → new ≡ after_told s block → IsToldOf s block old (Ok tt) new
   told-passed form all old new is = (told-of form None all, is)
