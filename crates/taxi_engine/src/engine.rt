@@ -54,8 +54,11 @@ impl Engine {
     pub fn new(alloc: Global, airport: Airport) -> Result<Engine, Memory>
         ensures { IfOk result (λ e. e ≡ record { airport = airport; state = no_holder; reply = [] }) }
     {
-        let beginning = beginning_over(alloc, &airport)?;
-        Ok(Engine::begun(alloc, airport, beginning))
+        // A match moves what the engine begins with once, a `?` twice.
+        match beginning_over(alloc, &airport) {
+            Ok(beginning) => Ok(Engine::begun(alloc, airport, beginning)),
+            Err(memory) => Err(memory),
+        }
     }
 
     // The engine that begins so. Nothing fails any more where the airport goes in.
