@@ -36,14 +36,16 @@ pub(crate) fn check<S: Shelf, K: Sink>(
         Ok(read) => {
             let commands = read.commands.as_slice();
             let transcript = read.transcript.as_slice();
-            let Ok(verdict) = verdict_of(alloc, &read.airport, commands, transcript) else {
-                return Status::Memory;
-            };
+            let verdict = verdict_of(alloc, &read.airport, commands, transcript);
+            drop(read);
             match verdict {
-                Verdict::Right { count } => write_last(out, ok_line(count).bytes(), Status::Done),
-                Verdict::Wrong { number, why } => {
+                Ok(Verdict::Right { count }) => {
+                    write_last(out, ok_line(count).bytes(), Status::Done)
+                }
+                Ok(Verdict::Wrong { number, why }) => {
                     write_last(out, wrong_line(number, why).bytes(), Status::Wrong)
                 }
+                Err(_) => Status::Memory,
             }
         }
         Err(stop) => write_stop(out, stop),
@@ -61,5 +63,7 @@ fn verdict_of(
     ensures { IfOk result (IsVerdict airport.now (commands_of commands.now) transcript.now) }
 {
     let mut checker = Checker::new(alloc, airport)?;
-    check_transcript(alloc, airport, &mut checker, commands, transcript)
+    let verdict = check_transcript(alloc, airport, &mut checker, commands, transcript);
+    drop(checker);
+    verdict
 }

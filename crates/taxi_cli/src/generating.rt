@@ -43,11 +43,22 @@ fn run_traffic(alloc: Global, traffic: &Traffic) -> Result<Summary, Memory>
     ensures { IfOk result (IsSummary traffic.now.number traffic.now.side traffic.now.flights) }
 {
     let airport = made_airport(alloc, traffic.number, traffic.side)?;
-    let own = made_airport(alloc, traffic.number, traffic.side)?;
-    run_over(alloc, traffic, &airport, own)
+    let summary = run_beside(alloc, traffic, &airport);
+    drop(airport);
+    summary
 }
 
-// The same over its airport, by a new engine, whose airport is `own`.
+// The same beside its airport, which the checker reads.
+fn run_beside(alloc: Global, traffic: &Traffic, airport: &Airport) -> Result<Summary, Memory>
+    requires { airport.now ≡ grid_airport traffic.now.number traffic.now.side }
+    ensures { IfOk result (IsSummary traffic.now.number traffic.now.side traffic.now.flights) }
+{
+    let own = made_airport(alloc, traffic.number, traffic.side)?;
+    run_over(alloc, traffic, airport, own)
+}
+
+// The same over its airport, by a new engine, whose airport is `own`. A call ends the engine, since a body that ends one by itself is
+// slow to prove.
 fn run_over(
     alloc: Global,
     traffic: &Traffic,
@@ -59,7 +70,9 @@ fn run_over(
     ensures { IfOk result (IsSummary traffic.now.number traffic.now.side traffic.now.flights) }
 {
     let mut engine = Engine::new(alloc, own)?;
-    run_checked(alloc, traffic, airport, &mut engine)
+    let summary = run_checked(alloc, traffic, airport, &mut engine);
+    drop(engine);
+    summary
 }
 
 // The same by an engine to whom no flight is in force, with each reply checked by a new checker.
@@ -75,7 +88,7 @@ fn run_checked(
     ensures { IfOk result (IsSummary traffic.now.number traffic.now.side traffic.now.flights) }
 {
     let mut checker = Checker::new(alloc, airport)?;
-    run_generated(
+    let summary = run_generated(
         alloc,
         traffic.number,
         traffic.side,
@@ -83,5 +96,7 @@ fn run_checked(
         airport,
         engine,
         &mut checker,
-    )
+    );
+    drop(checker);
+    summary
 }

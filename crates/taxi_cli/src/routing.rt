@@ -72,11 +72,15 @@ fn route_at<S: Shelf, K: Sink>(
             Ok(count) => write_last(out, done_line(count).bytes(), Status::Done),
             Err(refused) => write_halt(out, refused),
         },
-        Err(stop) => write_stop(out, stop),
+        Err(stop) => {
+            drop(airport);
+            write_stop(out, stop)
+        }
     }
 }
 
-// Answers the commands of the begun file by a new engine over an airport.
+// Answers the commands of the begun file by a new engine over an airport. A call ends the engine, since a body that ends one by itself is
+// slow to prove.
 fn run_engine<S: Shelf, K: Sink>(
     alloc: Global,
     airport: Airport,
@@ -95,5 +99,7 @@ fn run_engine<S: Shelf, K: Sink>(
     ensures files { S.files shelf.new ≡ S.files shelf.old }
 {
     let mut engine = Engine::new(alloc, airport)?;
-    run_commands(alloc, &mut engine, shelf, COMMANDS_LIMIT, out)
+    let count = run_commands(alloc, &mut engine, shelf, COMMANDS_LIMIT, out);
+    drop(engine);
+    count
 }

@@ -1,5 +1,5 @@
 //! What is asked of an airport alone.
-ghost use Rattle.std.specs.Prelude.{◌≤◌, ◌∷◌, [], IfOk, IfErr};
+ghost use Rattle.std.specs.Prelude.{◌≡◌, ◌≤◌, ◌∷◌, [], IfOk, IfErr};
 ghost use Rattle.taxi_io.specs.Files.{BeganMore};
 ghost use Rattle.program_files.specs.Stops.{IsCauseOfAirport};
 ghost use Rattle.taxi_tools.specs.Outcomes.{IsAirportText, IsOfAirport};
@@ -27,10 +27,20 @@ pub(crate) fn output_of_airport<S: Shelf>(
     ensures later { S.faults shelf.old ≤ S.faults shelf.new }
 {
     let airport = read_airport_file(alloc, shelf, airport)?;
-    let Ok(text) = airport_text(alloc, &airport, tool) else {
-        return Err(Stop::Memory);
-    };
-    Ok(text)
+    let output = airport_output(alloc, &airport, tool);
+    drop(airport);
+    output
+}
+
+// The same of an airport that is lent. One call above ends it, since a body that ends an airport by itself is slow to prove.
+fn airport_output(alloc: Global, airport: &Airport, tool: AirportTool) -> Result<Vec<u8>, Stop>
+    ensures ok { IfOk result (λ text. IsAirportText airport.now tool text.items) }
+    ensures stop { IfErr result (λ stop. stop ≡ Stop.Memory) }
+{
+    match airport_text(alloc, airport, tool) {
+        Ok(text) => Ok(text),
+        Err(_) => Err(Stop::Memory),
+    }
 }
 
 // What a tool writes of an airport. The only error is that memory ran out.

@@ -74,7 +74,7 @@ pub(crate) fn write_explanation<K: Sink>(
 }
 
 // Why the reply to one of some commands is as it is; none where there are fewer. The only error is that memory ran out, for a command before
-// it too. The engine is taken apart at once, since each place where one is let go costs a long proof.
+// it too. Calls end the engine's parts, since a body that ends them by itself is slow to prove.
 fn explanation(
     alloc: Global,
     airport: Airport,
@@ -89,9 +89,20 @@ fn explanation(
     let mut engine = Engine::new(alloc, airport)?;
     let line = run_before(&mut engine, commands, number);
     let (airport, ledger) = engine.into_parts();
-    match line? {
-        Some(line) => Ok(Some(text_of_line(alloc, &airport, ledger, line)?)),
-        None => Ok(None),
+    match line {
+        Ok(Some(line)) => {
+            let text = text_of_line(alloc, &airport, ledger, line);
+            drop(airport);
+            Ok(Some(text?))
+        }
+        Ok(None) => {
+            drop((airport, ledger));
+            Ok(None)
+        }
+        Err(memory) => {
+            drop((airport, ledger));
+            Err(memory)
+        }
     }
 }
 

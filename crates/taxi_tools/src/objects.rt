@@ -75,11 +75,14 @@ fn json_at<S: Shelf, K: Sink>(
             Ok(count) => write_last(out, done_line(count).bytes(), Status::Done),
             Err(refused) => write_halt(out, refused),
         },
-        Err(stop) => write_stop(out, stop),
+        Err(stop) => {
+            drop(airport);
+            write_stop(out, stop)
+        }
     }
 }
 
-// The same for the begun file.
+// The same for the begun file. A call ends the engine, since a body that ends one by itself is slow to prove.
 fn run_teller<S: Shelf, K: Sink>(
     alloc: Global,
     airport: Airport,
@@ -98,5 +101,7 @@ fn run_teller<S: Shelf, K: Sink>(
     ensures files { S.files shelf.new ≡ S.files shelf.old }
 {
     let mut teller = ObjectTeller::new(alloc, airport)?;
-    run_told(alloc, &mut teller, shelf, COMMANDS_LIMIT, out)
+    let count = run_told(alloc, &mut teller, shelf, COMMANDS_LIMIT, out);
+    drop(teller);
+    count
 }

@@ -30,13 +30,18 @@ impl ReplyCounter {
         ensures fresh { IfOk result (λ counter. counter.engine.state ≡ no_holder) }
         ensures none { IfOk result (λ counter. AreCounts counter.engine.airport [] counter.counts) }
     {
-        let counts = ReplyCounts::new(alloc)?;
         let engine = Engine::new(alloc, airport)?;
-        Ok(ReplyCounter {
-            alloc,
-            engine,
-            counts,
-        })
+        match ReplyCounts::new(alloc) {
+            Ok(counts) => Ok(ReplyCounter {
+                alloc,
+                engine,
+                counts,
+            }),
+            Err(memory) => {
+                drop(engine);
+                Err(memory)
+            }
+        }
     }
 
     /// What a tool writes after the replies that are counted. The only error is that memory ran out.

@@ -40,8 +40,8 @@ pub(crate) fn output_of_run<S: Shelf>(
     Ok(text)
 }
 
-// What a tool writes of a run over commands at an airport. The only error is that memory ran out, for a command too. An engine is let go at
-// one place alone, since each place costs a long proof.
+// What a tool writes of a run over commands at an airport. The only error is that memory ran out, for a command too. A call ends the
+// engine, since a body that ends one by itself is slow to prove.
 fn run_text(
     alloc: Global,
     airport: Airport,
@@ -52,7 +52,9 @@ fn run_text(
     ensures { IfOk result (λ text. IsRunText airport (commands_of commands.now) tool.now text.items) }
 {
     let mut counter = ReplyCounter::new(alloc, airport)?;
-    text_of(&mut counter, commands, tool)
+    let text = text_of(&mut counter, commands, tool);
+    drop(counter);
+    text
 }
 
 // The same where nothing is in force and no reply is counted.

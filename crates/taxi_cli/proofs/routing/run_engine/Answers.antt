@@ -17,11 +17,11 @@ returns-in_err-engine-clause-stopped g c =
 pub returns-clause-whole : goal.returns-clause-whole
 returns-clause-whole g c =
     let same = ap (λ (e : EngineState). e.airport) c.in_ok-engine.ensures in
-    subst (λ (a : Airport). IfOk c.run_commands.result (IsWholeRun a commands_limit (g.S.Shelf.rest c.args.shelf.now, g.S.Shelf.rest c.run_commands.new.shelf) (g.K.Sink.written c.args.out.now, g.K.Sink.written c.run_commands.new.out)))
-    same c.run_commands.ensures.whole
+    subst (λ (a : Airport). IfOk c.run_commands-count.result (IsWholeRun a commands_limit (g.S.Shelf.rest c.args.shelf.now, g.S.Shelf.rest c.run_commands-count.new.shelf) (g.K.Sink.written c.args.out.now, g.K.Sink.written c.run_commands-count.new.out)))
+    same c.run_commands-count.ensures.whole
 
 pub returns-clause-stopped : goal.returns-clause-stopped
 returns-clause-stopped g c =
     let same = ap (λ (e : EngineState). e.airport) c.in_ok-engine.ensures in
-    subst (λ (a : Airport). IfErr c.run_commands.result (IsStopped a commands_limit (g.S.Shelf.rest c.args.shelf.now, g.S.Shelf.rest c.run_commands.new.shelf) (g.S.Shelf.given c.args.shelf.now, g.S.Shelf.given c.run_commands.new.shelf) (g.K.Sink.written c.args.out.now, g.K.Sink.written c.run_commands.new.out)))
-    same c.run_commands.ensures.stopped
+    subst (λ (a : Airport). IfErr c.run_commands-count.result (IsStopped a commands_limit (g.S.Shelf.rest c.args.shelf.now, g.S.Shelf.rest c.run_commands-count.new.shelf) (g.S.Shelf.given c.args.shelf.now, g.S.Shelf.given c.run_commands-count.new.shelf) (g.K.Sink.written c.args.out.now, g.K.Sink.written c.run_commands-count.new.out)))
+    same c.run_commands-count.ensures.stopped

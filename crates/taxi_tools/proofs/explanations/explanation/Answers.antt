@@ -1,10 +1,9 @@
 use Rattle.std.proofs.Common.{◌≡◌, ◌<◌, ◌-◌, ◌∙◌, inl, inr, ℕ, List, length, slice_get, Option, Some, None, sym, ap, subst, arith}
 use Rattle.std.proofs.lemmas.Option.{slice_get_cases}
 use Rattle.taxi_base.specs.Airport.{Airport}
-use Rattle.taxi_base.specs.State.{State, IsSound}
+use Rattle.taxi_base.specs.State.{State}
 use Rattle.taxi_text.specs.FirstLines.{lent}
 use Rattle.taxi_text.specs.Lines.{commands_of}
-use Rattle.commitments.specs.Book.{Fits}
 use Rattle.taxi_engine.specs.Engine.{EngineState}
 use Rattle.command_run.specs.Supplied.{IsRunBefore}
 use Rattle.reply_reasons.specs.declared.reason.Reason.{Reason}
@@ -12,16 +11,6 @@ use Rattle.reply_reasons.specs.Explained.{IsExplained}
 use Rattle.reply_reasons.specs.Text.{reasons_text}
 use Rattle.taxi_tools.specs.Outcomes.{IsExplanation}
 use Rattle.taxi_tools.proofs.explanations.explanation.Goals as goal
-
-pub text_of_line-requires-clause-fits : goal.text_of_line-requires-clause-fits
-text_of_line-requires-clause-fits c =
-    let into = c.into_parts-airport in subst (λ (a : Airport). Fits a into.result.1) (sym into.ensures.airport) into.ensures.fits
-
-pub text_of_line-requires-clause-sound : goal.text_of_line-requires-clause-sound
-text_of_line-requires-clause-sound c =
-    let into = c.into_parts-airport in
-    subst (λ (a : Airport). IsSound a into.result.1.state) (sym into.ensures.airport)
-    (subst (λ (s : State). IsSound c.run_before-line.new.router.airport s) (sym into.ensures.state) into.ensures.sound)
 
 -- the line before which the run ended is explained
 explained : (airport first last : Airport) (commands : List (List ℕ)) (number : ℕ) (next : Option (List ℕ)) (line : List ℕ) (before after : State) (text : List ℕ)
@@ -36,13 +25,14 @@ explained airport first last commands number next line before after text f l n s
   whole = told.2 ∙ ap (λ (a : Airport). reasons_text a told.0) l;
 }
 
-pub returns-in-Some : goal.returns-in-Some
-returns-in-Some c =
+pub returns-in_ok-text-in-Ok-Some : goal.returns-in_ok-text-in-Ok-Some
+returns-in_ok-text-in-Ok-Some c =
     let into = c.into_parts-airport in
     let begun = ap (λ (e : EngineState). e.airport) c.in_ok-engine.ensures in
-    explained c.args.airport c.in_ok-engine.engine.airport into.result.0 (commands_of c.args.commands.now) c.args.number (lent c.in_ok-line.field-0) c.in-Some.line.now
-    c.run_before-line.new.router.state into.result.1.state c.in_ok-text_of_line-in-Some.field-0.items
-    begun (into.ensures.airport ∙ c.in_ok-line.ensures.airport ∙ begun) (ap lent c.in-Some.is) into.ensures.state c.in_ok-line.ensures.run c.in_ok-text_of_line-in-Some.ensures
+    let some : c.in-Ok-Some.field-0 ≡ Some c.in-Ok-Some.line = rw c.in-Ok-Some.is at c.in-Ok-Some.field-0-is in
+    explained c.args.airport c.in_ok-engine.engine.airport into.result.0 (commands_of c.args.commands.now) c.args.number (lent c.in-Ok-Some.field-0) c.in-Ok-Some.line.now
+    c.run_before-line.new.router.state into.result.1.state c.in_ok-text-in-Ok-Some.field-0.items
+    begun (into.ensures.airport ∙ c.in-Ok-Some.ensures.airport ∙ begun) (ap lent some) into.ensures.state c.in-Ok-Some.ensures.run c.in_ok-text-in-Ok-Some.ensures
 
 -- where the run ended before no line, there are fewer commands
 fewer : (commands : List (List ℕ)) (number : ℕ) → 0 < number → None ≡ slice_get commands (number - 1) → length commands < number
@@ -52,5 +42,7 @@ fewer commands number counted none =
       | inr past ↦ let far = past.0 in omega (arith, far, counted)
     ]
 
-pub returns : goal.returns
-returns c = fewer (commands_of c.args.commands.now) c.args.number c.requires (sym (ap lent c.in-None.is) ∙ c.in_ok-line.ensures.run.next_is)
+pub returns-in-Ok-None : goal.returns-in-Ok-None
+returns-in-Ok-None c =
+    let none : c.in-Ok-None.field-0 ≡ None = rw c.in-Ok-None.is at c.in-Ok-None.field-0-is in
+    fewer (commands_of c.args.commands.now) c.args.number c.requires (sym (ap lent none) ∙ c.in-Ok-None.ensures.run.next_is)

@@ -24,8 +24,8 @@ returns-in_err-teller-clause-stopped g c =
 
 pub returns-clause-whole : goal.returns-clause-whole
 returns-clause-whole g c =
-    subst (λ (a : Airport). IfOk c.run_told.result (IsWholeTold object_of a commands_limit (g.S.Shelf.rest c.args.shelf.now, g.S.Shelf.rest c.run_told.new.shelf) (g.K.Sink.written c.args.out.now, g.K.Sink.written c.run_told.new.out)))
-    c.in_ok-teller.ensures.airport c.run_told.ensures.whole
+    subst (λ (a : Airport). IfOk c.run_told-count.result (IsWholeTold object_of a commands_limit (g.S.Shelf.rest c.args.shelf.now, g.S.Shelf.rest c.run_told-count.new.shelf) (g.K.Sink.written c.args.out.now, g.K.Sink.written c.run_told-count.new.out)))
+    c.in_ok-teller.ensures.airport c.run_told-count.ensures.whole
 
 -- with that a failed write is prompt
 both : (airport : Airport) (limit : ℕ) (left : Told) (given : Pieces) (written : Outputs) (result : Result ℕ RunRefused) → IfErr result (IsStoppedTold object_of airport limit left written)
@@ -36,8 +36,8 @@ both airport limit left given written (Err why) stopped prompt = (stopped, λ is
 pub returns-clause-stopped : goal.returns-clause-stopped
 returns-clause-stopped g c =
     let s = g.S.Shelf in
-    let left : Told = (s.rest c.args.shelf.now, s.rest c.run_told.new.shelf) in
-    let given : Pieces = (s.given c.args.shelf.now, s.given c.run_told.new.shelf) in
-    let written : Outputs = (g.K.Sink.written c.args.out.now, g.K.Sink.written c.run_told.new.out) in
-    subst (λ (a : Airport). IfErr c.run_told.result (AreStopped a commands_limit left given written)) c.in_ok-teller.ensures.airport
-    (both _ commands_limit left given written c.run_told.result c.run_told.ensures.stopped c.run_told.ensures.pace)
+    let left : Told = (s.rest c.args.shelf.now, s.rest c.run_told-count.new.shelf) in
+    let given : Pieces = (s.given c.args.shelf.now, s.given c.run_told-count.new.shelf) in
+    let written : Outputs = (g.K.Sink.written c.args.out.now, g.K.Sink.written c.run_told-count.new.out) in
+    subst (λ (a : Airport). IfErr c.run_told-count.result (AreStopped a commands_limit left given written)) c.in_ok-teller.ensures.airport
+    (both _ commands_limit left given written c.run_told-count.result c.run_told-count.ensures.stopped c.run_told-count.ensures.pace)
