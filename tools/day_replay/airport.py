@@ -1,4 +1,4 @@
-"""The airport file, as far as a picture of a day needs it. The router judges the file; this reads one that it accepts."""
+"""The airport file, as far as the scripts need it. The router judges the file; this reads one that it accepts."""
 import csv
 import io
 from dataclasses import dataclass, field
@@ -28,14 +28,23 @@ class Airport:
     segments: list = field(default_factory=list)
     seconds: dict = field(default_factory=dict)  # (segment, class) -> least seconds
     clearance: dict = field(default_factory=dict)  # class -> seconds
+    forbidden: set = field(default_factory=set)  # pairs of arc words
     conflicts: list = field(default_factory=list)  # lists of segment numbers
     segment_number: dict = field(default_factory=dict)
     class_number: dict = field(default_factory=dict)
     node_number: dict = field(default_factory=dict)
 
+    def of_kind(self, kind):
+        """The names of the runway nodes, the junctions or the stands."""
+        return [name for name, told in self.nodes if told == kind]
+
     def arc(self, word):
         """The number of an arc word: 2s along segment s, 2s + 1 against it."""
         return 2 * self.segment_number[word[:-1]] + (word[-1] == "-")
+
+    def arc_word(self, arc):
+        """The word of an arc by its number."""
+        return self.segments[arc // 2].name + "+-"[arc % 2]
 
     def tail(self, arc):
         """The node at which an arc begins."""
@@ -45,6 +54,10 @@ class Airport:
     def head(self, arc):
         """The node at which an arc ends."""
         return self.tail(arc ^ 1)
+
+    def head_name(self, arc):
+        """The name of the node at which an arc ends."""
+        return self.nodes[self.head(arc)][0]
 
     def least(self, segment, class_number):
         """The least seconds of a class on a segment."""
@@ -83,6 +96,8 @@ def add_record(airport, record):
         airport.seconds[pair] = int(fields[2])
     elif word == "clearance":
         airport.clearance[airport.class_number[fields[0]]] = int(fields[1])
+    elif word == "forbid":
+        airport.forbidden.add(tuple(fields))
     elif word == "conflict":
         airport.conflicts.append([airport.segment_number[name] for name in fields])
 

@@ -1,11 +1,16 @@
-"""Tests of tools/check_airport, with a program that answers as the router would, and of tools/make_day."""
+"""Tests of tools/check_airport, with a program that answers as the router would, of tools/make_day, and of the walks that it asks for."""
 import os
 import subprocess
 import sys
 import tempfile
 import unittest
 
+sys.dont_write_bytecode = True
 TOOLS = os.path.dirname(os.path.dirname(os.path.abspath(__file__)))
+sys.path.insert(0, TOOLS)
+
+from day_replay.airport import read_airport  # noqa: E402
+from day_replay.walks import classes_at, reached  # noqa: E402
 
 
 class Days(unittest.TestCase):
@@ -23,6 +28,46 @@ class Days(unittest.TestCase):
         # A departure goes from the stand to which its arrival came.
         stands = {row[1][3:]: row[4] for row in rows[2:] if row[0] == "arrival"}
         self.assertTrue(all(stands[row[1][3:]] == row[3] for row in rows[2:] if row[0] == "departure"))
+
+    def test_a_file_that_is_no_airport(self):
+        ran = subprocess.run([sys.executable, os.path.join(TOOLS, "make_day"), __file__], capture_output=True, text=True)
+        self.assertEqual((ran.returncode, ran.stdout), (2, ""))
+        self.assertIn("the first record is not taxi-airport", ran.stderr)
+
+
+# From R one comes by J to the stand S. L may not go onto B, and nobody comes back from K.
+PARTED = b"""taxi-airport,1
+horizon,100
+node,R,runway
+node,J,junction
+node,K,junction
+node,S,stand
+class,M
+class,L
+segment,A,R,J,both
+segment,B,J,S,both
+segment,C,J,K,one
+seconds,A,M,30
+seconds,A,L,30
+seconds,B,M,30
+seconds,C,M,30
+"""
+
+
+class Walks(unittest.TestCase):
+    def test_classes_and_directions(self):
+        airport = read_airport(PARTED)
+        self.assertEqual(classes_at(airport, "S"), ["M"])
+        self.assertEqual(reached(airport, "M", "R"), {"J", "K", "S"})
+        self.assertEqual(reached(airport, "L", "R"), {"J"})
+        self.assertEqual(reached(airport, "M", "S"), {"J", "K", "R"})
+        self.assertEqual(reached(airport, "M", "K"), set())
+
+    def test_a_turn_that_is_forbidden(self):
+        self.assertEqual(reached(read_airport(PARTED + b"forbid,A+,B+\n"), "M", "R"), {"J", "K"})
+
+    def test_a_byte_order_mark(self):
+        self.assertEqual(read_airport(b"\xef\xbb\xbf" + PARTED), read_airport(PARTED))
 
 
 # Answers as the program does: stands whose name begins with N are not reached.
