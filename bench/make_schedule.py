@@ -13,7 +13,7 @@ DAY = datetime.datetime(2026, 3, 29)
 def spoilt(fields, k):
     """The fields of a row with one thing wrong: the first field, their number, a name, the time, the number, a name that
     nothing has, the kinds, the day."""
-    word, flight, tag, start, to, when, slack = fields
+    word, flight, class_name, start, to, when, slack = fields
     return (
         ["cargo"] + fields[1:],
         fields + ["late"],
@@ -21,7 +21,7 @@ def spoilt(fields, k):
         fields[:5] + [when + "Z", slack],
         fields[:6] + ["x"],
         [word, flight, "none"] + fields[3:],
-        [word, flight, tag, to, start, when, slack],
+        [word, flight, class_name, to, start, when, slack],
         fields[:5] + ["2031" + when[4:], slack],
     )[k % 8]
 
@@ -42,11 +42,11 @@ def rows(airport):
         runway = nodes["runway"][(7 * k) % len(nodes["runway"])]
         stand = nodes["stand"][(11 * k) % len(nodes["stand"])]
         when = (DAY + datetime.timedelta(seconds=(97 * k) % 82800)).isoformat()
-        tag = classes[k % len(classes)]
+        class_name = classes[k % len(classes)]
         if k % 2 == 0:
-            fields = ["arrival", f"F{k}", tag, runway, stand, when + "+01:00", "120"]
+            fields = ["arrival", f"F{k}", class_name, runway, stand, when + "+01:00", "120"]
         else:
-            fields = ["departure", f"F{k}", tag, stand, runway, when + "Z", "900"]
+            fields = ["departure", f"F{k}", class_name, stand, runway, when + "Z", "900"]
         yield ",".join(spoilt(fields, k // 8) if k % 8 == 7 else fields)
         k += 1
 

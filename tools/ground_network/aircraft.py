@@ -23,6 +23,7 @@ class AircraftClass:
 
     @property
     def span(self):
+        """The wing span in metres."""
         return WING_SPANS[self.size]
 
     def fits(self, size):
@@ -30,7 +31,12 @@ class AircraftClass:
         return not size or self.size <= size
 
     def is_let_in(self, kinds):
+        """Whether a startup location of these kinds lets the class in; one of none lets all in."""
         return not kinds or "all" in kinds or bool(self.kinds & kinds)
+
+    def seconds_on(self, metres, is_lead):
+        """The least whole seconds that the class needs for a length, 1 at least."""
+        return max(1, math.ceil(round(metres / (self.lead if is_lead else self.speed), 6)))
 
 
 DEFAULTS = {
@@ -56,6 +62,7 @@ def class_of(words):
 
 
 def value_of(key, value):
+    """The value of a setting; one that it can't have is a ValueError, whose text says what it may be."""
     if key in ("speed", "lead"):
         speed = float(value)
         if not 0.1 <= speed <= 50:
@@ -77,21 +84,20 @@ def value_of(key, value):
 def classes_of(texts):
     """The classes that are asked for, or L, M and H."""
     classes = [class_of(text) for text in texts] or list(DEFAULTS.values())
-    names = [tag.name for tag in classes]
-    if len(set(names)) < len(names) or len(names) > MOST_CLASSES:
+    if len(names_of(classes)) < len(classes) or len(classes) > MOST_CLASSES:
         raise Problem(BAD_WORDS, f"--class: each name once, and at most {MOST_CLASSES} of them")
     return classes
 
 
-def seconds_on(tag, metres, is_lead):
-    """The least whole seconds that a class needs for a length, 1 at least."""
-    return max(1, math.ceil(round(metres / (tag.lead if is_lead else tag.speed), 6)))
+def names_of(classes):
+    """The names of some classes."""
+    return frozenset(aircraft_class.name for aircraft_class in classes)
 
 
 def classes_at(start, classes):
     """The classes that a startup location takes, and whether its size and its kinds say different things."""
     if start.classes:
-        return frozenset(tag.name for tag in classes if tag.name in start.classes), False
-    by_kind = [tag for tag in classes if tag.is_let_in(start.kinds)]
-    by_both = [tag for tag in by_kind if tag.fits(start.size)]
-    return frozenset(tag.name for tag in by_both or by_kind), bool(by_kind) and not by_both
+        return names_of(classes) & frozenset(start.classes), False
+    by_kind = [aircraft_class for aircraft_class in classes if aircraft_class.is_let_in(start.kinds)]
+    by_both = [aircraft_class for aircraft_class in by_kind if aircraft_class.fits(start.size)]
+    return names_of(by_both or by_kind), bool(by_kind) and not by_both

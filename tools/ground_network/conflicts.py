@@ -1,4 +1,6 @@
 """Which pieces conflict, and the sets that say it: each pair stands in one set at least, and no set has more than 16."""
+import itertools
+
 from ground_network.plane import Grid, gap
 from ground_network.problem import NOTHING_TO_MAKE, Problem
 
@@ -11,7 +13,7 @@ class Conflicts:
 
     def __init__(self, pieces, classes, widest):
         self.pieces = pieces
-        self.spans = {tag.name: min(tag.span, widest) for tag in classes}
+        self.spans = {aircraft_class.name: min(aircraft_class.span, widest) for aircraft_class in classes}
         self.others = [set() for _ in pieces.all]
         self.at_node = {}
         for number, piece in enumerate(pieces.all):
@@ -23,6 +25,7 @@ class Conflicts:
         self.add_close()
 
     def add(self, a, b):
+        """Adds a pair of pieces, once."""
         if a != b and b not in self.others[a]:
             self.others[a].add(b)
             self.others[b].add(a)
@@ -31,13 +34,13 @@ class Conflicts:
                 raise Problem(NOTHING_TO_MAKE, f"over {MOST_PAIRS} pairs of segments are in conflict; a smaller --span makes them fewer")
 
     def add_all(self, numbers):
-        for k, a in enumerate(numbers):
-            for b in numbers[k + 1:]:
-                self.add(a, b)
+        """Adds each two of some pieces."""
+        for a, b in itertools.combinations(numbers, 2):
+            self.add(a, b)
 
     def span(self, number):
         """The wing span of the widest class that may use a piece."""
-        return max((self.spans[tag] for tag in self.pieces.all[number].classes), default=0.0)
+        return max((self.spans[class_name] for class_name in self.pieces.all[number].classes), default=0.0)
 
     def add_close(self):
         """Adds the pieces that cross, or come nearer to each other than the mean of their wing spans."""

@@ -12,22 +12,11 @@ Lines that are blank or begin with # say nothing. A thing is named only after th
 from ground_network.names import is_name
 from ground_network.plane import Projection
 from ground_network.problem import NOTHING_TO_MAKE, UNREADABLE, Problem
-from ground_network.source import Runway, Source, SourceEdge, SourceNode, Start
+from ground_network.source import Runway, Source, SourceEdge, SourceNode, Start, number
 
 FIRST = b"taxi-drawing,"
-FARTHEST = 30_000.0
 # How many fields each line has behind its word, at least and at most.
 COUNTS = {"origin": (2, 2), "runway": (6, 6), "node": (3, 3), "taxiway": (4, 1000), "stand": (4, 4)}
-
-
-def number(word, low=-FARTHEST, high=FARTHEST):
-    try:
-        value = float(word)
-    except ValueError:
-        value = None
-    if value is None or not low <= value <= high:
-        raise ValueError(f"{word} is no number from {low:g} to {high:g}")
-    return value
 
 
 class Reader:
@@ -38,6 +27,7 @@ class Reader:
         self.nodes, self.stands = set(), set()
 
     def take(self, fields):
+        """Takes the fields of one line by the method that is called as its word."""
         word, fields = fields[0], fields[1:]
         if word not in COUNTS:
             raise ValueError(f"{word} is none of {', '.join(COUNTS)}")
@@ -47,6 +37,7 @@ class Reader:
         getattr(self, word)(*fields)
 
     def new_name(self, name):
+        """A name that was not given before."""
         if not is_name(name):
             raise ValueError(f"{name} is no name: 1 to 16 letters, digits and _ - / .")
         if name in self.nodes or name in self.stands:

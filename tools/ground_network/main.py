@@ -7,13 +7,16 @@ from ground_network.aircraft import classes_of
 from ground_network.drawing import FIRST, read_drawing
 from ground_network.making import Choices, make_airport
 from ground_network.pieces import Cutting
-from ground_network.problem import BAD_WORDS, NOTHING_TO_MAKE, UNREADABLE, UNWRITTEN, Problem, Report
+from ground_network.problem import BAD_WORDS, NOTHING_TO_MAKE, UNWRITTEN, Problem, Report, unreadable
+from ground_network.source import opened
 from ground_network.xplane import list_entries, read_airport
 
 NAME = "airport_from_xplane"
 
 
 class Words(argparse.ArgumentParser):
+    """The command line; words of no form end the run as other problems do."""
+
     def error(self, message):
         raise Problem(BAD_WORDS, f"{message}; see --help")
 
@@ -47,6 +50,7 @@ STATUSES = """Status 0: written; 1: wrong words; 2: nothing can be made of it; 3
 
 
 def words():
+    """The words that the command line takes."""
     parser = Words(prog=NAME, description=ABOUT, epilog=STATUSES)
     parser.add_argument("file", metavar="FILE", help="an apt.dat, or a drawing; - is standard input")
     parser.add_argument("airport", metavar="ICAO", nargs="?", help="the airport's code, where the file has more than one")
@@ -69,23 +73,25 @@ def words():
 def starts_as_drawing(path):
     """Whether a file begins as a drawing does; what is looked at is still there to be read."""
     try:
-        stream = sys.stdin.buffer if path == "-" else open(path, "rb")
+        stream = opened(path)
         start = stream.peek(32)[:32].removeprefix(b"\xef\xbb\xbf")
         if path != "-":
             stream.close()
         return start.startswith(FIRST)
     except OSError as error:
-        raise Problem(UNREADABLE, f"{path} can't be read: {error.strerror or error}") from error
+        raise unreadable(path, error) from error
 
 
 def read_source(told, report):
+    """What the file says of its airport, be it a drawing or an apt.dat."""
     if starts_as_drawing(told.file):
-        with sys.stdin.buffer if told.file == "-" else open(told.file, "rb") as stream:
+        with opened(told.file) as stream:
             return read_drawing(told.file, stream.read(), report)
     return read_airport(told.file, told.airport, report)
 
 
 def choices_of(told):
+    """What the options choose."""
     cutting = Cutting(told.cut_from, told.stub, told.piece)
     classes = tuple(classes_of(told.classes))
     return Choices(classes, cutting, told.lead_in, told.span, told.sharp, told.keep_runway_edges, told.dead_ends)
@@ -104,6 +110,7 @@ def write(text, map_text, map_path):
 
 
 def run(arguments, report):
+    """Writes what the words ask for: the list of airports, or one airport and its map."""
     told = words().parse_args(arguments)
     if told.list:
         write("".join(line + "\n" for line in list_entries(told.file)), "", None)

@@ -1,8 +1,10 @@
 """Makes the airport out of what was read, step by step."""
+import itertools
 import math
 from dataclasses import dataclass
 
 from ground_network import output
+from ground_network.aircraft import names_of
 from ground_network.conflicts import Conflicts
 from ground_network.network import build, keep_useful, mark_runways, thin_runways
 from ground_network.pieces import Cutting, Pieces
@@ -28,6 +30,7 @@ class Choices:
 
 
 def make_airport(source, choices, report):
+    """The airport that comes of a source; the report tells what was made and what was left out."""
     network = make_network(source, choices, report)
     start_at = make_stands(network, source, choices, report)
     turns, spared = forbid_turns(network, choices.classes, choices.sharpest)
@@ -99,11 +102,13 @@ def cut_to_fit(network, turns, choices, report):
 
 
 def refuse_too_large(why):
+    """Ends the run where there is too much of something."""
     if why:
         raise Problem(NOTHING_TO_MAKE, f"the network is too large for an airport file: {why}")
 
 
 def too_many(things, most, what):
+    """Says that there are more things than may be; the empty text where there are not."""
     return f"{len(things)} {what} of at most {most}" if len(things) > most else ""
 
 
@@ -114,16 +119,18 @@ def tell_made(airport, start_at, source, report):
     counts = f"{kinds.count('runway')} runway nodes, {kinds.count('junction')} junctions, {kinds.count('stand')} stands"
     rest = f"{len(pieces.all)} segments, {len(airport.turns)} forbidden turns, {len(airport.sets)} conflict sets"
     report.say(f"made, {counts}, {rest}")
-    for tag in airport.classes:
-        stands = sum(tag.name in allowed_at(pieces.network, node) for node in start_at)
-        report.say(f"class {tag.name}, {tag.speed:g} m/s on taxiways, {tag.lead:g} m/s on lead-ins, {stands} stands")
+    for aircraft_class in airport.classes:
+        name, speed, lead = aircraft_class.name, aircraft_class.speed, aircraft_class.lead
+        stands = sum(name in allowed_at(pieces.network, node) for node in start_at)
+        report.say(f"class {name}, {speed:g} m/s on taxiways, {lead:g} m/s on lead-ins, {stands} stands")
         if not stands:
-            report.warn(f"no stand takes class {tag.name}; see --class, or leave it out")
+            report.warn(f"no stand takes class {name}; see --class, or leave it out")
     tell_long_leads(airport, report)
     tell_unused_runways(pieces.network, airport.classes, source.runways, report)
 
 
 def allowed_at(network, node):
+    """The names of the classes that may use an edge at a node."""
     return frozenset().union(*(network.edges[key].classes for key in network.ends[node]))
 
 
@@ -137,14 +144,18 @@ def tell_long_leads(airport, report):
         report.warn(f"{len(names)} lead-ins are longer than {FAR_LEAD_IN:g} m, {advice}: {', '.join(names)}")
 
 
+def at_stands(ways, names, backward):
+    """The runway nodes from which some class reaches a stand, or with `backward` to which it leads from one."""
+    spreads, found = [Spread(ways, class_name, (), backward) for class_name in names], 0
+    for spread, stand in itertools.product(spreads, ways.stands):
+        found |= spread.at(stand)
+    return found
+
+
 def tell_unused_runways(network, classes, runways, report):
     """Warns of runways to which no stand leads, or from which none is reached."""
-    ways = Ways(network)
-    come = go = 0
-    for tag in classes:
-        there, back = Spread(ways, tag.name, ()), Spread(ways, tag.name, (), backward=True)
-        for stand in ways.stands:
-            come, go = come | there.at(stand), go | back.at(stand)
+    ways, names = Ways(network), names_of(classes)
+    come, go = at_stands(ways, names, backward=False), at_stands(ways, names, backward=True)
     for runway in runways:
         bits = sum(1 << bit for bit, node in enumerate(ways.runway) if network.nodes[node].runway is runway)
         if not bits:

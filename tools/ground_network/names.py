@@ -7,6 +7,7 @@ ALLOWED = re.compile(r"[A-Za-z0-9_/.-]+")
 
 
 def is_name(text):
+    """Whether a text is a name as it stands."""
     return len(text) <= LONGEST and ALLOWED.fullmatch(text) is not None
 
 

@@ -11,6 +11,7 @@ class Namer:
         self.nodes, self.names = {}, Names()
 
     def name_all(self):
+        """Names all, those first that the source names."""
         self.name_drawn_nodes()
         self.name_stands()
         self.name_pieces()
@@ -24,6 +25,7 @@ class Namer:
                 self.nodes[node] = self.names.take(told.wanted)
 
     def name_stands(self):
+        """Stands by the names of their startup locations."""
         for node in self.order:
             told = self.pieces.nodes[node]
             if told.kind == "stand":

@@ -1,6 +1,7 @@
 """The network of an airport while it is made: nodes, edges between them, and which nodes lie on a runway."""
 from dataclasses import dataclass, field, replace
 
+from ground_network.aircraft import names_of
 from ground_network.plane import between, distance, distance_to_line, nearest_part, turn_angle
 
 # No more edges may meet at a node than the airport file has segment ends for.
@@ -45,41 +46,53 @@ class Edge:
 
 
 class Network:
+    """`ends` has for each node the keys of the edges that meet there, `edges` each edge by its key."""
+
     def __init__(self):
         self.nodes, self.ends, self.edges = [], [], {}
         self.next_key = 0
 
     def add_node(self, node):
+        """Adds a node; gives its number."""
         self.nodes.append(node)
         self.ends.append({})
         return len(self.nodes) - 1
 
     def has_room(self, *nodes):
+        """Whether one more edge may meet at each of some nodes."""
         return all(len(self.ends[node]) < MOST_ENDS for node in nodes)
 
     def add_edge(self, edge):
+        """Adds an edge; gives its key."""
         key, self.next_key = self.next_key, self.next_key + 1
-        self.edges[key] = edge
-        self.ends[edge.first][key] = self.ends[edge.second][key] = True
+        self.put(key, edge)
         return key
 
-    def put_back(self, key, edge):
-        """Puts an edge back that was removed a moment ago."""
+    def put(self, key, edge):
+        """Puts an edge under a key, a new one or that under which it was removed."""
         self.edges[key] = edge
         self.ends[edge.first][key] = self.ends[edge.second][key] = True
 
     def remove_edge(self, key):
+        """Takes an edge out and gives it."""
         edge = self.edges.pop(key)
         del self.ends[edge.first][key], self.ends[edge.second][key]
         return edge
 
     def line(self, edge):
+        """The two points of an edge."""
         return self.nodes[edge.first].point, self.nodes[edge.second].point
 
     def length(self, edge):
+        """The metres of an edge."""
         return distance(*self.line(edge))
 
+    def of_kind(self, kind):
+        """The nodes of a kind at which an edge ends."""
+        return [number for number, node in enumerate(self.nodes) if node.kind == kind and self.ends[number]]
+
     def neighbours(self, node):
+        """The other ends of the edges at a node."""
         return {self.edges[key].other(node) for key in self.ends[node]}
 
     def onward(self, node, backward=False):
@@ -90,10 +103,11 @@ class Network:
                 yield edge, edge.other(node)
 
     def in_order(self):
+        """The keys of the edges, as the source has these."""
         return sorted(self.edges, key=lambda key: self.edges[key].order)
 
 
-def reached(network, starts, backward=False, tag=None, closed=-1, goal=-1):
+def reached(network, starts, backward=False, class_name=None, closed=-1, goal=-1):
     """The nodes to which one of some nodes leads, or with `backward` those that lead to one: for a class by its name where
     told, not through the node `closed`, and no farther than to the node `goal`."""
     seen = set(starts)
@@ -102,13 +116,14 @@ def reached(network, starts, backward=False, tag=None, closed=-1, goal=-1):
         if node == goal:
             break
         for edge, other in network.onward(node, backward):
-            if other not in seen and other != closed and (tag is None or tag in edge.classes):
+            if other not in seen and other != closed and (class_name is None or class_name in edge.classes):
                 seen.add(other)
                 waiting.append(other)
     return seen
 
 
 def leads(network, start, goal, closed=-1):
+    """Whether a node leads to another, not through the node `closed`."""
     return goal in reached(network, [start], closed=closed, goal=goal)
 
 
@@ -192,14 +207,8 @@ def thin_runways(network, runways, report):
         if leads(network, edge.first, edge.second) and (not edge.two_way or leads(network, edge.second, edge.first)):
             kept.discard(key)
         else:
-            network.put_back(key, edge)
-    waiting = list(range(len(network.nodes)))
-    for node in waiting:
-        if len(network.ends[node]) == 1 and kept.issuperset(network.ends[node]):
-            key = next(iter(network.ends[node]))
-            waiting.append(network.edges[key].other(node))
-            network.remove_edge(key)
-            kept.discard(key)
+            network.put(key, edge)
+    drop_loose_ends(network, kept)
     for key in kept:
         network.edges[key].on_runway = True
     why = "since nothing is cut off without them; --keep-runway-edges keeps them"
@@ -208,17 +217,25 @@ def thin_runways(network, runways, report):
         report.say(f"kept, edges along a runway ({len(kept)}), without which something would be cut off")
 
 
+def drop_loose_ends(network, keys):
+    """Takes out the edges of some keys that lead to a node with no other, one after the other, and their keys too."""
+    waiting = list(range(len(network.nodes)))
+    for node in waiting:
+        if len(network.ends[node]) == 1 and keys.issuperset(network.ends[node]):
+            key = next(iter(network.ends[node]))
+            waiting.append(network.edges[key].other(node))
+            network.remove_edge(key)
+            keys.discard(key)
+
+
 def keep_useful(network, classes, report):
     """Takes out the edges that no class can use: not reached from a runway node, or leading to none. Says which nodes go."""
-    runway = [k for k, node in enumerate(network.nodes) if node.kind == "runway"]
     before = {node for edge in network.edges.values() for node in (edge.first, edge.second)}
     for edge in network.edges.values():
-        edge.classes = frozenset(tag.name for tag in classes if tag.fits(edge.size))
-    useful = set()
-    for tag in classes:
-        come, go = reached(network, runway, tag=tag.name), reached(network, runway, backward=True, tag=tag.name)
-        useful.update(key for key, edge in network.edges.items() if tag.name in edge.classes and is_useful(edge, come, go))
-    removed = [network.remove_edge(key) for key in list(network.edges) if key not in useful]
+        edge.classes = names_of(aircraft_class for aircraft_class in classes if aircraft_class.fits(edge.size))
+    served = {class_name: come_and_go(network, class_name) for class_name in names_of(classes)}
+    useless = [key for key, edge in network.edges.items() if not is_useful(edge, served)]
+    removed = [network.remove_edge(key) for key in useless]
     between_used = [edge.label for edge in removed if network.ends[edge.first] and network.ends[edge.second]]
     report.left_out("edges", between_used, "by which no flight can come from a runway node and go to one")
     alone = [node.origin for k, node in enumerate(network.nodes) if k not in before]
@@ -227,11 +244,19 @@ def keep_useful(network, classes, report):
     report.left_out("nodes", gone, "to which no runway node leads and back")
 
 
-def is_useful(edge, come, go):
-    """Whether one can come onto an edge from a runway node, and go from it to one."""
+def come_and_go(network, class_name):
+    """The nodes to which a class comes from a runway node, and those from which it goes to one."""
+    runway = network.of_kind("runway")
+    return reached(network, runway, class_name=class_name), reached(network, runway, backward=True, class_name=class_name)
+
+
+def is_useful(edge, served):
+    """Whether one of some classes may use an edge, can come onto it from a runway node, and go from it to one. `served` has by
+    the names of the classes where they come and whence they go."""
     starts = {edge.first, edge.second} if edge.two_way else {edge.first}
     heads = {edge.first, edge.second} if edge.two_way else {edge.second}
-    return bool(starts & come) and bool(heads & go)
+    allowed = (served[class_name] for class_name in edge.classes if class_name in served)
+    return any(starts & come and heads & go for come, go in allowed)
 
 
 def split(network, key, places):

@@ -1,7 +1,6 @@
 """Writes the airport file and the map."""
 import json
 
-from ground_network.aircraft import seconds_on
 from ground_network.naming import Namer
 from ground_network.problem import NOTHING_TO_MAKE, Problem
 
@@ -21,13 +20,16 @@ class Airport:
         self.order, self.names = namer.order, namer.nodes
 
     def name(self, node):
+        """The name of a node."""
         return self.names[node]
 
     def seconds(self, piece):
         """The seconds of each class that may use a piece, by its name."""
-        return {tag.name: seconds_on(tag, piece.metres, piece.is_lead) for tag in self.classes if tag.name in piece.classes}
+        allowed = [aircraft_class for aircraft_class in self.classes if aircraft_class.name in piece.classes]
+        return {aircraft_class.name: aircraft_class.seconds_on(piece.metres, piece.is_lead) for aircraft_class in allowed}
 
     def direction(self, piece):
+        """The word for the directions of a piece."""
         return "both" if self.pieces.network.edges[piece.key].two_way else "one"
 
     def arc_word(self, arc, is_last):
@@ -44,29 +46,39 @@ def rows(airport, version, horizon):
     yield f"horizon,{horizon}"
     for node in airport.order:
         yield f"node,{airport.name(node)},{airport.pieces.nodes[node].kind}"
-    for tag in airport.classes:
-        yield f"class,{tag.name}"
+    for aircraft_class in airport.classes:
+        yield f"class,{aircraft_class.name}"
     for piece in airport.pieces.all:
         yield f"segment,{piece.name},{airport.name(piece.first)},{airport.name(piece.second)},{airport.direction(piece)}"
     for piece in airport.pieces.all:
-        for name, seconds in airport.seconds(piece).items():
-            if seconds > MOST_SECONDS:
-                long = f"segment {piece.name}, {piece.metres:.0f} m, takes class {name} {seconds} s"
-                raise Problem(NOTHING_TO_MAKE, f"{long}; the most is {MOST_SECONDS}")
-            yield f"seconds,{piece.name},{name},{seconds}"
-    if version == 2:
-        for tag in airport.classes:
-            if tag.clearance:
-                yield f"clearance,{tag.name},{tag.clearance}"
-    numbers = {piece.name: number for number, piece in enumerate(airport.pieces.all)}
-    pairs = [(airport.arc_word(a, True), airport.arc_word(b, False)) for a, b in airport.turns]
-    for first, second in sorted(pairs, key=lambda pair: [(numbers[word[:-1]], word[-1] == "-") for word in pair]):
-        yield f"forbid,{first},{second}"
+        yield from seconds_rows(airport, piece)
+    for aircraft_class in airport.classes:
+        if version == 2 and aircraft_class.clearance:
+            yield f"clearance,{aircraft_class.name},{aircraft_class.clearance}"
+    yield from turn_rows(airport)
     for members in airport.sets:
         yield "conflict," + ",".join(airport.pieces.all[number].name for number in members)
 
 
+def seconds_rows(airport, piece):
+    """The times of a segment. One that is longer than the airport file takes ends the run."""
+    for name, seconds in airport.seconds(piece).items():
+        if seconds > MOST_SECONDS:
+            long = f"segment {piece.name}, {piece.metres:.0f} m, takes class {name} {seconds} s"
+            raise Problem(NOTHING_TO_MAKE, f"{long}; the most is {MOST_SECONDS}")
+        yield f"seconds,{piece.name},{name},{seconds}"
+
+
+def turn_rows(airport):
+    """The forbidden turns, by the places of their segments in the file."""
+    numbers = {piece.name: number for number, piece in enumerate(airport.pieces.all)}
+    pairs = [(airport.arc_word(a, True), airport.arc_word(b, False)) for a, b in airport.turns]
+    for first, second in sorted(pairs, key=lambda pair: [(numbers[word[:-1]], word[-1] == "-") for word in pair]):
+        yield f"forbid,{first},{second}"
+
+
 def feature(geometry, points, projection, properties):
+    """A line of the map: a LineString through some points of the plane, or a Point at the first of them."""
     globe = [projection.to_globe(point) for point in points]
     places = [[round(longitude, 7), round(latitude, 7)] for latitude, longitude in globe]
     shape = {"type": geometry, "coordinates": places if geometry == "LineString" else places[0]}

@@ -51,6 +51,7 @@ class Pieces:
             self.cut(key, network.edges[key], cutting.places(network, network.edges[key]))
 
     def cut(self, key, edge, parts):
+        """Adds the pieces of an edge that is cut at some parts of its length."""
         p, q = self.network.line(edge)
         chain = [edge.first]
         for part in parts:
@@ -65,6 +66,7 @@ class Pieces:
             self.all.append(Piece(first, second, key, at, metres, "", edge.classes, is_lead))
 
     def points(self, piece):
+        """The two points of a piece."""
         return self.nodes[piece.first].point, self.nodes[piece.second].point
 
     def used_nodes(self):

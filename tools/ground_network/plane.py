@@ -25,6 +25,7 @@ class Projection:
         self.north, self.east = metres_per_degree(latitude)
 
     def to_plane(self, latitude, longitude):
+        """The point of the plane at a latitude and a longitude."""
         turned = (longitude - self.longitude + 180) % 360 - 180
         return (turned * self.east, (latitude - self.latitude) * self.north)
 
@@ -35,6 +36,7 @@ class Projection:
 
 
 def distance(p, q):
+    """The metres from a point to another."""
     return math.hypot(q[0] - p[0], q[1] - p[1])
 
 
@@ -54,6 +56,7 @@ def nearest_part(point, p, q):
 
 
 def distance_to_line(point, p, q):
+    """The metres from a point to a line."""
     return distance(point, between(p, q, nearest_part(point, p, q)))
 
 
@@ -104,6 +107,7 @@ class Grid:
         return found
 
     def add(self, key, p, q):
+        """Adds a line under a key."""
         for cell in self.cells(p, q, 0):
             self.squares.setdefault(cell, []).append(key)
 

@@ -11,6 +11,11 @@ class Problem(Exception):
         self.status = status
 
 
+def unreadable(path, error):
+    """The problem of a file that the machine does not read."""
+    return Problem(UNREADABLE, f"{path} can't be read: {error.strerror or error}")
+
+
 class Report:
     """Lines for standard error, in the order in which they were told."""
 
@@ -18,9 +23,11 @@ class Report:
         self.lines = []
 
     def say(self, text):
+        """Tells what was done."""
         self.lines.append(text)
 
     def warn(self, text):
+        """Tells what a person should look at."""
         self.lines.append(f"warning: {text}")
 
     def left_out(self, what, names, why):

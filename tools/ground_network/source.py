@@ -1,9 +1,31 @@
 """What is read of an airport before anything is made of it: metres in the plane, names as in the source."""
+import sys
 from dataclasses import dataclass, field
+
+# How many metres an airport reaches from its origin at most.
+FARTHEST = 30_000.0
+
+
+def opened(path):
+    """A file as a stream of bytes; - is standard input."""
+    return sys.stdin.buffer if path == "-" else open(path, "rb")
+
+
+def number(word, low=-FARTHEST, high=FARTHEST):
+    """The number of a word, in metres where no range is told."""
+    try:
+        value = float(word)
+    except ValueError:
+        value = None
+    if value is None or not low <= value <= high:
+        raise ValueError(f"{word} is no number from {low:g} to {high:g}")
+    return value
 
 
 @dataclass
 class Runway:
+    """A runway by its width and the ends of its centre line."""
+
     name: str
     width: float
     start: tuple
@@ -12,6 +34,8 @@ class Runway:
 
 @dataclass
 class SourceNode:
+    """A node by its number in the source; `name` is what it asks to be called, where told."""
+
     number: str
     point: tuple
     name: str = ""
@@ -42,6 +66,8 @@ class Start:
 
 @dataclass
 class Source:
+    """All that is read of one airport; `title` says of which."""
+
     title: str
     projection: object
     runways: list = field(default_factory=list)

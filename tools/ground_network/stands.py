@@ -1,8 +1,8 @@
 """Joins the startup locations to the network: each becomes a stand, by a lead-in or as the node that lies there."""
 from dataclasses import dataclass
 
-from ground_network.aircraft import classes_at
-from ground_network.network import BESIDE_RUNWAY, MOST_ENDS, Edge, Node, is_useful, leads, reached, split
+from ground_network.aircraft import classes_at, names_of
+from ground_network.network import BESIDE_RUNWAY, MOST_ENDS, Edge, Node, come_and_go, is_useful, leads, split
 from ground_network.plane import Grid, between, distance, distance_to_line, lines_cross, nearest_part
 
 # A node this near to a startup location may be the stand itself.
@@ -27,11 +27,12 @@ class Meeting:
 
 
 class StandMaker:
+    """Makes stands of startup locations. `start_at` has by the node of each its place in the source, its startup location and its classes.
+    `left` has the names of those that became none, by why, and `odd` those that were told two ways."""
+
     def __init__(self, network, runways, classes, longest):
         self.network, self.runways, self.classes, self.longest = network, runways, classes, longest
-        runway = [k for k, node in enumerate(network.nodes) if node.kind == "runway" and network.ends[k]]
-        self.come = {tag.name: reached(network, runway, tag=tag.name) for tag in classes}
-        self.go = {tag.name: reached(network, runway, backward=True, tag=tag.name) for tag in classes}
+        self.served = {class_name: come_and_go(network, class_name) for class_name in names_of(classes)}
         self.grid = Grid(100.0)
         for key in network.in_order():
             self.grid.add(key, *network.line(network.edges[key]))
@@ -41,18 +42,7 @@ class StandMaker:
 
     def make(self, starts):
         """Makes stands of the startup locations; gives the start and the classes of each stand by its node."""
-        wanted = []
-        for place, start in enumerate(starts):
-            allowed, odd = classes_at(start, self.classes)
-            if odd:
-                self.odd.append(start.name)
-            if self.is_on_runway(start.point):
-                self.left["on a runway"].append(start.name)
-            elif not allowed:
-                self.left["no class may use them"].append(start.name)
-            else:
-                wanted.append((place, start, allowed))
-        wanted = [item for item in wanted if not self.becomes_node(*item)]
+        wanted = [item for item in self.usable(starts) if not self.becomes_node(*item)]
         met = {}
         for place, start, allowed in wanted:
             meeting = self.best_meeting(start, allowed)
@@ -67,11 +57,28 @@ class StandMaker:
         self.limit_classes()
         return self.start_at
 
+    def usable(self, starts):
+        """The startup locations that some class may use, each with its place in the source and these classes."""
+        found = []
+        for place, start in enumerate(starts):
+            allowed, odd = classes_at(start, self.classes)
+            if odd:
+                self.odd.append(start.name)
+            if self.is_on_runway(start.point):
+                self.left["on a runway"].append(start.name)
+            elif not allowed:
+                self.left["no class may use them"].append(start.name)
+            else:
+                found.append((place, start, allowed))
+        return found
+
     def is_on_runway(self, point):
+        """Whether a point is on the pavement of a runway or close beside it."""
         return any(distance_to_line(point, r.start, r.end) <= r.width / 2 + BESIDE_RUNWAY for r in self.runways)
 
     def serves(self, edge, allowed):
-        return any(tag in edge.classes and is_useful(edge, self.come[tag], self.go[tag]) for tag in allowed)
+        """Whether a class that may use a stand can come by an edge and go by it."""
+        return is_useful(edge, {class_name: self.served[class_name] for class_name in allowed})
 
     def becomes_node(self, place, start, allowed):
         """Takes the nearest node as the stand where it is near enough and no way for others leads through it."""
@@ -106,6 +113,7 @@ class StandMaker:
             reach = min(2 * reach, self.longest)
 
     def best_within(self, start, allowed, reach):
+        """The best place for a lead-in to an edge within a distance, or None."""
         meetings = []
         for key in self.grid.near(start.point, start.point, reach):
             edge = self.network.edges[key]
@@ -137,6 +145,7 @@ class StandMaker:
         return Meeting((beyond, far * (3 - len(free)), edge.order), key, part, node)
 
     def lead_in(self, node, place, start, allowed):
+        """Makes a stand and joins it to a node."""
         stand = self.network.add_node(Node(start.point, "stand", wanted=start.name))
         self.network.add_edge(Edge(node, stand, True, (BEHIND_ALL + place, 0.0), stand=stand, classes=allowed))
         self.start_at[stand] = (place, start, allowed)
@@ -166,6 +175,7 @@ class StandMaker:
                 edge.stand = node
 
     def tell(self, report):
+        """Tells the startup locations that became no stands, and those that were told two ways."""
         for why, names in self.left.items():
             report.left_out("startup locations", names, why)
         if self.odd:
@@ -178,6 +188,6 @@ def add_dead_ends(network, classes, start_at):
     for node, place in enumerate(network.nodes):
         if place.kind == "junction" and len(network.neighbours(node)) == 1:
             place.kind = "stand"
-            start_at[node] = (0, None, frozenset(tag.name for tag in classes))
+            start_at[node] = (0, None, names_of(classes))
             for key in network.ends[node]:
                 network.edges[key].stand = node

@@ -20,11 +20,11 @@ def drop_unreached(network, start_at):
     have lost their edges."""
     ways = Ways(network)
     served = {node: set() for node in start_at}
-    for tag in sorted({tag for _, _, allowed in start_at.values() for tag in allowed}):
-        come, go = Spread(ways, tag, ()), Spread(ways, tag, (), backward=True)
+    for class_name in sorted({class_name for _, _, allowed in start_at.values() for class_name in allowed}):
+        come, go = Spread(ways, class_name, ()), Spread(ways, class_name, (), backward=True)
         for node in start_at:
             if come.at(node) and go.at(node):
-                served[node].add(tag)
+                served[node].add(class_name)
     for node in start_at:
         for key in list(network.ends[node]):
             network.edges[key].classes &= served[node]
@@ -39,29 +39,29 @@ def forbid_turns(network, classes, sharpest):
     ways = Ways(network)
     unwanted = unwanted_turns(ways, sharpest)
     forbidden = set(unwanted)
-    for tag in classes:
-        keep_ways(ways, tag.name, forbidden)
+    for aircraft_class in classes:
+        keep_ways(ways, aircraft_class.name, forbidden)
     order = sorted(forbidden, key=lambda turn: [(network.edges[key].order, back) for key, back in turn])
     return order, len(unwanted) - len(forbidden)
 
 
-def keep_ways(ways, tag, forbidden):
+def keep_ways(ways, class_name, forbidden):
     """Takes turns out of the forbidden ones until a class has all ways between runway nodes and stands that it has with none."""
-    now = [Spread(ways, tag, forbidden, backward) for backward in (False, True)]
+    now = [Spread(ways, class_name, forbidden, backward) for backward in (False, True)]
     for there in now:
-        whole = Spread(ways, tag, (), there.backward)
+        whole = Spread(ways, class_name, (), there.backward)
         for stand in ways.stands:
             while lost := whole.at(stand) & ~there.at(stand):
                 runway = ways.runway[lost.bit_length() - 1]
-                turns = way_back(ways, tag, (stand, runway) if there.backward else (runway, stand), forbidden)
+                turns = way_back(ways, class_name, (stand, runway) if there.backward else (runway, stand), forbidden)
                 forbidden.difference_update(turns)
                 for spread in now:
                     spread.allow(turns)
 
 
-def way_back(ways, tag, ends, forbidden):
+def way_back(ways, class_name, ends, forbidden):
     """The turns of a walk of a class from the first of two nodes to the second, with the fewest that are forbidden."""
     edges = ways.network.edges
-    starts = [arc for arc in ways.leaving.get(ends[0], ()) if tag in edges[arc[0]].classes]
-    goals = {arc for arc in ways.entering.get(ends[1], ()) if tag in edges[arc[0]].classes}
-    return ways.easiest(tag, starts, goals, forbidden)
+    starts = [arc for arc in ways.leaving.get(ends[0], ()) if class_name in edges[arc[0]].classes]
+    goals = {arc for arc in ways.entering.get(ends[1], ()) if class_name in edges[arc[0]].classes}
+    return ways.easiest(class_name, starts, goals, forbidden)

@@ -11,8 +11,7 @@ class Ways:
 
     def __init__(self, network):
         self.network = network
-        self.runway = [k for k, node in enumerate(network.nodes) if node.kind == "runway" and network.ends[k]]
-        self.stands = [k for k, node in enumerate(network.nodes) if node.kind == "stand" and network.ends[k]]
+        self.runway, self.stands = network.of_kind("runway"), network.of_kind("stand")
         self.leaving, self.entering = {}, {}
         for key in network.in_order():
             edge = network.edges[key]
@@ -21,26 +20,30 @@ class Ways:
                 self.add((key, 1), edge.second, edge.first)
 
     def add(self, arc, tail, head):
+        """Adds an arc at both of its nodes."""
         self.leaving.setdefault(tail, []).append(arc)
         self.entering.setdefault(head, []).append(arc)
 
     def head(self, arc):
+        """The node at which an arc ends."""
         edge = self.network.edges[arc[0]]
         return edge.first if arc[1] else edge.second
 
     def tail(self, arc):
+        """The node at which an arc begins."""
         edge = self.network.edges[arc[0]]
         return edge.second if arc[1] else edge.first
 
     def points(self, arc):
+        """The points of an arc's tail and head."""
         return self.network.nodes[self.tail(arc)].point, self.network.nodes[self.head(arc)].point
 
-    def next_arcs(self, arc, tag, backward=False):
+    def next_arcs(self, arc, class_name, backward=False):
         """The arcs of other edges that follow an arc, or with `backward` that come before it, forbidden turns or not."""
         arcs = self.entering.get(self.tail(arc), ()) if backward else self.leaving.get(self.head(arc), ())
-        return [other for other in arcs if other[0] != arc[0] and tag in self.network.edges[other[0]].classes]
+        return [other for other in arcs if other[0] != arc[0] and class_name in self.network.edges[other[0]].classes]
 
-    def easiest(self, tag, starts, goal, forbidden):
+    def easiest(self, class_name, starts, goal, forbidden):
         """The turns of a walk from one of some arcs to one of a goal's with the fewest forbidden turns; none where there is none."""
         best, before = {arc: 0 for arc in starts}, {arc: None for arc in starts}
         waiting = deque(starts)
@@ -48,7 +51,7 @@ class Ways:
             arc = waiting.popleft()
             if arc in goal:
                 return self.turns_back(arc, before)
-            for other in self.next_arcs(arc, tag):
+            for other in self.next_arcs(arc, class_name):
                 cost = best[arc] + ((arc, other) in forbidden)
                 if cost < best.get(other, cost + 1):
                     best[other], before[other] = cost, arc
@@ -59,6 +62,7 @@ class Ways:
         return []
 
     def turns_back(self, arc, before):
+        """The turns of the walk that ends with an arc, from the last to the first."""
         turns = []
         while before[arc] is not None:
             turns.append((before[arc], arc))
@@ -70,21 +74,22 @@ class Spread:
     """For each arc that a class may use, the runway nodes from which it is reached, or with `backward` those to which it leads.
     `masks` has them by arc. What is forbidden may become less, and then they are followed up."""
 
-    def __init__(self, ways, tag, forbidden, backward=False):
-        self.ways, self.tag, self.forbidden, self.backward = ways, tag, forbidden, backward
+    def __init__(self, ways, class_name, forbidden, backward=False):
+        self.ways, self.class_name, self.forbidden, self.backward = ways, class_name, forbidden, backward
         self.masks, waiting = {}, deque()
         at_runway = ways.entering if backward else ways.leaving
         for bit, node in enumerate(ways.runway):
             for arc in at_runway.get(node, ()):
-                if tag in ways.network.edges[arc[0]].classes:
+                if class_name in ways.network.edges[arc[0]].classes:
                     self.masks[arc] = self.masks.get(arc, 0) | 1 << bit
                     waiting.append(arc)
         self.follow(waiting)
 
     def follow(self, waiting):
+        """Hands on what some arcs have, until nothing is new."""
         while waiting:
             arc = waiting.popleft()
-            for other in self.ways.next_arcs(arc, self.tag, self.backward):
+            for other in self.ways.next_arcs(arc, self.class_name, self.backward):
                 if self.hand_on(arc, other):
                     waiting.append(other)
 

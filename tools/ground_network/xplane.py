@@ -1,25 +1,21 @@
 """Reads an airport out of a file of X-Plane's or FlightGear's airports (apt.dat), plain or packed with gzip."""
 import gzip
 import io
-import math
 import re
-import sys
 import zlib
 from collections import Counter
 
 from ground_network.plane import Projection, distance
-from ground_network.problem import NOTHING_TO_MAKE, UNREADABLE, Problem
-from ground_network.source import Runway, Source, SourceEdge, SourceNode, Start
+from ground_network.problem import NOTHING_TO_MAKE, UNREADABLE, Problem, unreadable
+from ground_network.source import FARTHEST, Runway, Source, SourceEdge, SourceNode, Start, number, opened
 
 HEADERS = (b"1", b"16", b"17")
 OLDEST, NEWEST = 1000, 1200
-FARTHEST = 30_000.0
 KINDS = {"heavy", "jets", "turboprops", "props", "helos", "fighters", "all"}
 
 
-def opened(path):
-    """The file as a stream of bytes, unpacked where it begins as gzip does."""
-    stream = sys.stdin.buffer if path == "-" else open(path, "rb")
+def unpacked(stream):
+    """The bytes of a stream, unpacked where it begins as gzip does."""
     is_packed = stream.peek(2)[:2] == b"\x1f\x8b"
     return io.BufferedReader(gzip.GzipFile(fileobj=stream), 1 << 20) if is_packed else stream
 
@@ -27,15 +23,16 @@ def opened(path):
 def lines_of(path):
     """The lines of a file as bytes; a file that can't be read or unpacked is a problem."""
     try:
-        with opened(path) as stream:
+        with unpacked(opened(path)) as stream:
             yield from stream
     except (EOFError, zlib.error, gzip.BadGzipFile) as error:
         raise Problem(UNREADABLE, f"{path} is cut short or damaged: {error}") from error
     except OSError as error:
-        raise Problem(UNREADABLE, f"{path} can't be read: {error.strerror or error}") from error
+        raise unreadable(path, error) from error
 
 
 def text_of(line):
+    """The text of a line: UTF-8, as the format says, or Latin 1, as older files have it."""
     try:
         return line.decode("utf-8")
     except UnicodeDecodeError:
@@ -73,6 +70,7 @@ class Entry:
         return any(word[1:2] == ["icao_code"] and word[2:3] and word[2].upper() == code for word in words)
 
     def count(self, code):
+        """How many rows of a code there are."""
         return sum(1 for _, line in self.rows if line.split(None, 1)[0] == code)
 
 
@@ -132,13 +130,6 @@ def list_entries(path):
             yield f"{entry.code} {nodes} nodes {entry.count(b'1202')} edges {starts} startup locations {name}"
 
 
-def number(word, low=-math.inf, high=math.inf):
-    value = float(word)
-    if not low <= value <= high:
-        raise ValueError(word)
-    return value
-
-
 class Reader:
     """Takes the rows of one airport. A row that is too short or has no number where one is due is left out and told."""
 
@@ -150,6 +141,7 @@ class Reader:
         self.last = None
 
     def read(self):
+        """What the rows say, each taken by the method of its code."""
         known = {"100": self.runway, "15": self.old_start, "1300": self.start, "1301": self.size}
         known |= {"1201": self.node, "1202": self.edge}
         for line_number, line in self.entry.rows:
@@ -165,6 +157,7 @@ class Reader:
         return self.source
 
     def finish(self):
+        """Takes the older startup locations where there are no others, and tells the rows that were left out."""
         if not self.source.starts:
             self.source.starts = self.old_starts
             self.old_starts = []

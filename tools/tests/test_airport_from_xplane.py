@@ -69,7 +69,7 @@ class Made:
         return any(first in row and second in row for row in self.of("conflict"))
 
     def seconds(self, name):
-        return {tag: int(count) for segment, tag, count in self.of("seconds") if segment == name}
+        return {class_name: int(count) for segment, class_name, count in self.of("seconds") if segment == name}
 
 
 def drawing(*lines):
