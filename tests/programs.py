@@ -2,13 +2,18 @@
 
 import os
 import subprocess
+import sys
 import tempfile
 import unittest
 
 TOP = os.path.dirname(os.path.dirname(os.path.realpath(__file__)))
+sys.path.insert(0, f"{TOP}/tools")
+
+# (the tests take it from here)
+from day_replay.statuses import Status  # noqa: E402, F401
+
 # How the names of the two compilers' builds of a program end.
 BUILDS = ("", ".by-rattle")
-DONE, USAGE, AIRPORT_REFUSED, READ_FAULT, WRITE_FAULT, TOO_LARGE, WRONG, SCHEDULE_REFUSED = 0, 1, 2, 3, 4, 6, 7, 8
 
 
 def builds_of(crate):

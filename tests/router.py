@@ -1,7 +1,7 @@
 """Calls of the router over small airports, for the tests beside this file."""
 
 import programs
-from programs import DONE
+from programs import Status
 
 # The records of an airport with one stand, behind the first two.
 ONE_STAND = b"""node,R,runway
@@ -40,7 +40,7 @@ CHECK = "check airport.csv commands.txt transcript.txt"
 class RouterTest(programs.ProgramTest):
     crate = "taxi_cli"
 
-    def route(self, airport, commands, text, status=DONE):
+    def route(self, airport, commands, text, status=Status.DONE):
         self.expect(ROUTE, {"airport.csv": airport, "commands.txt": commands}, status, text)
 
     def answers(self, airport, dialogue):
@@ -53,5 +53,5 @@ class RouterTest(programs.ProgramTest):
             "commands.txt": b"".join(commands),
             "transcript.txt": b"".join(replies) + b"done %d\n" % len(commands),
         }
-        self.expect(ROUTE, files, DONE, files["transcript.txt"])
-        self.expect(CHECK, files, DONE, b"ok %d\n" % len(commands))
+        self.expect(ROUTE, files, Status.DONE, files["transcript.txt"])
+        self.expect(CHECK, files, Status.DONE, b"ok %d\n" % len(commands))

@@ -2,7 +2,7 @@
 
 import unittest
 
-from programs import AIRPORT_REFUSED, DONE, SCHEDULE_REFUSED
+from programs import Status
 from router import FIRST_VERSION, ONE_STAND, SECOND_VERSION, SMALL, TWO_STANDS, RouterTest
 
 
@@ -11,8 +11,8 @@ class RefusedAirports(RouterTest):
 
     def is_refused(self, airport, record, word):
         line = b"airport refused at record %d: %s\n" % (record, word)
-        self.route(airport, b"cancel X\n", line, AIRPORT_REFUSED)
-        self.expect("migrate airport.csv", {"airport.csv": airport}, AIRPORT_REFUSED, line)
+        self.route(airport, b"cancel X\n", line, Status.AIRPORT_REFUSED)
+        self.expect("migrate airport.csv", {"airport.csv": airport}, Status.AIRPORT_REFUSED, line)
 
     def test_a_record_behind_the_others(self):
         for added, word in [
@@ -73,7 +73,7 @@ class WrittenAirports(RouterTest):
     """The canonical text of an airport."""
 
     def is_written_as(self, airport, text):
-        self.expect("migrate airport.csv", {"airport.csv": airport}, DONE, text)
+        self.expect("migrate airport.csv", {"airport.csv": airport}, Status.DONE, text)
 
     def test_the_version_is_brought_up(self):
         for rows in [ONE_STAND, TWO_STANDS]:
@@ -137,7 +137,7 @@ conflict,A,B,C
 class Schedules(RouterTest):
     """A day's schedule turned into commands, and schedules that are refused."""
 
-    def comes_to(self, schedule, text, status=DONE):
+    def comes_to(self, schedule, text, status=Status.DONE):
         self.expect("import airport.csv schedule.csv", {"airport.csv": SMALL, "schedule.csv": schedule}, status, text)
 
     def test_a_day(self):
@@ -190,7 +190,7 @@ arrival F1 M R S1 3599 0
             (b"taxi-schedule,1\n", b"schedule refused at record 2: bad-start\n"),
             (b"taxi-schedule,1\narrival,F1,M,R,S1,2025-06-01T00:01:40Z,0\n", b"schedule refused at record 2: bad-start\n"),
         ]:
-            self.comes_to(schedule, line, SCHEDULE_REFUSED)
+            self.comes_to(schedule, line, Status.SCHEDULE_REFUSED)
 
 
 if __name__ == "__main__":

@@ -8,7 +8,7 @@ import subprocess
 import tempfile
 import unittest
 
-from programs import AIRPORT_REFUSED, DONE, READ_FAULT, TOO_LARGE, USAGE, WRITE_FAULT, WRONG
+from programs import Status
 from router import CHECK, FIRST_VERSION, ONE_STAND, SMALL, TWO_STANDS, RouterTest
 
 USAGE_LINE = (
@@ -66,23 +66,23 @@ class Calls(RouterTest):
             "generate 7 41 1",
             "generate 7 2 2001",
         ]:
-            self.expect(words, {"airport.csv": self.airport, "commands.txt": b""}, USAGE, USAGE_LINE)
+            self.expect(words, {"airport.csv": self.airport, "commands.txt": b""}, Status.USAGE, USAGE_LINE)
 
     def test_calls_that_do_nothing(self):
         # A file that is not there, and two folders.
         for words in ["route airport.cs commands.txt", "route . commands.txt", "route airport.csv ."]:
-            self.expect(words, {"airport.csv": self.airport, "commands.txt": WORKED}, READ_FAULT, b"read fault\n")
-        self.route(b"taxi-airport,3\n", WORKED, b"airport refused at record 1: first-row\n", AIRPORT_REFUSED)
+            self.expect(words, {"airport.csv": self.airport, "commands.txt": WORKED}, Status.READ_FAULT, b"read fault\n")
+        self.route(b"taxi-airport,3\n", WORKED, b"airport refused at record 1: first-row\n", Status.AIRPORT_REFUSED)
 
     def test_files_of_the_largest_size_and_one_byte_longer(self):
         for airport, line, status in [
-            (b"x" * 4_194_304, b"airport refused at record 1: first-row\n", AIRPORT_REFUSED),
-            (b"x" * 4_194_305, b"too large\n", TOO_LARGE),
+            (b"x" * 4_194_304, b"airport refused at record 1: first-row\n", Status.AIRPORT_REFUSED),
+            (b"x" * 4_194_305, b"too large\n", Status.TOO_LARGE),
         ]:
             self.route(airport, WORKED, line, status)
         commands = b"cancel F1\n#" + b"x" * (16_777_216 - 11)
         self.route(self.airport, commands, b"refused not-in-force\ndone 1\n")
-        self.route(self.airport, commands + b"x", b"refused not-in-force\ntoo large\n", TOO_LARGE)
+        self.route(self.airport, commands + b"x", b"refused not-in-force\ntoo large\n", Status.TOO_LARGE)
 
     def test_runs(self):
         self.route(self.airport, b"", b"done 0\n")
@@ -91,11 +91,11 @@ class Calls(RouterTest):
         self.route(self.airport, commands, b"filed X1 0 50\nrefused step 1 taken 20 X1\ndone 2\n")
 
     def test_made_traffic(self):
-        self.expect("generate 7 2 0", {}, DONE, b"nodes 4\nsegments 4\ncommands 0\nroutes 0\nno-route 0\nseconds 0\n")
+        self.expect("generate 7 2 0", {}, Status.DONE, b"nodes 4\nsegments 4\ncommands 0\nroutes 0\nno-route 0\nseconds 0\n")
         # Worked out by a program in another language.
-        self.expect("generate 7 12 120", {}, DONE, b"nodes 144\nsegments 264\ncommands 120\nroutes 120\nno-route 0\nseconds 71863\n")
+        self.expect("generate 7 12 120", {}, Status.DONE, b"nodes 144\nsegments 264\ncommands 120\nroutes 120\nno-route 0\nseconds 71863\n")
         # Worked by hand: two departures of 32 seconds each, and an arrival of 49 and 32.
-        self.expect("generate 7 2 3", {}, DONE, b"nodes 4\nsegments 4\ncommands 3\nroutes 3\nno-route 0\nseconds 145\n")
+        self.expect("generate 7 2 3", {}, Status.DONE, b"nodes 4\nsegments 4\ncommands 3\nroutes 3\nno-route 0\nseconds 145\n")
 
 
 class Runs(RouterTest):
@@ -212,20 +212,20 @@ class Transcripts(RouterTest):
     def test_the_worked_run(self):
         self.route(SMALL, WORKED, TRANSCRIPT)
         self.route(SMALL, AMONG_OTHERS, TRANSCRIPT)
-        self.check(TRANSCRIPT, DONE, b"ok 4\n")
+        self.check(TRANSCRIPT, Status.DONE, b"ok 4\n")
 
     def test_changed_pieces(self):
         without_its_last_row = PIECES[3].replace(b" 3 3\n", b" 3 2\n").replace(b"label C- 160 3600 345\n", b"")
         for number, other, status, line in [
-            (3, without_its_last_row, WRONG, b"wrong 4 step\n"),
-            (1, b"refused memory\n", DONE, b"ok 4\n"),
-            (0, b"refused memory\n", WRONG, b"wrong 2 start\n"),
-            (0, PIECES[0].replace(b"A+ 100", b"A+ 0100"), WRONG, b"wrong 1 form\n"),
-            (4, b"done 4\ndone 4\n", WRONG, b"wrong 5 form\n"),
-            (4, b"", WRONG, b"wrong 5 form\n"),
+            (3, without_its_last_row, Status.WRONG, b"wrong 4 step\n"),
+            (1, b"refused memory\n", Status.DONE, b"ok 4\n"),
+            (0, b"refused memory\n", Status.WRONG, b"wrong 2 start\n"),
+            (0, PIECES[0].replace(b"A+ 100", b"A+ 0100"), Status.WRONG, b"wrong 1 form\n"),
+            (4, b"done 4\ndone 4\n", Status.WRONG, b"wrong 5 form\n"),
+            (4, b"", Status.WRONG, b"wrong 5 form\n"),
         ]:
             self.check(changed_at(number, other), status, line)
-        self.check(TRANSCRIPT.replace(b"\n", b"\r\n"), WRONG, b"wrong 1 form\n")
+        self.check(TRANSCRIPT.replace(b"\n", b"\r\n"), Status.WRONG, b"wrong 1 form\n")
 
     def test_first_blocks_with_one_change(self):
         steps = b"step A+ 100 130\nstep B+ 130 150\n"
@@ -237,8 +237,8 @@ class Transcripts(RouterTest):
             (b"no-route 1\nlabel A+ 0 3599 130\n", b"wrong 1 rows\n"),
             (b"cancelled F1\n", b"wrong 1 reply\n"),
         ]:
-            self.check(changed_at(0, block), WRONG, line)
-        self.check(b"route F1 150 2 1\nstep A+ 100", WRONG, b"wrong 1 form\n")
+            self.check(changed_at(0, block), Status.WRONG, line)
+        self.check(b"route F1 150 2 1\nstep A+ 100", Status.WRONG, b"wrong 1 form\n")
 
 
 class Devices(RouterTest):
@@ -278,7 +278,7 @@ class Devices(RouterTest):
                 ours.sendall(b"arrival F")
                 ours.close()
                 self.assertEqual(text + run.stdout.read(), b"".join(PIECES[:answered]) + b"read fault\n")
-                self.assertEqual(run.wait(), READ_FAULT)
+                self.assertEqual(run.wait(), Status.READ_FAULT)
 
     def test_each_write_failing_in_turn(self):
         # A pipe that is closed once so many blocks are read.
@@ -292,7 +292,7 @@ class Devices(RouterTest):
                 run.stdout.close()
                 run.stdin.write(b"".join(lines[written:]))
                 run.stdin.close()
-                self.assertEqual(run.wait(), WRITE_FAULT)
+                self.assertEqual(run.wait(), Status.WRITE_FAULT)
 
     def test_output_that_ends_within_a_block(self):
         for program in self.programs:
@@ -300,7 +300,7 @@ class Devices(RouterTest):
             with self.subTest(program=program), open(f"{folder}/out", "wb") as out:
                 with self.start(program, stdin=subprocess.PIPE, stdout=out, preexec_fn=let_files_have_14_bytes) as run:
                     run.communicate(WORKED)
-                self.assertEqual(run.returncode, WRITE_FAULT)
+                self.assertEqual(run.returncode, Status.WRITE_FAULT)
                 with open(f"{folder}/out", "rb") as it:
                     self.assertEqual(it.read(), b"route F1 150 2")
 
@@ -312,7 +312,7 @@ class Devices(RouterTest):
                 theirs.close()
                 ours.sendall(SMALL)
                 ours.close()
-                self.assertEqual((run.stdout.read(), run.wait()), (b"read fault\n", READ_FAULT))
+                self.assertEqual((run.stdout.read(), run.wait()), (b"read fault\n", Status.READ_FAULT))
 
 
 def connection():

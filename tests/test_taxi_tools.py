@@ -3,7 +3,7 @@
 import unittest
 
 import programs
-from programs import DONE
+from programs import Status
 
 AIRPORT = b"""taxi-airport,1
 horizon,3600
@@ -25,7 +25,7 @@ class Verbs(programs.ProgramTest):
     crate = "taxi_tools"
 
     def expect_text(self, words, text, commands=COMMANDS):
-        self.expect(words, {"airport.csv": AIRPORT, "commands.txt": commands}, DONE, text)
+        self.expect(words, {"airport.csv": AIRPORT, "commands.txt": commands}, Status.DONE, text)
 
     def test_graph(self):
         text = b"""digraph airport {
