@@ -10,37 +10,36 @@ import sys
 LIMIT = 4_194_304
 
 
-def rows(nodes, segments, classes, forbids, sets):
-    yield "taxi-airport,1"
-    yield "horizon,604800"
-    side = int(nodes ** 0.5)
-    for n in range(nodes):
-        yield f"node,N{n},{'runway' if n < side else 'stand' if n >= nodes - side else 'junction'}"
-    for c in range(classes):
-        yield f"class,C{c}"
-    ends = []
-    for n in range(nodes):
-        if (n + 1) % side and n + 1 < nodes:
-            ends.append((n, n + 1))
-        if n + side < nodes:
-            ends.append((n, n + side))
-    ends = ends[:segments]
-    for s, (a, b) in enumerate(ends):
-        yield f"segment,S{s},N{a},N{b},both"
+def following(node, nodes, side):
+    """The nodes to which segments lead from one: to the right and below."""
+    right = [node + 1] if (node + 1) % side and node + 1 < nodes else []
+    return right + ([node + side] if node + side < nodes else [])
+
+
+def turns_of(ends):
+    """The turns from one segment onto another, both along their directions."""
     by_head = {}
-    for s, (a, b) in enumerate(ends):
-        by_head.setdefault(b, []).append(s)
-    turns = [(s, t) for t, (a, _) in enumerate(ends) for s in by_head.get(a, [])]
-    for s, t in turns[:forbids]:
-        yield f"forbid,S{s}+,S{t}+"
-    for s in range(min(sets, len(ends) - 2)):
-        yield f"conflict,S{s},S{s + 1},S{s + 2}"
-    for s in range(len(ends)):
-        for c in range(classes):
-            yield f"seconds,S{s},C{c},{20 + (7 * s + c) % 60}"
+    for segment, (_, head) in enumerate(ends):
+        by_head.setdefault(head, []).append(segment)
+    return [(before, after) for after, (tail, _) in enumerate(ends) for before in by_head.get(tail, [])]
+
+
+def rows(nodes, segments, classes, forbids, sets):
+    """The records of the file; more of them than fit may come."""
+    side = int(nodes ** 0.5)
+    ends = [(node, other) for node in range(nodes) for other in following(node, nodes, side)][:segments]
+    yield from ("taxi-airport,1", "horizon,604800")
+    yield from (f"node,N{node},{'runway' if node < side else 'stand' if node >= nodes - side else 'junction'}" for node in range(nodes))
+    yield from (f"class,C{number}" for number in range(classes))
+    yield from (f"segment,S{number},N{tail},N{head},both" for number, (tail, head) in enumerate(ends))
+    yield from (f"forbid,S{before}+,S{after}+" for before, after in turns_of(ends)[:forbids])
+    yield from (f"conflict,S{number},S{number + 1},S{number + 2}" for number in range(min(sets, len(ends) - 2)))
+    pairs = ((segment, number) for segment in range(len(ends)) for number in range(classes))
+    yield from (f"seconds,S{segment},C{number},{20 + (7 * segment + number) % 60}" for segment, number in pairs)
 
 
 def main():
+    """Prints the records that fit."""
     numbers = [int(word) for word in sys.argv[1:]] or [9_900, 10_000, 32, 10_000, 10_000]
     size, out = 0, []
     for row in rows(*numbers):

@@ -4,7 +4,9 @@
 Every eighth row is one that cannot be taken, for each of the reasons in turn.
 """
 import datetime
+import itertools
 import sys
+from pathlib import Path
 
 LIMIT = 16_777_216
 DAY = datetime.datetime(2026, 3, 29)
@@ -26,32 +28,34 @@ def spoilt(fields, k):
     )[k % 8]
 
 
-def rows(airport):
-    nodes = {"runway": [], "stand": []}
-    classes = []
-    for line in open(airport):
-        row = line.rstrip("\n").split(",")
-        if row[0] == "node" and row[2] in nodes:
-            nodes[row[2]].append(row[1])
-        elif row[0] == "class":
-            classes.append(row[1])
+def read_names(path):
+    """The names of an airport's runway nodes, stands and classes."""
+    rows = [line.split(",") for line in Path(path).read_text().splitlines()]
+    nodes = [[row[1] for row in rows if row[0] == "node" and row[2] == kind] for kind in ("runway", "stand")]
+    return *nodes, [row[1] for row in rows if row[0] == "class"]
+
+
+def fields_of(k, runways, stands, classes):
+    """The fields of the K-th row, all of them right: by turns an arrival and a departure."""
+    runway, stand, class_name = runways[7 * k % len(runways)], stands[11 * k % len(stands)], classes[k % len(classes)]
+    when = (DAY + datetime.timedelta(seconds=97 * k % 82800)).isoformat()
+    if k % 2 == 0:
+        return ["arrival", f"F{k}", class_name, runway, stand, when + "+01:00", "120"]
+    return ["departure", f"F{k}", class_name, stand, runway, when + "Z", "900"]
+
+
+def rows(path):
+    """The rows of a schedule without an end."""
+    names = read_names(path)
     yield "taxi-schedule,1"
     yield f"start,{DAY.isoformat()}+01:00"
-    k = 0
-    while True:
-        runway = nodes["runway"][(7 * k) % len(nodes["runway"])]
-        stand = nodes["stand"][(11 * k) % len(nodes["stand"])]
-        when = (DAY + datetime.timedelta(seconds=(97 * k) % 82800)).isoformat()
-        class_name = classes[k % len(classes)]
-        if k % 2 == 0:
-            fields = ["arrival", f"F{k}", class_name, runway, stand, when + "+01:00", "120"]
-        else:
-            fields = ["departure", f"F{k}", class_name, stand, runway, when + "Z", "900"]
+    for k in itertools.count():
+        fields = fields_of(k, *names)
         yield ",".join(spoilt(fields, k // 8) if k % 8 == 7 else fields)
-        k += 1
 
 
 def main():
+    """Prints as many rows as there is room for."""
     limit = int(sys.argv[2]) if len(sys.argv) > 2 else LIMIT
     size = 0
     for row in rows(sys.argv[1]):

@@ -4,10 +4,11 @@
 The airport, a square of so many nodes a side, goes to the file AIRPORT, and the commands over it to COMMANDS.
 """
 import sys
+from pathlib import Path
 
 
-def main():
-    number, side, flights = (int(word) for word in sys.argv[1:4])
+def drawing(number):
+    """A function that draws a number below another, in the order in which `generate` does from this one."""
     state = number
 
     def draw(below):
@@ -15,36 +16,57 @@ def main():
         state = (6364136223846793005 * state + 1442695040888963407) % 2**64
         return (state >> 33) % below
 
-    rows = ["taxi-airport,1", "horizon,86400"]
-    for r in range(side):
-        kind = "runway" if r == 0 else "stand" if r == side - 1 else "junction"
-        rows += [f"node,N{r}-{c},{kind}" for c in range(side)]
-    rows += ["class,M", "class,H"]
-    names = []
-    for r in range(side):
-        for c in range(side - 1):
-            names.append(f"E{r}-{c}")
-            rows.append(f"segment,E{r}-{c},N{r}-{c},N{r}-{c + 1},both")
-    for r in range(side - 1):
-        for c in range(side):
-            names.append(f"V{r}-{c}")
-            rows.append(f"segment,V{r}-{c},N{r}-{c},N{r + 1}-{c},both")
-    for name in names:
-        seconds = draw(41)
-        rows += [f"seconds,{name},M,{20 + seconds}", f"seconds,{name},H,{30 + seconds}"]
-    for r in range(side - 1):
-        rows += [f"conflict,V{r}-{c},V{r}-{c + 1}" for c in range(side - 1) if (r + c) % 5 == 0]
-    commands = []
-    for i in range(flights):
-        kind, heavy, a, b, time = draw(2), draw(2), draw(side), draw(side), draw(7200)
-        name = f"F{i} {'H' if heavy else 'M'}"
-        if kind == 0:
-            commands.append(f"arrival {name} N0-{a} N{side - 1}-{b} {time} 600")
-        else:
-            commands.append(f"departure {name} N{side - 1}-{b} N0-{a} {time + 3600} 600")
-    for file, lines in ((sys.argv[4], rows), (sys.argv[5], commands)):
-        with open(file, "w") as out:
-            out.write("\n".join(lines) + "\n")
+    return draw
+
+
+def nodes(side):
+    """The records of the nodes, row by row: runway nodes on the first, stands on the last."""
+    kinds = ["runway" if row == 0 else "stand" if row == side - 1 else "junction" for row in range(side)]
+    return [f"node,N{row}-{column},{kind}" for row, kind in enumerate(kinds) for column in range(side)]
+
+
+def segments(side):
+    """The names of the segments and their ends: along the rows first, and then from row to row."""
+    along = [(f"E{row}-{column}", f"N{row}-{column},N{row}-{column + 1}") for row in range(side) for column in range(side - 1)]
+    across = [(f"V{row}-{column}", f"N{row}-{column},N{row + 1}-{column}") for row in range(side - 1) for column in range(side)]
+    return along + across
+
+
+def seconds(draw, name):
+    """The records of a segment's seconds, which are drawn."""
+    more = draw(41)
+    return [f"seconds,{name},M,{20 + more}", f"seconds,{name},H,{30 + more}"]
+
+
+def conflicts(side):
+    """The records of the conflicts: segments side by side, every fifth pair."""
+    places = [(row, column) for row in range(side - 1) for column in range(side - 1) if (row + column) % 5 == 0]
+    return [f"conflict,V{row}-{column},V{row}-{column + 1}" for row, column in places]
+
+
+def airport_rows(draw, side):
+    """The records of the airport."""
+    rows = ["taxi-airport,1", "horizon,86400", *nodes(side), "class,M", "class,H"]
+    rows += [f"segment,{name},{ends},both" for name, ends in segments(side)]
+    rows += [row for name, _ in segments(side) for row in seconds(draw, name)]
+    return rows + conflicts(side)
+
+
+def command(draw, side, flight):
+    """The command of the flight of a number: an arrival from the first row to the last, or a departure back."""
+    is_departure, is_heavy, runway, stand, time = draw(2), draw(2), draw(side), draw(side), draw(7200)
+    name, first, last = f"F{flight} {'H' if is_heavy else 'M'}", f"N0-{runway}", f"N{side - 1}-{stand}"
+    return f"departure {name} {last} {first} {time + 3600} 600" if is_departure else f"arrival {name} {first} {last} {time} 600"
+
+
+def main():
+    """Writes the two files. The airport is drawn before the commands, as `generate` does."""
+    number, side, flights = (int(word) for word in sys.argv[1:4])
+    draw = drawing(number)
+    rows = airport_rows(draw, side)
+    commands = [command(draw, side, flight) for flight in range(flights)]
+    Path(sys.argv[4]).write_text("\n".join(rows) + "\n")
+    Path(sys.argv[5]).write_text("\n".join(commands) + "\n")
 
 
 main()

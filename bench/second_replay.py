@@ -4,13 +4,14 @@ The state is a dictionary from names to (kind, class, steps), and is made anew f
 """
 import json
 import re
+from pathlib import Path
 
 
 def read_airport(path):
     """What the second replay needs of an airport: horizon, classes' clearances and the seconds of segments."""
     horizon, clearance, seconds = 0, {}, {}
-    for line in open(path, encoding="utf-8-sig"):
-        row = line.rstrip("\r\n").split(",")
+    for line in Path(path).read_text(encoding="utf-8-sig").split("\n"):
+        row = line.split(",")
         if row[0] == "horizon":
             horizon = int(row[1])
         elif row[0] == "clearance":
@@ -22,7 +23,7 @@ def read_airport(path):
 
 def read_lines(path):
     """The words of the lines that get an answer."""
-    text = open(path, "rb").read().decode("utf-8", "replace")
+    text = Path(path).read_bytes().decode("utf-8", "replace")
     lines = [line.removesuffix("\r") for line in text.split("\n")]
     return [line.split(" ") for line in lines if line.strip(" \t") and not line.startswith("#")]
 
