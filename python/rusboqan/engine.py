@@ -65,6 +65,7 @@ class Engine:
         return cls(Path(path).read_bytes(), library_path)
 
     def _refuse(self, airport: bytes) -> None:
+        """Raises what the library says of bytes that it did not take."""
         record = ctypes.c_uint32()
         why = self._calls.rusboqan_why(airport, len(airport), ctypes.byref(record))
         if why in (REFUSED, TOO_LARGE):

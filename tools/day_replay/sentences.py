@@ -33,9 +33,10 @@ def refusal(words, reply, clock):
     """Why a command was refused."""
     told = {key: clock.text(value) if key in TIMES else value for key, value in reply.items()}
     told["flight"] = words[1] if len(words) > 1 else ""
-    if reply["why"] != "step":
-        return "refused: " + WHY.get(reply["why"], reply["why"]).format(**told)
-    return f"refused at step {reply['step']}{of_segment(words, reply['step'])}: " + CAUSE.get(reply["cause"], reply["cause"]).format(**told)
+    if reply["why"] == "step":
+        cause = CAUSE.get(reply["cause"], reply["cause"]).format(**told)
+        return f"refused at step {reply['step']}{of_segment(words, reply['step'])}: {cause}"
+    return "refused: " + WHY.get(reply["why"], reply["why"]).format(**told)
 
 
 def of_segment(words, step):
@@ -67,6 +68,11 @@ def entry(reply, clock):
     return f"{reply['flight']} {reply['reply'].replace('-', ' ')}"
 
 
+def held(row, clock):
+    """One hold of an occupancy."""
+    return f"{row['flight']} on {row['segment']} {clock.text(row['from'])} to {clock.text(row['until'])}"
+
+
 def sentence(words, reply, clock):
     """What a reply says."""
     kind = reply["reply"]
@@ -84,7 +90,7 @@ def sentence(words, reply, clock):
         rows = [f"{clock.text(row['from'])} to {clock.text(row['until'])}" for row in reply["windows"]]
         return f"{reply['segment']} is free from " + listed(rows)
     if kind == "occupancy":
-        rows = [f"{row['flight']} on {row['segment']} {clock.text(row['from'])} to {clock.text(row['until'])}" for row in reply["held"]]
+        rows = [held(row, clock) for row in reply["held"]]
         return f"held of {reply['segment']} and those in conflict: " + listed(rows)
     if kind == "timetable":
         return "flights in force: " + listed([row["flight"] for row in reply["flights"]])

@@ -16,6 +16,8 @@ REFUSAL_KEYS = {
     "not-late": ("leave",),
     "past-end": ("horizon",),
 }
+# The keys of names; all others are those of numbers.
+NAMES = ("arc", "flight", "segment", "kind", "class")
 
 
 class Lines:
@@ -46,9 +48,6 @@ class Lines:
     def skip(self, count):
         """Leaves out so many lines."""
         self.at += sum(1 for _ in itertools.islice(self.lines, count))
-
-
-NAMES = ("arc", "flight", "segment", "kind", "class")
 
 
 def value_of(key, text):

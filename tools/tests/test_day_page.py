@@ -48,12 +48,11 @@ def run_of(airport, commands, transcript):
 
 def steps_of(run, name):
     """The steps of a holder in force, with the words of their arcs."""
-    segments = run.airport.segments
-    return [(segments[arc // 2].name + "+-"[arc % 2], enter, leave) for arc, enter, leave in run.open[name].steps]
+    return [(run.airport.arc_word(arc), enter, leave) for arc, enter, leave in run.open[name].steps]
 
 
 def example(name):
-    """The replay of an example, its commands and replies."""
+    """The airport of an example, its commands and the replies to them."""
     folder = EXAMPLES / name
     airport = read_airport((folder / "airport.csv").read_bytes())
     commands = read_commands((folder / "commands.txt").read_bytes())
