@@ -7,3 +7,4 @@ pub mod LoopLaws
 pub mod JudgeLaws
 pub mod TextLaws
 pub mod SetTold
+mod OneAdvice

@@ -1,11 +1,11 @@
-//! What advice says of searches and of conflicts. The functions do nothing: their clauses are the laws.
+//! What advice says of searches and of conflicts, and that an airport has one. The functions do nothing: their clauses are the laws.
 ghost use Rattle.std.specs.Prelude.{◌≡◌, ◌↔◌, ◌⊎◌, ℕ, List, [], Contains, IsTrue};
 ghost use Rattle.taxi_base.specs.declared.answers.Request.TheVariants.{Arrival, Departure};
 ghost use Rattle.taxi_base.specs.declared.numbers.Node.{Node};
 ghost use Rattle.taxi_base.specs.declared.numbers.Segment.{Segment};
 ghost use Rattle.taxi_base.specs.declared.rows.Kind.TheVariants.{Runway, Stand};
 ghost use Rattle.taxi_base.specs.declared.rows.Step.{Step};
-ghost use Rattle.taxi_base.specs.Airport.{layout_of, conflict, segment_of};
+ghost use Rattle.taxi_base.specs.Airport.{Airport, layout_of, conflict, segment_of};
 ghost use Rattle.taxi_base.specs.Walks.{Conditions, IsFeasibleStep, IsFeasibleWalk, LeavesNode, ReachesNode, Meets};
 ghost use Rattle.class_ways.specs.Ways.{is_of};
 ghost use Rattle.airport_lint.specs.declared.advice.Advice.{Advice as Told};
@@ -13,6 +13,7 @@ ghost use Rattle.airport_lint.specs.declared.advice.Advice.TheVariants.{SegmentN
 ghost use Rattle.airport_lint.specs.Advice.{IsSo, without_idle};
 ghost use Rattle.airport_lint.specs.Bars.{BarsArrival, BarsDeparture};
 ghost use Rattle.airport_lint.specs.Sets.{marked, needed_marks};
+ghost use Rattle.airport_lint.specs.Text.{IsAdviceText};
 
 /// Where advice on the class or on one of the nodes is told, no walk does what an arrival or a departure asks for, whoever else
 /// holds what.
@@ -52,4 +53,9 @@ pub fn idle_turns_make_no_difference()
 /// By the needed sets alone the same segments conflict.
 pub fn needless_sets_make_no_difference()
     ensures { (sets : List (List Segment)) (s t : Segment) → conflict (marked sets (needed_marks [] sets)) s t ≡ conflict sets s t }
+{}
+
+/// An airport has one advice. So its text depends on the airport alone.
+pub fn advice_is_one()
+    ensures { (airport : Airport) (text other : List ℕ) → IsAdviceText airport text → IsAdviceText airport other → text ≡ other }
 {}

@@ -1,13 +1,13 @@
-//! The words by which an airport names what it has, for writing.
+//! The words by which an airport names what it has, for writing, and a word added to a line.
 #![tactic(auto)]
 
-ghost use Rattle.std.specs.Prelude.{◌≡◌, ◌≤◌, length};
+ghost use Rattle.std.specs.Prelude.{◌≡◌, ◌≤◌, ◌⊎◌, ◌∷◌, ◌++◌, [], length, OnOk, OnErr};
 ghost use Rattle.taxi_base.specs.Airport.{node_word};
 ghost use Rattle.airport_file.specs.Words.{class_word, segment_word, word_of_arc};
 
 use airport_file::Airport;
-use taxi_base::{Arc, Class, Node, Segment};
-use taxi_text::ShortText;
+use taxi_base::{Arc, Class, Memory, Node, Segment};
+use taxi_text::{ShortText, push_bytes};
 
 /// The name of a class; no byte where there is no such class.
 pub fn class_text(airport: &Airport, class: Class) -> ShortText
@@ -53,4 +53,13 @@ pub fn arc_text(airport: &Airport, arc: Arc) -> ShortText
     let mut text = segment_text(airport, arc.segment());
     text.push(if arc.is_forward() { b"+" } else { b"-" });
     text
+}
+
+/// Adds a word behind a blank. The only error is that memory ran out, and then the blank may stand there alone.
+pub fn push_word(out: &mut Vec<u8>, word: &[u8]) -> Result<(), Memory>
+    ensures ok { OnOk result (out.new.items ≡ out.old.items ++ 32 ∷ word.now) }
+    ensures err { OnErr result ((out.new.items ≡ out.old.items) ⊎ (out.new.items ≡ out.old.items ++ 32 ∷ [])) }
+{
+    push_bytes(out, b" ")?;
+    push_bytes(out, word)
 }

@@ -11,6 +11,10 @@ use Rattle.block_reader.specs.declared.refused.BlockRefused.TheVariants.{NotABlo
 abbrev pub BeginsWith : Airport → List ℕ → Block → Type 0
 BeginsWith airport bytes block = IsPrintable airport block × ((rest : List ℕ) × (bytes ≡ block_text airport block ++ rest))
 
+-- bytes are the text of a printable block, and nothing follows
+abbrev pub IsBlockText : Airport → List ℕ → Type 0
+IsBlockText airport bytes = (block : Block) × IsPrintable airport block × (bytes ≡ block_text airport block)
+
 -- The block that the bytes begin with, and how long its text is. There is none exactly where no printable block's text
 -- stands at the front. Memory may run out.
 abbrev pub IsBlockRead : Airport → List ℕ → Result (Block × ℕ) BlockRefused → Type 0

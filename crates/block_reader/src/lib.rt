@@ -12,5 +12,5 @@ mod refused;
 mod rows;
 
 pub use laws::{blocks_are_read_again, numbers_have_one_word};
-pub use reader::read_block;
+pub use reader::{read_back, read_block};
 pub use refused::BlockRefused;

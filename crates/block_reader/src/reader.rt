@@ -1,7 +1,10 @@
 //! Whole blocks.
-ghost use Rattle.block_reader.specs.Reading.{word_then, word_last, Finds, IsRead};
+ghost use Rattle.std.specs.Prelude.{◌≡◌, IfOk};
 ghost use Rattle.replies.specs.declared.block.Block.{Block as Plain};
-ghost use Rattle.block_reader.specs.Read.{BeginsWith, IsBlockRead, Reads};
+ghost use Rattle.replies.specs.Texts.{block_text};
+ghost use Rattle.replies.specs.Printable.{IsPrintable};
+ghost use Rattle.block_reader.specs.Reading.{word_then, word_last, Finds, IsRead};
+ghost use Rattle.block_reader.specs.Read.{BeginsWith, IsBlockText, IsBlockRead, Reads};
 ghost use Rattle.block_reader.specs.Fields.{count_of, segment_of_word};
 ghost use Rattle.block_reader.specs.Blocks.{refused_at, filed_at, cancelled_at, windows_at, occupancy_at, timetable_at, block_at};
 
@@ -14,7 +17,7 @@ use crate::rows::read_rows;
 use airport_file::Airport;
 use replies::Block;
 use std::alloc::Global;
-use taxi_base::{FlightRow, HeldRow, Segment, Span};
+use taxi_base::{FlightRow, HeldRow, Memory, Segment, Span};
 
 /// The printable block that the bytes begin with, and the length of its text. `NotABlock` exactly where they begin with
 /// none. Rows that a count tells of and that aren't there take no room.
@@ -31,6 +34,19 @@ pub fn read_block(
     match read_any(alloc, airport, bytes) {
         Ok((block, rest)) => Ok((block, bytes.len() - rest.len())),
         Err(why) => Err(why),
+    }
+}
+
+/// The block whose text a reply is, where it is known to be one, since it was just printed. The only error is that memory ran out.
+pub fn read_back(alloc: Global, airport: &Airport, reply: &[u8]) -> Result<Block, Memory>
+    requires printed { IsBlockText airport.now reply.now }
+    ensures text { IfOk result (λ read. IsPrintable airport.now read × (reply.now ≡ block_text airport.now read)) }
+    ensures only { (block : Plain) → IsPrintable airport.now block → reply.now ≡ block_text airport.now block → IfOk result (λ read. read ≡ block) }
+{
+    match read_block(alloc, airport, reply) {
+        Ok((block, _)) => Ok(block),
+        Err(BlockRefused::Memory) => Err(Memory::told()),
+        Err(BlockRefused::NotABlock) => unreachable!(),
     }
 }
 

@@ -8,5 +8,5 @@ mod print;
 mod rows;
 mod short;
 
-pub use print::{print_block, print_route};
-pub use short::print_short;
+pub use print::{print_batch, print_block, print_route};
+pub use short::{cancelled_text, filed_text, refused_text};

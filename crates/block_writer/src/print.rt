@@ -1,17 +1,16 @@
 //! Blocks, written at the end of a text.
-ghost use Rattle.std.specs.Prelude.{◌≡◌, ◌≤◌, ◌∷◌, ◌++◌, [], length, decimal, codes, All, OnOk, OnErr, IsTrue};
-ghost use Rattle.airport_file.specs.Words.{segment_word};
-ghost use Rattle.replies.specs.declared.block.Block.TheVariants.{Route};
-ghost use Rattle.replies.specs.Texts.{line_text, lines_text, step_words, label_words, entry_lines, block_text, is_long};
-ghost use Rattle.replies.specs.Printable.{HasArc, HasSegment};
+ghost use Rattle.std.specs.Prelude.{◌≡◌, ◌≤◌, ◌∷◌, ◌++◌, [], length, decimal, codes, All, OnOk, OnErr};
+ghost use Rattle.replies.specs.declared.block.Block.TheVariants.{Route, NoRoute, Windows, Occupancy, Timetable, Batch, Late};
+ghost use Rattle.replies.specs.Texts.{line_text, lines_text, step_words, label_words, entry_lines, block_text};
+ghost use Rattle.replies.specs.Printable.{HasArc, HasSegment, HasClass};
 ghost use Rattle.block_writer.specs.Printed.{rows_text, entries_text, IsWritableEntry, IsWritable, IsCutShort};
 
 use crate::line_buffer::LineBuffer;
 use crate::rows::print_rows;
-use crate::short::short_text;
+use crate::short::{cancelled_text, filed_text, refused_text};
 use airport_file::Airport;
 use replies::{Block, Entries, Entry};
-use taxi_base::{LabelRow, Memory, Name, Segment, Step, Time};
+use taxi_base::{FlightRow, HeldRow, LabelRow, Memory, Name, Segment, Span, Step, Time};
 use taxi_text::push_bytes;
 
 /// Writes the text of a block at the end of `out`. Where memory runs out a first part of it stands there.
@@ -20,21 +19,12 @@ pub fn print_block(airport: &Airport, block: &Block, out: &mut Vec<u8>) -> Resul
     ensures ok { OnOk result (out.new.items ≡ out.old.items ++ block_text airport.now block.now) }
     ensures err { OnErr result (IsCutShort (block_text airport.now block.now) out.old.items out.new.items) }
 {
-    match short_text(block) {
-        Some(text) => push_bytes(out, text.bytes()),
-        None => print_long(airport, block, out),
-    }
-}
-
-// The same of a block that has rows. Only here is there a buffer, so that a short block clears none.
-fn print_long(airport: &Airport, block: &Block, out: &mut Vec<u8>) -> Result<(), Memory>
-    requires long { IsTrue (is_long block.now) }
-    requires writable { IsWritable airport.now block.now }
-    ensures ok { OnOk result (out.new.items ≡ out.old.items ++ block_text airport.now block.now) }
-    ensures err { OnErr result (IsCutShort (block_text airport.now block.now) out.old.items out.new.items) }
-{
-    let mut line = LineBuffer::new();
     match block {
+        Block::Refused(why) => push_bytes(out, refused_text(why).bytes()),
+        Block::Filed { flight, start, end } => {
+            push_bytes(out, filed_text(flight, *start, *end).bytes())
+        }
+        Block::Cancelled { flight } => push_bytes(out, cancelled_text(flight).bytes()),
         Block::Route {
             flight,
             second,
@@ -42,34 +32,18 @@ fn print_long(airport: &Airport, block: &Block, out: &mut Vec<u8>) -> Result<(),
             labels,
         } => {
             let (steps, labels) = (steps.as_slice(), labels.as_slice());
-            write_route_head(flight, *second, steps.len(), labels.len(), &mut line);
-            print_line_and_rows(airport, &mut line, steps, labels, out)
+            print_route(airport, flight, *second, steps, labels, out)
         }
-        Block::NoRoute { labels } => {
-            write_no_route_head(labels.as_slice().len(), &mut line);
-            print_rows(airport, &mut line, labels.as_slice(), out)
-        }
+        Block::NoRoute { labels } => print_no_route(airport, labels.as_slice(), out),
         Block::Windows { segment, windows } => {
-            write_windows_head(airport, *segment, windows.as_slice().len(), &mut line);
-            print_rows(airport, &mut line, windows.as_slice(), out)
+            print_windows(airport, *segment, windows.as_slice(), out)
         }
         Block::Occupancy { segment, held } => {
-            write_occupancy_head(airport, *segment, held.as_slice().len(), &mut line);
-            print_rows(airport, &mut line, held.as_slice(), out)
+            print_occupancy(airport, *segment, held.as_slice(), out)
         }
-        Block::Timetable { flights } => {
-            write_timetable_head(flights.as_slice().len(), &mut line);
-            print_rows(airport, &mut line, flights.as_slice(), out)
-        }
-        Block::Batch { total, entries } => {
-            write_batch_head(entries.len(), *total, &mut line);
-            print_line_and_entries(airport, &mut line, entries, out)
-        }
-        Block::Late { flight, entries } => {
-            write_late_head(flight, entries.len(), &mut line);
-            print_line_and_entries(airport, &mut line, entries, out)
-        }
-        Block::Refused(_) | Block::Filed { .. } | Block::Cancelled { .. } => unreachable!(),
+        Block::Timetable { flights } => print_timetable(airport, flights.as_slice(), out),
+        Block::Batch { total, entries } => print_batch(airport, *total, entries, out),
+        Block::Late { flight, entries } => print_late(airport, flight, entries, out),
     }
 }
 
@@ -90,6 +64,107 @@ pub fn print_route(
     let mut line = LineBuffer::new();
     write_route_head(flight, second, steps.len(), labels.len(), &mut line);
     print_line_and_rows(airport, &mut line, steps, labels, out)
+}
+
+#[tactic(auto, unfolding(replies::specs::Texts::block_text))]
+fn print_no_route(airport: &Airport, labels: &[LabelRow], out: &mut Vec<u8>) -> Result<(), Memory>
+    requires { All (λ label. HasArc airport.now label.arc) labels.now }
+    ensures ok { OnOk result (out.new.items ≡ out.old.items ++ block_text airport.now (NoRoute labels.now)) }
+    ensures err { OnErr result (IsCutShort (block_text airport.now (NoRoute labels.now)) out.old.items out.new.items) }
+{
+    let mut line = LineBuffer::new();
+    write_no_route_head(labels.len(), &mut line);
+    print_rows(airport, &mut line, labels, out)
+}
+
+#[tactic(auto, unfolding(replies::specs::Texts::block_text))]
+fn print_windows(
+    airport: &Airport,
+    segment: Segment,
+    windows: &[Span],
+    out: &mut Vec<u8>,
+) -> Result<(), Memory>
+    requires { HasSegment airport.now segment }
+    ensures ok { OnOk result (out.new.items ≡ out.old.items ++ block_text airport.now (Windows segment windows.now)) }
+    ensures err { OnErr result (IsCutShort (block_text airport.now (Windows segment windows.now)) out.old.items out.new.items) }
+{
+    let mut line = LineBuffer::new();
+    line.put_last_number(windows.len() as u64);
+    line.put_segment(airport, segment);
+    line.put(b"windows ");
+    print_rows(airport, &mut line, windows, out)
+}
+
+#[tactic(auto, unfolding(replies::specs::Texts::block_text))]
+fn print_occupancy(
+    airport: &Airport,
+    segment: Segment,
+    held: &[HeldRow],
+    out: &mut Vec<u8>,
+) -> Result<(), Memory>
+    requires segment { HasSegment airport.now segment }
+    requires held { All (λ row. HasSegment airport.now row.segment) held.now }
+    ensures ok { OnOk result (out.new.items ≡ out.old.items ++ block_text airport.now (Occupancy segment held.now)) }
+    ensures err { OnErr result (IsCutShort (block_text airport.now (Occupancy segment held.now)) out.old.items out.new.items) }
+{
+    let mut line = LineBuffer::new();
+    line.put_last_number(held.len() as u64);
+    line.put_segment(airport, segment);
+    line.put(b"occupancy ");
+    print_rows(airport, &mut line, held, out)
+}
+
+#[tactic(auto, unfolding(replies::specs::Texts::block_text))]
+fn print_timetable(
+    airport: &Airport,
+    flights: &[FlightRow],
+    out: &mut Vec<u8>,
+) -> Result<(), Memory>
+    requires { All (λ row. HasClass airport.now row.class) flights.now }
+    ensures ok { OnOk result (out.new.items ≡ out.old.items ++ block_text airport.now (Timetable flights.now)) }
+    ensures err { OnErr result (IsCutShort (block_text airport.now (Timetable flights.now)) out.old.items out.new.items) }
+{
+    let mut line = LineBuffer::new();
+    line.put_last_number(flights.len() as u64);
+    line.put(b"timetable ");
+    print_rows(airport, &mut line, flights, out)
+}
+
+/// Writes the text of a batch's block at the end of `out`. Where memory runs out a first part of it stands there.
+#[tactic(auto, unfolding(replies::specs::Texts::block_text))]
+pub fn print_batch(
+    airport: &Airport,
+    total: u32,
+    entries: &Entries,
+    out: &mut Vec<u8>,
+) -> Result<(), Memory>
+    requires { All (IsWritableEntry airport.now) entries.now }
+    ensures ok { OnOk result (out.new.items ≡ out.old.items ++ block_text airport.now (Batch total entries.now)) }
+    ensures err { OnErr result (IsCutShort (block_text airport.now (Batch total entries.now)) out.old.items out.new.items) }
+{
+    let mut line = LineBuffer::new();
+    line.put_last_number(u64::from(total));
+    line.put_number(entries.len() as u64);
+    line.put(b"batch ");
+    print_line_and_entries(airport, &mut line, entries, out)
+}
+
+#[tactic(auto, unfolding(replies::specs::Texts::block_text))]
+fn print_late(
+    airport: &Airport,
+    flight: &Name,
+    entries: &Entries,
+    out: &mut Vec<u8>,
+) -> Result<(), Memory>
+    requires { All (IsWritableEntry airport.now) entries.now }
+    ensures ok { OnOk result (out.new.items ≡ out.old.items ++ block_text airport.now (Late flight.now entries.now)) }
+    ensures err { OnErr result (IsCutShort (block_text airport.now (Late flight.now entries.now)) out.old.items out.new.items) }
+{
+    let mut line = LineBuffer::new();
+    line.put_last_number(entries.len() as u64);
+    line.put_name(flight);
+    line.put(b"late ");
+    print_line_and_entries(airport, &mut line, entries, out)
 }
 
 // Writes the line as it stands, the steps and the labels.
@@ -164,24 +239,6 @@ fn print_entry(
     }
 }
 
-fn write_batch_head(entries: usize, total: u32, line: &mut LineBuffer)
-    ensures { line.new ≡ line_text (codes "batch" ∷ decimal entries ∷ decimal total ∷ []) }
-{
-    line.clear();
-    line.put_last_number(u64::from(total));
-    line.put_number(entries as u64);
-    line.put(b"batch ");
-}
-
-fn write_late_head(flight: &Name, entries: usize, line: &mut LineBuffer)
-    ensures { line.new ≡ line_text (codes "late" ∷ flight.now ∷ decimal entries ∷ []) }
-{
-    line.clear();
-    line.put_last_number(entries as u64);
-    line.put_name(flight);
-    line.put(b"late ");
-}
-
 // Of which flight is told, before the line as it stands.
 fn write_next(name: &Name, line: &mut LineBuffer)
     requires { length line.old ≤ 96 }
@@ -216,32 +273,4 @@ fn write_no_route_head(labels: usize, line: &mut LineBuffer)
     line.clear();
     line.put_last_number(labels as u64);
     line.put(b"no-route ");
-}
-
-fn write_windows_head(airport: &Airport, segment: Segment, windows: usize, line: &mut LineBuffer)
-    requires { HasSegment airport.now segment }
-    ensures { line.new ≡ line_text (codes "windows" ∷ segment_word airport.now segment ∷ decimal windows ∷ []) }
-{
-    line.clear();
-    line.put_last_number(windows as u64);
-    line.put_segment(airport, segment);
-    line.put(b"windows ");
-}
-
-fn write_occupancy_head(airport: &Airport, segment: Segment, held: usize, line: &mut LineBuffer)
-    requires { HasSegment airport.now segment }
-    ensures { line.new ≡ line_text (codes "occupancy" ∷ segment_word airport.now segment ∷ decimal held ∷ []) }
-{
-    line.clear();
-    line.put_last_number(held as u64);
-    line.put_segment(airport, segment);
-    line.put(b"occupancy ");
-}
-
-fn write_timetable_head(flights: usize, line: &mut LineBuffer)
-    ensures { line.new ≡ line_text (codes "timetable" ∷ decimal flights ∷ []) }
-{
-    line.clear();
-    line.put_last_number(flights as u64);
-    line.put(b"timetable ");
 }

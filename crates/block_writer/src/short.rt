@@ -1,45 +1,21 @@
-//! Short blocks, written without taking memory: one line of at most 64 bytes.
-ghost use Rattle.std.specs.Prelude.{◌≡◌, ◌≤◌, ◌∷◌, [], length, decimal, codes, Some, None, is_none, IfSome};
+//! Blocks that have no rows, written without taking memory: one line of at most 64 bytes. They name nothing of an airport.
+ghost use Rattle.std.specs.Prelude.{◌≡◌, ◌≤◌, ◌∷◌, [], length, decimal, codes};
 ghost use Rattle.taxi_base.specs.Airport.{Airport as Plain};
 ghost use Rattle.replies.specs.declared.block.Block.TheVariants.{Refused, Filed, Cancelled};
-ghost use Rattle.replies.specs.Texts.{line_text, cause_words, refusal_words, block_text, is_long, and_words};
+ghost use Rattle.replies.specs.Texts.{line_text, cause_words, refusal_words, block_text, and_words};
 
 use crate::line::{begin_line, end_line, push_decimal, push_word};
-use airport_file::Airport;
-use replies::Block;
 use taxi_base::{Name, Refusal, StepCause, StepFault, Time};
 use taxi_text::ShortText;
 
-/// The text of a block that has no rows, whatever the airport. None exactly for a block that may have some. It takes no
-/// memory.
-pub fn print_short(airport: &Airport, block: &Block) -> Option<ShortText>
-    ensures long { is_none result ≡ is_long block.now }
-    ensures text { IfSome result (λ text. text ≡ block_text airport.now block.now) }
+/// The text of the reply that a flight is filed, or that a segment is shut.
+pub fn filed_text(flight: &Name, start: Time, end: Time) -> ShortText
+    ensures { (airport : Plain) → result ≡ block_text airport (Filed flight.now start end) }
 {
-    let _names = airport;
-    short_text(block)
+    filed_line(flight, start, end)
 }
 
-/// The same without an airport: a block with no rows names nothing of it.
-pub(crate) fn short_text(block: &Block) -> Option<ShortText>
-    ensures long { is_none result ≡ is_long block.now }
-    ensures text { (airport : Plain) → IfSome result (λ text. text ≡ block_text airport block.now) }
-{
-    match block {
-        Block::Refused(why) => Some(refused_text(why)),
-        Block::Filed { flight, start, end } => Some(filed_text(flight, *start, *end)),
-        Block::Cancelled { flight } => Some(cancelled_text(flight)),
-        Block::Route { .. }
-        | Block::NoRoute { .. }
-        | Block::Windows { .. }
-        | Block::Occupancy { .. }
-        | Block::Timetable { .. }
-        | Block::Batch { .. }
-        | Block::Late { .. } => None,
-    }
-}
-
-fn filed_text(flight: &Name, start: Time, end: Time) -> ShortText
+fn filed_line(flight: &Name, start: Time, end: Time) -> ShortText
     ensures { result ≡ line_text (codes "filed" ∷ flight.now ∷ decimal start ∷ decimal end ∷ []) }
 {
     let mut text = begin_line(b"filed");
@@ -50,7 +26,14 @@ fn filed_text(flight: &Name, start: Time, end: Time) -> ShortText
     text
 }
 
-fn cancelled_text(flight: &Name) -> ShortText
+/// The text of the reply that a flight or a work party is taken out.
+pub fn cancelled_text(flight: &Name) -> ShortText
+    ensures { (airport : Plain) → result ≡ block_text airport (Cancelled flight.now) }
+{
+    cancelled_line(flight)
+}
+
+fn cancelled_line(flight: &Name) -> ShortText
     ensures { result ≡ line_text (codes "cancelled" ∷ flight.now ∷ []) }
 {
     let mut text = begin_line(b"cancelled");
@@ -59,7 +42,14 @@ fn cancelled_text(flight: &Name) -> ShortText
     text
 }
 
-fn refused_text(why: &Refusal) -> ShortText
+/// The text of the reply that a command is refused.
+pub fn refused_text(why: &Refusal) -> ShortText
+    ensures { (airport : Plain) → result ≡ block_text airport (Refused why.now) }
+{
+    refused_line(why)
+}
+
+fn refused_line(why: &Refusal) -> ShortText
     ensures { result ≡ line_text (codes "refused" ∷ refusal_words why.now) }
 {
     match why {

@@ -8,6 +8,7 @@ mod AnewLaws
 mod FilingLaws
 mod PartyLaws
 mod ChoiceLaws
+mod NewLaws
 mod GivenBack
 mod ApartLaws
 mod EachNamed

@@ -1,28 +1,24 @@
 -- Routes that are told, and the state with them.
-use Rattle.std.proofs.Common.{◌≡◌, ℕ, ◌⊎◌, inl, inr, List, [], None, IsTrue, refl, sym, subst}
+use Rattle.std.proofs.Common.{◌≡◌, ℕ, ◌⊎◌, inl, inr, List, length, None, IsTrue, sym, subst}
 use Rattle.std.specs.Prelude.{Result, Ok, Err, OnOk, OnErr, All}
-use Rattle.taxi_base.specs.declared.numbers.Class.{Class}
-use Rattle.taxi_base.specs.declared.numbers.Node.{Node}
 use Rattle.taxi_base.specs.declared.rows.Step.{Step as Leg}
 use Rattle.taxi_base.specs.declared.rows.LabelRow.{LabelRow}
-use Rattle.taxi_base.specs.declared.answers.Request.{Request}
 use Rattle.taxi_base.specs.Airport.{Airport, layout_of, arc_exists}
-use Rattle.taxi_base.specs.Walks.{Conditions, conditions_among, IsFeasibleWalk}
+use Rattle.taxi_base.specs.Walks.{Conditions, IsFeasibleWalk, free_among}
 use Rattle.taxi_base.specs.State.{State, holds_in, IsSound}
 use Rattle.taxi_base.proofs.WalkLaws.{IsFeasibleWalk-steps}
 use Rattle.replies.specs.declared.block.Block.TheVariants.{Route}
 use Rattle.replies.specs.declared.rule.Rule.TheVariants as rule
-use Rattle.replies.specs.Asked.{Choice, request_for}
-use Rattle.replies.specs.Sought.{Sought, sought_new, sought_any, IsWalkFor}
+use Rattle.replies.specs.Sought.{Sought, IsWalkFor}
 use Rattle.replies.specs.Passes.{KeepsSought, IsFirstOf}
 use Rattle.held_spans.specs.declared.spans.HeldSpans.{HeldSpans}
 use Rattle.held_spans.specs.Spans.{AreSpansOf, holds_in_lists}
 use Rattle.check_rows.specs.declared.known.KnownWindows.{KnownWindows}
+use Rattle.check_rows.specs.Known.{AreKnown}
 use Rattle.checked_state.specs.declared.flights.HeldFlights.{HeldFlights}
 use Rattle.checked_state.specs.Flights.{state_of, HasSpansOf}
-use Rattle.check_walks.specs.Told.{Seeks}
 use Rattle.due_refusals.specs.KnownIn.{AreKnownIn}
-use Rattle.due_refusals.proofs.HeldLaws.{same-conditions}
+use Rattle.due_refusals.proofs.HeldLaws.{own-known}
 use Rattle.certificate_check.specs.Desk.{CanGoOn, IsReady}
 
 pub walk-arcs : (c : Conditions) (steps : List Leg) → IsFeasibleWalk c steps → All (λ step. IsTrue (arc_exists (layout_of c.airport) step.arc)) steps
@@ -43,15 +39,15 @@ ready-by airport held known state is sound go_on are_known spans = record {
   are_known = subst (λ (s : State). AreKnownIn airport s known) (sym is) are_known;
 }
 
--- ---- what is sought
-
-module _ (airport : Airport) (state : State) (name : List ℕ) (class : Class) (spans : HeldSpans) (has : AreSpansOf (holds_in airport state) spans) where
-  -- what is sought of a new flight among the holders is sought so among their spans
-  pub new-seeks : (request : Request) → Seeks (conditions_among airport class (holds_in_lists spans)) request [] None (sought_new airport state name class request)
-  new-seeks request = record { conditions = sym (same-conditions airport class spans (holds_in airport state) has); asked = refl; nodes = refl; under_way = refl; floor = refl }
-
-  pub any-seeks : (choice : Choice) (node : Node) (others : List Node) → Seeks (conditions_among airport class (holds_in_lists spans)) (request_for choice node) others None (sought_any airport state name class choice node others)
-  any-seeks choice node others = record { conditions = sym (same-conditions airport class spans (holds_in airport state) has); asked = refl; nodes = refl; under_way = refl; floor = refl }
+-- and where only windows are found that were not known
+pub ready-still : (airport : Airport) (held : HeldFlights) (known found : KnownWindows) → IsReady airport held known → (spans : HeldSpans) → AreSpansOf (holds_in airport (state_of held)) spans
+    → AreKnown (length airport.segments) (free_among airport (holds_in_lists spans)) found → IsReady airport held found
+ready-still airport held known found ready spans has are = record {
+  is_sound = ready.is_sound;
+  has_spans = ready.has_spans;
+  can_go_on = ready.can_go_on;
+  are_known = own-known airport (state_of held) spans has found are;
+}
 
 -- ---- what is told
 

@@ -1,5 +1,6 @@
 pub mod Again
 pub mod Judged
+pub mod NewFlight
 pub mod Entries
 pub mod Batch
 pub mod Desk

@@ -16,6 +16,7 @@ ghost use Rattle.certificate_check.specs.Judged.{IsToldOf};
 ghost use Rattle.certificate_check.specs.Again.{IsFoundAmong};
 
 use crate::CheckRefused;
+use crate::block_route::BlockRoute;
 use crate::reply::{pass_if, pass_unless};
 use airport_file::Airport;
 use check_rows::KnownWindows;
@@ -56,7 +57,12 @@ pub fn check_again(
             labels,
         } => {
             pass_if(flight == *anew.name)?;
-            check_other_route(airport, held, known, anew, second, steps, labels.as_slice())
+            let route = BlockRoute {
+                second,
+                steps,
+                labels,
+            };
+            check_other_route(airport, held, known, anew, route)
         }
         Block::NoRoute { labels } => {
             pass_if(anew.may_be_none)?;
@@ -75,29 +81,22 @@ fn check_other_route(
     held: &mut HeldFlights,
     known: &mut KnownWindows,
     anew: &Anew<'_>,
-    second: Time,
-    steps: List<Step>,
-    labels: &[LabelRow],
+    route: BlockRoute,
 ) -> Result<(), CheckRefused>
     requires ready { IsReady airport.now held.old known.old }
     requires in_force { IsSome (flight_named anew.now.name.now (state_of held.old).flights) }
     requires sought { CanBeSought airport.now anew.now.request }
     requires meant { (flight : Flight) → flight_named anew.now.name.now (state_of held.old).flights ≡ Some flight → (steps : Items StepRow) → IsWalkOnFor (conditions_of airport.now (state_of held.old) flight) anew.now.request (record { steps = flight.steps; time = anew.now.time }) steps → Meets (conditions_of airport.now (state_of held.old) flight) anew.now.request steps }
-    ensures told { (flight : Flight) → flight_named anew.now.name.now (state_of held.old).flights ≡ Some flight → IsToldOf (sought_again airport.now (state_of held.old) anew.now.name.now anew.now.time anew.now.may_be_none flight anew.now.request) (Route anew.now.name.now second steps labels.now) (state_of held.old) result (state_of held.new) }
+    ensures told { (flight : Flight) → flight_named anew.now.name.now (state_of held.old).flights ≡ Some flight → IsToldOf (sought_again airport.now (state_of held.old) anew.now.name.now anew.now.time anew.now.may_be_none flight anew.now.request) (Route anew.now.name.now route.second route.steps route.labels) (state_of held.old) result (state_of held.new) }
     ensures ready { IsReady airport.now held.new known.new }
 {
     lift(airport, held, known, anew.name);
-    let route = ToldRoute {
-        second,
-        steps: steps.as_slice(),
-        labels,
-    };
-    let told = route_among(airport, held, known, anew, &route);
+    let told = route_among(airport, held, known, anew, &route.as_told());
     if told.is_err() {
         lower(airport, held, known, anew.name);
         return told;
     }
-    put_on(airport, held, known, anew.name, anew.request, steps)?;
+    put_on(airport, held, known, anew.name, anew.request, route.steps)?;
     Ok(())
 }
 

@@ -131,15 +131,7 @@ fn check_entry(
 {
     let wish = wish_named(wishes, &name).unwrap();
     let block = told_alone(name, entry).unwrap();
-    check_new(
-        airport,
-        held,
-        known,
-        &wish.name,
-        wish.class,
-        wish.request,
-        block,
-    )
+    check_new(airport, held, known, wish, block)
 }
 
 // What an entry tells, as a block of its own. It is none where the flight is dropped.

@@ -10,7 +10,7 @@ ghost use Rattle.certificate_check.specs.Late.{IsRepairJudged};
 
 use crate::CheckRefused;
 use crate::late_base::give_way;
-use crate::late_form::told_in_turn;
+use crate::late_form::{LateLine, told_in_turn};
 use crate::late_turns::check_turns;
 use crate::reply::{is_refusal, pass_if};
 use airport_file::Airport;
@@ -19,7 +19,6 @@ use checked_state::HeldFlights;
 use due_refusals::late_refused;
 use replies::{Block, Rule};
 use std::alloc::Global;
-use taxi_base::{Name, Time};
 
 /// Checks the block of a late flight. Where it passes, what is told of each flight is in force afterwards. Else a copy that was made
 /// before takes the place of the holders: to put back those that gave way could want memory.
@@ -28,23 +27,19 @@ pub fn check_late(
     airport: &Airport,
     held: &mut HeldFlights,
     known: &mut KnownWindows,
-    name: &Name,
-    time: Time,
-    until: Time,
+    line: &LateLine<'_>,
     block: Block,
 ) -> Result<(), CheckRefused>
     requires ready { IsReady airport.now held.old known.old }
-    ensures judged { IsJudged airport.now (command.Late name.now time until) block (state_of held.old) result (state_of held.new) }
+    ensures judged { IsJudged airport.now (command.Late line.now.flight.now line.now.time line.now.until) block (state_of held.old) result (state_of held.new) }
     ensures ready { IsSound airport.now (state_of held.new) → IsReady airport.now held.new known.new }
 {
-    if let Some(why) = late_refused(airport, held, name, time, until) {
+    if let Some(why) = late_refused(airport, held, line.flight, line.time, line.until) {
         return pass_if(is_refusal(&block, &why));
     }
     let before = held.copy()?;
     let unknown = KnownWindows::new(alloc, airport)?;
-    let checked = check_repair(
-        alloc, airport, &before, held, known, name, time, until, block,
-    );
+    let checked = check_repair(alloc, airport, &before, held, known, line, block);
     if checked.is_err() {
         *held = before;
         *known = unknown;
@@ -60,20 +55,18 @@ fn check_repair(
     before: &HeldFlights,
     held: &mut HeldFlights,
     known: &mut KnownWindows,
-    name: &Name,
-    time: Time,
-    until: Time,
+    line: &LateLine<'_>,
     block: Block,
 ) -> Result<(), CheckRefused>
     requires sound { IsSound airport.now (state_of before.now) }
     requires can_go_on { All (λ f. CanGoOn airport.now f.request) (state_of before.now).flights }
-    requires unrefused { first_refusal airport.now (state_of before.now) (command.Late name.now time until) ≡ None }
+    requires unrefused { first_refusal airport.now (state_of before.now) (command.Late line.now.flight.now line.now.time line.now.until) ≡ None }
     requires same { state_of held.old ≡ state_of before.now }
     requires tidy { IsTidy airport.now held.old known.old }
-    ensures judged { IsRepairJudged airport.now (state_of before.now) (command.Late name.now time until) block result (state_of held.new) }
+    ensures judged { IsRepairJudged airport.now (state_of before.now) (command.Late line.now.flight.now line.now.time line.now.until) block result (state_of held.new) }
     ensures tidy { OnOk result (IsTidy airport.now held.new known.new) }
 {
-    let Some(told) = told_in_turn(airport, before, name, time, until, block) else {
+    let Some(told) = told_in_turn(airport, before, line, block) else {
         return Err(CheckRefused::Wrong { rule: Rule::Reply });
     };
     give_way(alloc, airport, before, &told.late, held, known)?;

@@ -15,6 +15,14 @@ use checked_state::HeldFlights;
 use replies::{Block, Entries, Entry};
 use taxi_base::{Flight, Name, Request, Step, Time, under_way};
 
+/// What a line tells of a flight that is late: the time, and until when it stays on the step that it is on then.
+#[derive(Clone, Copy)]
+pub struct LateLine<'a> {
+    pub flight: &'a Name,
+    pub time: Time,
+    pub until: Time,
+}
+
 /// A flight that is late: the step that it is on at a time, and until when it stays on it.
 #[derive(Clone, Copy)]
 pub struct LateFlight<'a> {
@@ -35,19 +43,17 @@ pub struct ToldInTurn<'a> {
 pub fn told_in_turn<'a>(
     airport: &Airport,
     before: &'a HeldFlights,
-    name: &Name,
-    time: Time,
-    until: Time,
+    line: &LateLine<'_>,
     block: Block,
 ) -> Option<ToldInTurn<'a>>
     requires sound { IsSound airport.now (state_of before.now) }
-    ensures { MatchOption result (TellsRepair airport.now (state_of before.now) name.now time until block → ⊥) (λ told. (delay_of (state_of before.now) name.now time until ≡ Some (delay_in told.late)) × (block ≡ Late name.now told.entries) × TellInTurn airport.now (state_of before.now) (delay_in told.late) told.entries) }
+    ensures { MatchOption result (TellsRepair airport.now (state_of before.now) line.now.flight.now line.now.time line.now.until block → ⊥) (λ told. (delay_of (state_of before.now) line.now.flight.now line.now.time line.now.until ≡ Some (delay_in told.late)) × (block ≡ Late line.now.flight.now told.entries) × TellInTurn airport.now (state_of before.now) (delay_in told.late) told.entries) }
 {
-    let late = late_flight(before, name, time, until)?;
+    let late = late_flight(before, line)?;
     let Block::Late { flight, entries } = block else {
         return None;
     };
-    if flight != *name {
+    if flight != *line.flight {
         return None;
     }
     if !tell_in_turn(airport, before, &late, entries.as_slice()) {
@@ -57,21 +63,16 @@ pub fn told_in_turn<'a>(
 }
 
 // The flight that is late, if it is on a step at the time.
-fn late_flight<'a>(
-    before: &'a HeldFlights,
-    name: &Name,
-    time: Time,
-    until: Time,
-) -> Option<LateFlight<'a>>
-    ensures { MatchOption result (delay_of (state_of before.now) name.now time until ≡ None) (λ late. delay_of (state_of before.now) name.now time until ≡ Some (delay_in late)) }
+fn late_flight<'a>(before: &'a HeldFlights, line: &LateLine<'_>) -> Option<LateFlight<'a>>
+    ensures { MatchOption result (delay_of (state_of before.now) line.now.flight.now line.now.time line.now.until ≡ None) (λ late. delay_of (state_of before.now) line.now.flight.now line.now.time line.now.until ≡ Some (delay_in late)) }
 {
-    let flight = before.flight(name)?;
-    let (begun, _) = under_way(flight.steps.as_slice(), time)?;
+    let flight = before.flight(line.flight)?;
+    let (begun, _) = under_way(flight.steps.as_slice(), line.time)?;
     Some(LateFlight {
         flight,
         begun: *begun,
-        time,
-        until,
+        time: line.time,
+        until: line.until,
     })
 }
 

@@ -14,6 +14,7 @@ ghost use Rattle.certificate_check.specs.Desk.{CanGoOn, IsTidy};
 ghost use Rattle.certificate_check.specs.Late.{delay_in, turn_in, flight_in, sought_in, IsTurnChecked};
 
 use crate::CheckRefused;
+use crate::block_route::BlockRoute;
 use crate::late_base::steps_kept;
 use crate::late_form::LateFlight;
 use crate::late_moves::{put_in, take_out};
@@ -21,7 +22,7 @@ use crate::late_way::is_late;
 use crate::reply::pass_unless;
 use airport_file::Airport;
 use check_rows::KnownWindows;
-use check_walks::{OnTheWay, SoughtWalk, ToldRoute, check_no_route, check_route};
+use check_walks::{OnTheWay, SoughtWalk, check_no_route, check_route};
 use checked_state::HeldFlights;
 use std::alloc::Global;
 use taxi_base::{Class, Flight, LabelRow, List, Memory, Name, Request, Step, Time};
@@ -76,25 +77,19 @@ pub fn check_turn_route(
     held: &mut HeldFlights,
     known: &mut KnownWindows,
     turn: &AtTurn,
-    second: Time,
-    steps: List<Step>,
-    labels: &[LabelRow],
+    route: BlockRoute,
 ) -> Result<(), CheckRefused>
     requires sought { CanBeSought airport.now (request_sought turn.now.request turn.now.kept) }
     requires goes_on { CanGoOn airport.now turn.now.request }
     requires early { All (λ step. step.enter ≤ 9999999) turn.now.kept }
     requires alone { party_named turn.now.name (state_of held.old).parties ≡ None }
     requires tidy { IsTidy airport.now held.old known.old }
-    ensures checked { IsTurnChecked (sought_in airport.now (state_of held.old) turn.now) (Route turn.now.name second steps labels.now) result (state_of held.new) }
+    ensures checked { IsTurnChecked (sought_in airport.now (state_of held.old) turn.now) (Route turn.now.name route.second route.steps route.labels) result (state_of held.new) }
     ensures parties { OnOk result ((state_of held.new).parties ≡ (state_of held.old).parties) }
     ensures tidy { OnOk result (IsTidy airport.now held.new known.new) }
 {
     take_out(airport, held, known, &turn.name);
-    let told = ToldRoute {
-        second,
-        steps: steps.as_slice(),
-        labels,
-    };
+    let told = route.as_told();
     let sought = sought_by(turn);
     let broken = check_route(airport, turn.class, held.spans(), known, &sought, &told)?;
     pass_unless(broken)?;
@@ -102,7 +97,7 @@ pub fn check_turn_route(
         name: turn.name,
         class: turn.class,
         request: request_routed(turn.request, turn.kept.as_slice()),
-        steps,
+        steps: route.steps,
     };
     put_in(airport, held, known, routed)?;
     Ok(())

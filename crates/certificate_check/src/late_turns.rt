@@ -9,6 +9,7 @@ ghost use Rattle.certificate_check.specs.Entries.{AreChecked};
 ghost use Rattle.certificate_check.specs.Late.{delay_in, IsEntryChecked, AreAlone, turns_late};
 
 use crate::CheckRefused;
+use crate::block_route::BlockRoute;
 use crate::late_form::LateFlight;
 use crate::late_turn::{check_turn_route, check_turn_without, find_turn};
 use airport_file::Airport;
@@ -38,7 +39,7 @@ pub fn check_turns(
     ensures tidy { OnOk result (IsTidy airport.now held.new known.new) }
 {
     for (name, entry) in entries {
-        check_entry(alloc, airport, before, late, held, known, name, entry)?;
+        check_entry(alloc, airport, before, late, held, known, (name, entry))?;
     }
     Ok(())
 }
@@ -51,20 +52,20 @@ fn check_entry(
     late: &LateFlight<'_>,
     held: &mut HeldFlights,
     known: &mut KnownWindows,
-    name: Name,
-    entry: Entry,
+    told: (Name, Entry),
 ) -> Result<(), CheckRefused>
     requires sound { IsSound airport.now (state_of before.now) }
     requires can_go_on { All (λ f. CanGoOn airport.now f.request) (state_of before.now).flights }
-    requires due { IsDroppedAsDue (state_of before.now) (name, entry) }
+    requires due { IsDroppedAsDue (state_of before.now) told }
     requires alone { AreAlone (state_of before.now) (state_of held.old).parties }
     requires tidy { IsTidy airport.now held.old known.old }
-    ensures checked { IsEntryChecked airport.now (state_of before.now) (delay_in late.now) (name, entry) (state_of held.old) result (state_of held.new) }
+    ensures checked { IsEntryChecked airport.now (state_of before.now) (delay_in late.now) told (state_of held.old) result (state_of held.new) }
     ensures parties { OnOk result ((state_of held.new).parties ≡ (state_of held.old).parties) }
     ensures tidy { OnOk result (IsTidy airport.now held.new known.new) }
 {
     // The airport keeps its rules, so steps are entered early enough.
     let _ = airport.horizon();
+    let (name, entry) = told;
     match entry {
         Entry::Route {
             second,
@@ -72,15 +73,12 @@ fn check_entry(
             labels,
         } => {
             let turn = find_turn(alloc, airport, before, late, &name)?;
-            check_turn_route(
-                airport,
-                held,
-                known,
-                &turn,
+            let route = BlockRoute {
                 second,
                 steps,
-                labels.as_slice(),
-            )
+                labels,
+            };
+            check_turn_route(airport, held, known, &turn, route)
         }
         Entry::NoRoute { labels } => {
             let turn = find_turn(alloc, airport, before, late, &name)?;

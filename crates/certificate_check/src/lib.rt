@@ -6,6 +6,7 @@ mod anew;
 mod batch;
 mod batch_form;
 mod block_checker;
+mod block_route;
 mod checker;
 mod choice;
 mod filing;

@@ -17,6 +17,7 @@ use crate::batch::check_batch;
 use crate::choice::{check_arrival_any, check_departure_any};
 use crate::filing::check_file;
 use crate::late::check_late;
+use crate::late_form::LateLine;
 use crate::parties::{check_work, check_work_done};
 use crate::plain::{check_cancel, check_windows};
 use crate::reply::{is_refusal, pass_if};
@@ -108,7 +109,14 @@ fn judge(
             flight,
             time,
             until,
-        } => check_late(alloc, airport, held, known, flight, *time, *until, block),
+        } => {
+            let late = LateLine {
+                flight,
+                time: *time,
+                until: *until,
+            };
+            check_late(alloc, airport, held, known, &late, block)
+        }
         Command::File(_)
         | Command::Cancel { .. }
         | Command::Windows { .. }

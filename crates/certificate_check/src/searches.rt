@@ -12,7 +12,7 @@ use airport_file::Airport;
 use check_rows::KnownWindows;
 use checked_state::HeldFlights;
 use due_refusals::{named_arrival, named_departure};
-use replies::Block;
+use replies::{Block, Wish};
 use taxi_base::Request;
 use taxi_text::Asked;
 
@@ -38,8 +38,12 @@ pub fn check_arrival(
                 time: asked.time,
                 hold: asked.slack,
             };
-            let name = &asked.flight;
-            check_new(airport, held, known, name, named.class, request, block)
+            let wish = Wish {
+                name: asked.flight,
+                class: named.class,
+                request,
+            };
+            check_new(airport, held, known, &wish, block)
         }
         Err(why) => pass_if(is_refusal(&block, &why)),
     }
@@ -67,8 +71,12 @@ pub fn check_departure(
                 time: asked.time,
                 queue: asked.slack,
             };
-            let name = &asked.flight;
-            check_new(airport, held, known, name, named.class, request, block)
+            let wish = Wish {
+                name: asked.flight,
+                class: named.class,
+                request,
+            };
+            check_new(airport, held, known, &wish, block)
         }
         Err(why) => pass_if(is_refusal(&block, &why)),
     }

@@ -1,6 +1,5 @@
 -- Which command file stands for what is in force?
 use Rattle.std.specs.Prelude.{ℕ, nat_lt, Bool, if◌then◌else◌, List, [], ◌∷◌, ◌++◌, length, map, flat_map, codes, decimal}
-use Rattle.taxi_base.specs.declared.numbers.Node.{Node}
 use Rattle.taxi_base.specs.declared.rows.Step.{Step}
 use Rattle.taxi_base.specs.declared.answers.Request.{Request}
 use Rattle.taxi_base.specs.declared.answers.Request.TheVariants as request
@@ -11,19 +10,22 @@ use Rattle.taxi_base.specs.Walks.{begin_of}
 use Rattle.taxi_base.specs.State.{State}
 use Rattle.airport_file.specs.Words.{class_word, segment_word, word_of_arc}
 use Rattle.replies.specs.Texts.{lines_text}
+use Rattle.command_refusals.specs.declared.asking.Trip.{Trip}
 
 -- ---- what a flight asked for
 
 -- the comment that tells what an arrival or a departure asked for
-abbrev pub wish_words : Airport → Flight → List ℕ → Node → Node → ℕ → ℕ → List (List ℕ)
-wish_words airport flight kind from to time slack =
-    codes "#" ∷ kind ∷ flight.name ∷ class_word airport flight.class ∷ node_word airport from ∷ node_word airport to ∷ decimal time ∷ decimal slack ∷ []
+abbrev pub wish_words : Airport → List ℕ → List ℕ → Trip → List (List ℕ)
+wish_words airport kind name trip =
+    codes "#" ∷ kind ∷ name ∷ class_word airport trip.class ∷ node_word airport trip.from ∷ node_word airport trip.to ∷ decimal trip.time ∷ decimal trip.slack ∷ []
 
 -- the lines of a flight's request: none of one that was filed
 abbrev pub wish_lines : Airport → Flight → Request → List (List (List ℕ))
 wish_lines airport flight request.Filed = []
-wish_lines airport flight (request.Arrival from to time hold) = wish_words airport flight (codes "arrival") from to time hold ∷ []
-wish_lines airport flight (request.Departure from to time queue) = wish_words airport flight (codes "departure") from to time queue ∷ []
+wish_lines airport flight (request.Arrival from to time hold) =
+    wish_words airport (codes "arrival") flight.name (record { class = flight.class; from = from; to = to; time = time; slack = hold }) ∷ []
+wish_lines airport flight (request.Departure from to time queue) =
+    wish_words airport (codes "departure") flight.name (record { class = flight.class; from = from; to = to; time = time; slack = queue }) ∷ []
 
 -- ---- its route
 

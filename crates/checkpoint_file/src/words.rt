@@ -2,6 +2,7 @@
 ghost use Rattle.std.specs.Prelude.{◌≡◌, ◌≤◌, ◌∷◌, ◌++◌, OnOk, length, map, flat_map, decimal};
 ghost use Rattle.replies.specs.Texts.{line_text};
 
+use airport_words::push_word;
 use itoa::Buffer;
 use taxi_base::Memory;
 use taxi_text::{ShortText, push_bytes};
@@ -21,17 +22,8 @@ pub(crate) fn write_words(out: &mut Vec<u8>, words: &[&[u8]]) -> Result<(), Memo
     ensures { OnOk result (out.new.items ≡ out.old.items ++ flat_map (λ word. 32 ∷ word.now) words.now) }
 {
     for word in words {
-        write_word(out, word)?;
+        push_word(out, word)?;
     }
-    Ok(())
-}
-
-/// Adds a word behind a blank.
-pub(crate) fn write_word(out: &mut Vec<u8>, word: &[u8]) -> Result<(), Memory>
-    ensures { OnOk result (out.new.items ≡ out.old.items ++ 32 ∷ word.now) }
-{
-    push_bytes(out, b" ")?;
-    push_bytes(out, word)?;
     Ok(())
 }
 

@@ -5,12 +5,13 @@ ghost use Rattle.replies.specs.Texts.{line_text, lines_text};
 ghost use Rattle.checkpoint_file.specs.Lines.{wish_words, wish_lines, file_words, too_long_words, route_words, flight_lines, work_words, checkpoint_text};
 ghost use Rattle.checkpoint_file.specs.Written.{step_text};
 
-use crate::words::{number_text, write_line, write_word, write_words};
+use crate::words::{number_text, write_line, write_words};
 use airport_file::Airport;
-use airport_words::{arc_text, class_text, node_text, segment_text};
+use airport_words::{arc_text, class_text, node_text, push_word, segment_text};
+use command_refusals::Trip;
 use commitments::Ledger;
 use std::alloc::Global;
-use taxi_base::{Flight, Memory, Node, Party, Request, Step, Time};
+use taxi_base::{Flight, Memory, Name, Party, Request, Step, Time};
 use taxi_text::push_bytes;
 
 // A command files a route of so many steps at most.
@@ -62,41 +63,57 @@ fn write_flight(out: &mut Vec<u8>, airport: &Airport, flight: &Flight) -> Result
 fn write_request(out: &mut Vec<u8>, airport: &Airport, flight: &Flight) -> Result<(), Memory>
     ensures { OnOk result (out.new.items ≡ out.old.items ++ lines_text (wish_lines airport.now flight.now flight.now.request)) }
 {
+    let class = flight.class;
     match flight.request {
         Request::Filed => Ok(()),
         Request::Arrival {
             from,
             to,
             time,
-            hold,
-        } => write_wish(out, airport, flight, b"arrival", from, to, time, hold),
+            hold: slack,
+        } => {
+            let trip = Trip {
+                class,
+                from,
+                to,
+                time,
+                slack,
+            };
+            write_wish(out, airport, b"arrival", &flight.name, &trip)
+        }
         Request::Departure {
             from,
             to,
             time,
-            queue,
-        } => write_wish(out, airport, flight, b"departure", from, to, time, queue),
+            queue: slack,
+        } => {
+            let trip = Trip {
+                class,
+                from,
+                to,
+                time,
+                slack,
+            };
+            write_wish(out, airport, b"departure", &flight.name, &trip)
+        }
     }
 }
 
+// The comment that tells of which kind a flight's trip is, and which trip.
 fn write_wish(
     out: &mut Vec<u8>,
     airport: &Airport,
-    flight: &Flight,
     kind: &[u8],
-    from: Node,
-    to: Node,
-    time: Time,
-    slack: Time,
+    name: &Name,
+    trip: &Trip,
 ) -> Result<(), Memory>
-    ensures { OnOk result (out.new.items ≡ out.old.items ++ line_text (wish_words airport.now flight.now kind.now from to time slack)) }
+    ensures { OnOk result (out.new.items ≡ out.old.items ++ line_text (wish_words airport.now kind.now name.now trip.now)) }
 {
-    let name = flight.name;
-    let class = class_text(airport, flight.class);
-    let from = node_text(airport, from);
-    let to = node_text(airport, to);
-    let time = number_text(u64::from(time));
-    let slack = number_text(u64::from(slack));
+    let class = class_text(airport, trip.class);
+    let from = node_text(airport, trip.from);
+    let to = node_text(airport, trip.to);
+    let time = number_text(u64::from(trip.time));
+    let slack = number_text(u64::from(trip.slack));
     write_line(
         out,
         b"#",
@@ -173,8 +190,8 @@ fn write_step(out: &mut Vec<u8>, airport: &Airport, step: &Step) -> Result<(), M
 {
     let arc = arc_text(airport, step.arc);
     let leave = number_text(u64::from(step.leave));
-    write_word(out, arc.bytes())?;
-    write_word(out, leave.bytes())?;
+    push_word(out, arc.bytes())?;
+    push_word(out, leave.bytes())?;
     Ok(())
 }
 

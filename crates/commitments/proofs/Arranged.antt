@@ -14,7 +14,7 @@ use Rattle.taxi_base.specs.Airport.{segment_of}
 use Rattle.taxi_base.proofs.ListLaws.{Contains-first, Contains-rest, flat_map-Contains}
 use Rattle.commitments.specs.declared.segment_holds.HeldStep.{HeldStep}
 use Rattle.commitments.specs.declared.segment_holds.Holder.{Holder}
-use Rattle.commitments.specs.Held.{StepList, no_step, list_of, all_steps, steps_with, AreAsMany, AreAmong, AreBySegment, KeepsHoldRoom, GainsHoldRoom}
+use Rattle.commitments.specs.Held.{StepList, no_step, list_of, all_steps, steps_with, AreAsMany, AreAmong, AreBySegment, KeepsHoldRoom}
 
 -- ---- how many pass a test
 
@@ -34,7 +34,7 @@ count-map p f [] = refl
 count-map p f (x ∷ xs) = count-cons p (f x) (map f xs) ∙ ap (λ n. cond (p (f x)) 1 0 + n) (count-map p f xs) ∙ sym (count-cons (λ x. p (f x)) x xs)
 
 -- where some pass, there is one that does
-pub some-passes : {X : Type 0} (p : X → Bool) (xs : List X) → 1 ≤ count_by p xs → (x : X) × Contains xs x × IsTrue (p x)
+some-passes : {X : Type 0} (p : X → Bool) (xs : List X) → 1 ≤ count_by p xs → (x : X) × Contains xs x × IsTrue (p x)
 some-passes p [] some = absurd (omega arith)
 some-passes p (x ∷ xs) some =
     elim (cases_Bool (p x)) [
@@ -137,7 +137,7 @@ pub count-set : (p : HeldStep → Bool) (lists : List StepList) (k : ℕ) (l d :
 count-set p lists k l d low =
     omega (arith, count-joined p (λ (l : StepList). l.steps) (set lists k l), count-joined p (λ (l : StepList). l.steps) lists, sum_by-set (λ (l : StepList). count_by p l.steps) lists k l d low)
 
-steps-kept : (lists : List StepList) (k : ℕ) (l : StepList) → k < length lists → l.steps ≡ (get_or lists k no_step).steps → all_steps (set lists k l) ≡ all_steps lists
+pub steps-kept : (lists : List StepList) (k : ℕ) (l : StepList) → k < length lists → l.steps ≡ (get_or lists k no_step).steps → all_steps (set lists k l) ≡ all_steps lists
 steps-kept [] k l low same = absurd (omega arith)
 steps-kept (m ∷ lists) zero l low same = ap (λ (steps : List HeldStep). steps ++ all_steps lists) same
 steps-kept (m ∷ lists) (suc k) l low same = ap (λ (steps : List HeldStep). m.steps ++ steps) (steps-kept lists k l (omega arith) same)
@@ -193,20 +193,3 @@ module _ (lists : List StepList) (k : ℕ) (low : k < length lists) where
   -- the room of each list stays
   pub room-set : (l : StepList) → l.capacity ≡ (get_or lists k no_step).capacity → KeepsHoldRoom lists (set lists k l)
   room-set l same = record { lists = length-set lists k l; capacity = each-list (λ s l. l.capacity ≡ (list_of lists s).capacity) l same (λ t. refl) }
-
-  -- or grows, while the steps stay
-  pub room-gained : (l : StepList) → l.steps ≡ (get_or lists k no_step).steps → (get_or lists k no_step).capacity ≤ l.capacity → GainsHoldRoom lists (set lists k l)
-  room-gained l steps more = record {
-    lists = length-set lists k l;
-    steps = steps-kept lists k l low steps;
-    capacity = each-list (λ s l. (list_of lists s).capacity ≤ l.capacity) l more (λ t. omega arith);
-  }
-
--- ---- room gained step by step
-
-pub gains-more : (old now new : List StepList) → GainsHoldRoom old now → GainsHoldRoom now new → GainsHoldRoom old new
-gains-more old now new first second = record {
-  lists = second.lists ∙ first.lists;
-  steps = second.steps ∙ first.steps;
-  capacity = λ s. omega (arith, first.capacity s, second.capacity s);
-}

@@ -3,24 +3,22 @@
 use Rattle.std.proofs.Common.{◌≡◌, ℕ, ◌<◌, ◌≤◌, eqb, ltb, ◌&&◌, Bool, List, [], ◌∷◌, ◌++◌, length, map, IsTrue, refl, sym, ap, ◌∙◌, inl, inr, subst, arith}
 use Rattle.std.specs.Prelude.{All, count_by}
 use Rattle.std.specs.List.{list_any}
-use Rattle.std.proofs.lemmas.Bool.{cases_Bool, cases_lt, cond-true, cond-false, eqb-true, eq-eqb, lt-ltb, or_left}
+use Rattle.std.proofs.lemmas.Bool.{cases_Bool, cond-true, cond-false, eqb-true, eq-eqb, lt-ltb, or_left}
 use Rattle.std.proofs.lemmas.List.{map-append}
-use Rattle.std.proofs.lemmas.List.Elements.{All-contains, All-head, All-tail}
+use Rattle.std.proofs.lemmas.List.Elements.{All-head, All-tail}
 use Rattle.std.proofs.lemmas.List.Sums.{sum_by-set}
 use Rattle.std.proofs.lemmas.Simd.{map-map}
 use Rattle.taxi_base.specs.declared.numbers.Segment.{Segment}
 use Rattle.taxi_base.specs.declared.rows.Step.{Step}
 use Rattle.taxi_base.specs.Airport.{Airport, conflict, segment_of, has_member}
 use Rattle.taxi_base.specs.Windows.{Hold, blocks, holds_of}
-use Rattle.taxi_base.proofs.HoldLaws.{conflict-turned}
 use Rattle.window_store.specs.Store.{Store}
 use Rattle.window_store.specs.Stands.{StandsFor, HasRoomFor, conflicting, conflicting_steps}
-use Rattle.window_store.specs.Kept.{DrawsWhatIsLacking}
-use Rattle.window_store.proofs.Standing.{StandsFor-same, conflicting-le}
+use Rattle.window_store.proofs.Standing.{StandsFor-same}
 use Rattle.commitments.specs.declared.segment_holds.HeldStep.{HeldStep}
 use Rattle.commitments.specs.declared.segment_holds.Holder.{Holder}
-use Rattle.commitments.specs.Held.{StepList, no_step, list_of, all_steps, hold_by, clearance_after, steps_with, AreAsMany, AreBySegment, GainsHoldRoom, HasRoomInConflict, HaveRoomForSteps, HasHoldRoom}
-use Rattle.commitments.proofs.Arranged.{count-cons, count-joined, count-map, some-passes}
+use Rattle.commitments.specs.Held.{StepList, no_step, list_of, all_steps, hold_by, clearance_after, steps_with, AreAsMany, AreBySegment, HaveRoomForSteps, HasHoldRoom}
+use Rattle.commitments.proofs.Arranged.{count-cons, count-joined, count-map}
 
 -- ---- how many pass
 
@@ -71,10 +69,10 @@ module _ (s : Segment) where
   own-steps sets steps = count-fewer _ _ steps (λ step here. own-conflict sets s (segment_of step.arc) here)
 
 -- what a store has room for, the lists have room for
-pub room-for-steps : (airport : Airport) (lists : List StepList) (store : Store) (steps : List Step) → AreBySegment lists → length lists ≡ length store.lists → HasHoldRoom store lists
+pub room-for-steps : (airport : Airport) (lists : List StepList) (store : Store) (steps : List Step) → AreBySegment lists → HasHoldRoom store lists
     → StandsFor airport.conflicts airport.horizon (map (hold_by airport) (all_steps lists)) store → HasRoomFor airport.conflicts steps store → HaveRoomForSteps steps lists
-room-for-steps airport lists store steps by_segment same room stands has s low =
-    let on_list : s.0 < length store.lists = omega (arith, same, low) in
+room-for-steps airport lists store steps by_segment room stands has s low =
+    let on_list : s.0 < length store.lists = omega (arith, room.as_many, low) in
     omega (
       arith,
       own-among s lists by_segment low,
@@ -82,24 +80,8 @@ room-for-steps airport lists store steps by_segment same room stands has s low =
       (stands s on_list).number,
       own-steps s airport.conflicts steps,
       has s on_list,
-      room s on_list,
+      room.each s on_list,
     )
-
--- and they have room still once the store has made room for steps
-pub room-reserved : (sets : List (List Segment)) (horizon : ℕ) (holds : List Hold) (old new : Store) (lists more : List StepList) (steps : List Step) → length new.lists ≡ length old.lists
-    → StandsFor sets horizon holds old → HasHoldRoom old lists → GainsHoldRoom lists more → All (λ step. HasRoomInConflict sets old (length steps) (segment_of step.arc) more) steps
-    → DrawsWhatIsLacking sets steps old new → HasHoldRoom new more
-room-reserved sets horizon holds old new lists more steps as_many stands room gained in_conflict lacking s low =
-    let on_list : s.0 < length old.lists = omega (arith, as_many, low) in
-    let most = lacking.most s on_list in
-    let held = (stands s on_list).room in
-    elim (cases_lt 0 (conflicting_steps sets s steps)) [
-      | inl some ↦
-          let one = some-passes (λ (step : Step). conflict sets s (segment_of step.arc)) steps some in
-          let here = All-contains (λ (step : Step). HasRoomInConflict sets old (length steps) (segment_of step.arc) more) steps one.0 in_conflict one.1 s (conflict-turned sets s (segment_of one.0.arc) one.2) in
-          omega (arith, most, here, conflicting-le sets s steps, room s on_list, gained.capacity s)
-      | inr none ↦ omega (arith, most, none, held, room s on_list, gained.capacity s)
-    ]
 
 -- ---- in any order
 

@@ -1,14 +1,14 @@
 -- The steps by which holders hold segments, kept by segment.
-use Rattle.std.specs.Prelude.{ℕ, ◌≡◌, ◌+◌, ◌<◌, ◌≤◌, ◌==◌, if◌then◌else◌, Bool, IsTrue, List, ◌∷◌, ◌++◌, length, map, flat_map, count_by, slice_index_or, [], All}
+use Rattle.std.specs.Prelude.{ℕ, ◌≡◌, ◌+◌, ◌<◌, ◌≤◌, ◌==◌, if◌then◌else◌, Bool, List, ◌∷◌, ◌++◌, length, map, flat_map, count_by, slice_index_or, [], All}
 use Rattle.std.specs.List.Sorted.{IsNonDecreasingBy}
 use Rattle.taxi_base.specs.declared.numbers.Segment.{Segment}
 use Rattle.taxi_base.specs.declared.rows.Step.{Step}
 use Rattle.taxi_base.specs.declared.rows.Span.{Span}
 use Rattle.taxi_base.specs.declared.answers.Flight.{Flight}
 use Rattle.taxi_base.specs.declared.answers.Party.{Party}
-use Rattle.taxi_base.specs.Airport.{Airport, conflict, segment_of, clearance_of}
-use Rattle.window_store.specs.Spans.{nodes}
-use Rattle.window_store.specs.Store.{Store, list_at}
+use Rattle.taxi_base.specs.Airport.{Airport, segment_of, clearance_of}
+use Rattle.window_store.specs.Store.{Store}
+use Rattle.window_store.specs.Beside.{HasRoomBeside}
 use Rattle.taxi_base.specs.Windows.{Hold, hold_of}
 use Rattle.taxi_base.specs.State.{State, party_step}
 use Rattle.commitments.specs.declared.segment_holds.HeldStep.{HeldStep}
@@ -82,32 +82,21 @@ pub record AreSince (steps : List HeldStep) (second : ℕ) (rest : List HeldStep
   pub short : All (λ held. held.step.leave + 600 ≤ second) over
   pub rising : IsNonDecreasingBy (λ held. held.step.enter) rest
 
--- ---- what of the room stays, and what is gained
+-- ---- what room there is
 
 -- each list has as much room
 pub record KeepsHoldRoom (old new : List StepList) : Type 0 where
   pub lists : length new ≡ length old
   pub capacity : (segment : Segment) → (list_of new segment).capacity ≡ (list_of old segment).capacity
 
--- each list has the same steps and at least as much room
-pub record GainsHoldRoom (old new : List StepList) : Type 0 where
-  pub lists : length new ≡ length old
-  pub steps : all_steps new ≡ all_steps old
-  pub capacity : (segment : Segment) → (list_of old segment).capacity ≤ (list_of new segment).capacity
-
--- each list in conflict with a segment has room for as many steps as the store counts holds there, and for some more
-abbrev pub HasRoomInConflict : List (List Segment) → Store → ℕ → Segment → List StepList → Type 0
-HasRoomInConflict sets store more segment lists =
-    (s : Segment) → IsTrue (conflict sets segment s) → (list_at store s).held + more ≤ (list_of lists s).capacity
-
 -- each list has room for those of some steps that lie on its segment
 abbrev pub HaveRoomForSteps : List Step → List StepList → Type 0
 HaveRoomForSteps steps lists =
     (segment : Segment) → segment.0 < length lists → length (list_of lists segment).steps + count_by (λ s. (segment_of s.arc).0 == segment.0) steps ≤ (list_of lists segment).capacity
 
--- each list has room for one step fewer than there are nodes in the store
+-- there are as many lists as in the store, and each has room for one step fewer than there are nodes
 abbrev pub HasHoldRoom : Store → List StepList → Type 0
-HasHoldRoom store lists = (segment : Segment) → segment.0 < length store.lists → nodes (list_at store segment) ≤ 1 + (list_of lists segment).capacity
+HasHoldRoom store lists = HasRoomBeside (length lists) (λ segment. (list_of lists segment).capacity) store.lists
 
 -- some steps are among others
 abbrev pub AreAmong : List HeldStep → List HeldStep → Type 0

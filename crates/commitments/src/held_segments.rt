@@ -26,14 +26,13 @@ pub(crate) struct HeldSegments {
 }
 
 impl Model for HeldSegments {
-    ghost use Rattle.std.specs.Prelude.{◌≡◌, length};
     ghost use Rattle.commitments.specs.Held.{HeldBook, all_steps, HasHoldRoom};
 
     ghost Value = { HeldBook };
 
     ghost view = { λ h. record { store = h.store; steps = all_steps h.index } };
 
-    ghost invariant = { λ h. (length h.index ≡ length h.store.lists) × HasHoldRoom h.store h.index };
+    ghost invariant = { λ h. HasHoldRoom h.store h.index };
 }
 
 impl HeldSegments {
@@ -85,16 +84,14 @@ impl HeldSegments {
         requires lists { length self.old.store.lists ≡ length airport.now.segments }
         requires steps { AreOnSegments (length airport.now.segments) steps.now }
         requires few { All (λ l. l.held + length steps.now < 2 ^ 33) self.old.store.lists }
-        requires stands { (horizon : ℕ) × (holds : List Hold) × StandsFor airport.now.conflicts horizon holds self.old.store }
         ensures room { OnOk result (HasRoomFor airport.now.conflicts steps.now self.new.store) }
         ensures gained { GainsRoom self.old.store self.new.store }
         ensures lacking { DrawsWhatIsLacking airport.now.conflicts steps.now self.old.store self.new.store }
         ensures stands { (horizon : ℕ) (holds : List Hold) → StandsFor airport.now.conflicts horizon holds self.old.store → StandsFor airport.now.conflicts horizon holds self.new.store }
         ensures steps { self.new.steps ≡ self.old.steps }
     {
-        let conflicts = airport.conflicts();
-        self.index.reserve(conflicts, &self.store, steps)?;
-        self.store.reserve(conflicts, steps)
+        self.store
+            .reserve(&mut self.index, airport.conflicts(), steps)
     }
 
     /// Holds what the steps of a flight or a party hold. It needs no memory. A window that has no second of that stays as it is.

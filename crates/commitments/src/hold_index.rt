@@ -1,11 +1,11 @@
 //! The steps that hold segments, by segment.
-ghost use Rattle.std.specs.Prelude.{◌≡◌, ◌+◌, ◌/◌, ◌^◌, ◌<◌, ◌≤◌, ◌==◌, if◌then◌else◌, ◌∷◌, ◌++◌, [], length, All, Contains, IfOk, OnOk};
+ghost use Rattle.std.specs.Prelude.{◌≡◌, ◌+◌, ◌/◌, ◌^◌, ◌<◌, ◌≤◌, ◌==◌, if◌then◌else◌, ◌∷◌, ◌++◌, [], length, Contains, IfOk};
 ghost use Rattle.window_store.specs.Held.{IsFirstHeld};
 ghost use Rattle.window_store.specs.Conflicting.{ReachesUpTo};
 ghost use Rattle.taxi_base.specs.declared.numbers.Segment.{Segment as SegmentNumber};
 ghost use Rattle.taxi_base.specs.Airport.{segment_of};
 ghost use Rattle.window_store.specs.Stands.{AreOnSegments};
-ghost use Rattle.commitments.specs.Held.{steps_with, all_steps, list_of, spans_by, AreAsMany, HaveRoomForSteps, AreBySegment, KeepsHoldRoom, GainsHoldRoom, HasRoomInConflict, AreAmong};
+ghost use Rattle.commitments.specs.Held.{steps_with, all_steps, list_of, spans_by, AreAsMany, HaveRoomForSteps, AreBySegment, KeepsHoldRoom, AreAmong};
 ghost use Rattle.commitments.specs.Taken.{has_second, takes, IsFirstNamed};
 
 use crate::segment_holds::{HeldStep, Holder, SegmentHolds, first_name};
@@ -14,7 +14,7 @@ use conflict_sets::Conflicts;
 use std::alloc::Global;
 use std::marker::Model;
 use taxi_base::{Memory, Name, Segment, Step, Time};
-use window_store::{OtherHolds, WindowStore};
+use window_store::{OtherHolds, RoomBeside};
 
 /// The steps that hold segments, by segment.
 #[derive(Drop)]
@@ -44,56 +44,6 @@ impl HoldIndex {
             lists.push(SegmentHolds::new(alloc))?;
         }
         Ok(HoldIndex { lists })
-    }
-
-    /// Makes room on each segment in conflict with a step: for as many steps as the store counts there, and for all of these.
-    /// The steps stay, also where memory runs out.
-    pub(crate) fn reserve(
-        &mut self,
-        conflicts: &Conflicts,
-        store: &WindowStore,
-        steps: &[Step],
-    ) -> Result<(), Memory>
-        requires segments { length self.old ≡ conflicts.now.segments }
-        requires lists { length store.now.lists ≡ conflicts.now.segments }
-        requires steps { AreOnSegments conflicts.now.segments steps.now }
-        requires few { All (λ l. l.held + length steps.now < 2 ^ 33) store.now.lists }
-        ensures room { OnOk result (All (λ step. HasRoomInConflict conflicts.now.sets store.now (length steps.now) (segment_of step.arc) self.new) steps.now) }
-        ensures gained { GainsHoldRoom self.old self.new }
-    {
-        for step in steps {
-            self.reserve_for_step(conflicts, store, step, steps.len())?;
-        }
-        Ok(())
-    }
-
-    fn reserve_for_step(
-        &mut self,
-        conflicts: &Conflicts,
-        store: &WindowStore,
-        step: &Step,
-        more: usize,
-    ) -> Result<(), Memory>
-        requires segments { length self.old ≡ conflicts.now.segments }
-        requires lists { length store.now.lists ≡ conflicts.now.segments }
-        requires step { step.now.arc.0 / 2 < conflicts.now.segments }
-        requires few { All (λ l. l.held + more < 2 ^ 33) store.now.lists }
-        ensures room { OnOk result (HasRoomInConflict conflicts.now.sets store.now more (segment_of step.now.arc) self.new) }
-        ensures gained { GainsHoldRoom self.old self.new }
-    {
-        for segment in conflicts.of(step.arc.segment()) {
-            self.make_room(*segment, store.held(*segment) + more)?;
-        }
-        Ok(())
-    }
-
-    // Makes room for so many steps together on a segment.
-    fn make_room(&mut self, segment: Segment, wanted: usize) -> Result<(), Memory>
-        requires { segment.0 < length self.old }
-        ensures room { OnOk result (wanted ≤ (list_of self.new segment).capacity) }
-        ensures gained { GainsHoldRoom self.old self.new }
-    {
-        self.lists[segment.0 as usize].make_room(wanted)
     }
 
     /// Puts steps among the others. It needs no memory.
@@ -182,6 +132,26 @@ impl HoldIndex {
             None => from,
         }
     }
+}
+
+impl RoomBeside for HoldIndex {
+    ghost use Rattle.std.specs.Prelude.{◌≡◌, length, refl};
+    ghost use Rattle.std.proofs.Common.{◌∙◌};
+    ghost use Rattle.commitments.specs.Held.{all_steps, list_of};
+
+    ghost segments = { λ i. length i };
+
+    ghost room = { λ i s. (list_of i s).capacity };
+
+    ghost keeps = { λ x y. all_steps y ≡ all_steps x };
+
+    fn make_room(&mut self, segment: Segment, wanted: usize) -> Result<(), Memory> {
+        self.lists[segment.0 as usize].make_room(wanted)
+    }
+
+    ghost keeps_itself = { λ x. refl };
+
+    ghost keeps_further = { λ x y z first second. second ∙ first };
 }
 
 /// What the steps of an index hold at an airport.

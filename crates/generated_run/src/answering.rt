@@ -1,14 +1,12 @@
 //! One command answered, and its reply read back and checked.
 ghost use Rattle.std.specs.Prelude.{◌≡◌, IfOk, OnOk};
 ghost use Rattle.taxi_base.specs.State.{State};
-ghost use Rattle.replies.specs.declared.block.Block.{Block as PlainBlock};
 ghost use Rattle.replies.specs.Replies.{IsAnswered};
 ghost use Rattle.replies.specs.Passes.{IsPassed};
-ghost use Rattle.block_reader.specs.Read.{BeginsWith};
 ghost use Rattle.generated_run.specs.Summaries.{FoundMemory};
 
 use airport_file::Airport;
-use block_reader::{BlockRefused, read_block};
+use block_reader::read_back;
 use replies::Block;
 use std::alloc::Global;
 use taxi_base::{Memory, Refusal};
@@ -29,7 +27,7 @@ pub(crate) fn read_answer<R: Router>(
     ensures router { R.airport router.new ≡ airport.now }
 {
     router.answer(line);
-    let block = read_reply(alloc, airport, router.reply())?;
+    let block = read_back(alloc, airport, router.reply())?;
     if let Block::Refused(Refusal::Memory) = block {
         return Err(Memory::told());
     }
@@ -54,17 +52,5 @@ pub(crate) fn check_answer<C: BlockChecker>(
         Ok(()) => Ok(()),
         Err(CheckRefused::Memory) => Err(Memory::told()),
         Err(CheckRefused::Wrong { .. }) => unreachable!(),
-    }
-}
-
-/// The block whose text a reply is.
-fn read_reply(alloc: Global, airport: &Airport, reply: &[u8]) -> Result<Block, Memory>
-    requires printed { (block : PlainBlock) × BeginsWith airport.now reply.now block }
-    ensures { (block : PlainBlock) → BeginsWith airport.now reply.now block → IfOk result (λ read. read ≡ block) }
-{
-    match read_block(alloc, airport, reply) {
-        Ok((block, _)) => Ok(block),
-        Err(BlockRefused::Memory) => Err(Memory::told()),
-        Err(BlockRefused::NotABlock) => unreachable!(),
     }
 }

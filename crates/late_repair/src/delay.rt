@@ -1,27 +1,30 @@
 //! A flight that is late, and what it holds by that.
-ghost use Rattle.std.specs.Prelude.{◌≡◌};
+ghost use Rattle.std.specs.Prelude.{◌≡◌, IfOk};
 ghost use Rattle.taxi_base.specs.Late.{prolonged_hold, is_late, time_sought};
 ghost use Rattle.late_repair.specs.Repairing.{hold_seen};
 
+use crate::kept::copy_of;
 use airport_file::Airport;
+use std::alloc::Global;
 use std::marker::Model;
-use taxi_base::{Flight, Name, Segment, Span, Step, Time};
+use taxi_base::{Flight, Memory, Name, Segment, Span, Step, Time};
 
-/// A flight that at a time is on a step that it has begun, and stays on it until a second.
+/// A flight that at a time is on a step that it has begun, and stays on it until a second. The flight is a copy, since the one in
+/// force is taken out.
 #[derive(Drop)]
-pub(crate) struct Delay<'a> {
-    flight: &'a Flight,
+pub(crate) struct Delay {
+    flight: Flight,
     begun: Step,
     time: Time,
     until: Time,
 }
 
-impl<'a> Model for Delay<'a> {
+impl Model for Delay {
     ghost use Rattle.taxi_base.specs.Late.{Delay as Late};
 
     ghost Value = { Late };
 
-    ghost view = { λ d. record { flight = d.flight.now; begun = d.begun; time = d.time; until = d.until } };
+    ghost view = { λ d. record { flight = d.flight; begun = d.begun; time = d.time; until = d.until } };
 }
 
 /// A segment that is held for a span.
@@ -31,17 +34,29 @@ pub(crate) struct Hold {
     pub(crate) span: Span,
 }
 
-impl<'a> Delay<'a> {
+impl Delay {
     /// A flight, and the step on which it stays.
-    pub(crate) fn of(flight: &'a Flight, begun: Step, time: Time, until: Time) -> Delay<'a>
-        ensures { result ≡ record { flight = flight.now; begun = begun; time = time; until = until } }
+    pub(crate) fn of(
+        alloc: Global,
+        flight: &Flight,
+        begun: Step,
+        time: Time,
+        until: Time,
+    ) -> Result<Delay, Memory>
+        ensures { IfOk result (λ delay. delay ≡ record { flight = flight.now; begun = begun; time = time; until = until }) }
     {
-        Delay {
-            flight,
+        let steps = copy_of(alloc, flight.steps.as_slice())?;
+        Ok(Delay {
+            flight: Flight {
+                name: flight.name,
+                class: flight.class,
+                request: flight.request,
+                steps,
+            },
             begun,
             time,
             until,
-        }
+        })
     }
 
     /// The name of the flight that is late.

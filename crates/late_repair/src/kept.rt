@@ -15,7 +15,7 @@ use taxi_base::{Class, Flight, List, Memory, Step, Time, under_way};
 pub(crate) fn steps_kept(
     alloc: Global,
     airport: &Airport,
-    delay: &Delay<'_>,
+    delay: &Delay,
     flight: &Flight,
 ) -> Result<List<Step>, Memory>
     requires { (state : State) × IsFeasibleWalk (conditions_of airport.now state flight.now) flight.now.steps }
@@ -34,7 +34,7 @@ pub(crate) fn steps_kept(
 }
 
 // When a flight leaves the last of the steps that it keeps.
-fn leave_kept(airport: &Airport, delay: &Delay<'_>, flight: &Flight, begun: &Step) -> Time
+fn leave_kept(airport: &Airport, delay: &Delay, flight: &Flight, begun: &Step) -> Time
     requires { begun.now.enter ≤ airport.now.horizon }
     ensures { result ≡ leave_kept airport.now delay.now flight.now begun.now }
 {

@@ -9,7 +9,7 @@ use airport_file::Airport;
 use taxi_base::{Flight, Party, Segment, Span, Time};
 
 /// The first second of the prolonged hold that a work party has on a conflicting segment; none where it has none.
-pub(crate) fn party_meeting(airport: &Airport, delay: &Delay<'_>, party: &Party) -> Option<Time>
+pub(crate) fn party_meeting(airport: &Airport, delay: &Delay, party: &Party) -> Option<Time>
     requires { IsOnSegment airport.now delay.now }
     ensures { IsFirstCommonOf airport.now (prolonged_hold airport.now delay.now) (party_hold party.now ∷ []) result }
 {
@@ -22,7 +22,7 @@ pub(crate) fn party_meeting(airport: &Airport, delay: &Delay<'_>, party: &Party)
 }
 
 /// The same of what a flight holds.
-pub(crate) fn flight_meeting(airport: &Airport, delay: &Delay<'_>, flight: &Flight) -> Option<Time>
+pub(crate) fn flight_meeting(airport: &Airport, delay: &Delay, flight: &Flight) -> Option<Time>
     requires { IsOnSegment airport.now delay.now }
     ensures { IsFirstCommonOf airport.now (prolonged_hold airport.now delay.now) (flight_holds airport.now flight.now) result }
 {

@@ -21,7 +21,7 @@ use taxi_base::Memory;
 pub(crate) fn place_at_once(
     alloc: Global,
     airport: &Airport,
-    delay: &Delay<'_>,
+    delay: &Delay,
     before: &TakenOut,
     ledger: &mut Ledger,
 ) -> Result<(), Memory>
@@ -46,7 +46,7 @@ pub(crate) fn place_at_once(
 fn place_one(
     alloc: Global,
     airport: &Airport,
-    delay: &Delay<'_>,
+    delay: &Delay,
     holder: &Holder,
     ledger: &mut Ledger,
 ) -> Result<(), Memory>

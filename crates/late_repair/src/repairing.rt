@@ -20,7 +20,7 @@ use commitments::Ledger;
 use place_cells::SearchRoom;
 use replies::{Entries, Entry};
 use std::alloc::Global;
-use taxi_base::{Memory, Name, Step, Time, under_way};
+use taxi_base::{Memory, Name, Time, under_way};
 
 /// A flight that at a time is on a step, and stays there until a second.
 #[derive(Clone, Copy, Debug, PartialEq, Eq)]
@@ -57,10 +57,42 @@ pub fn repair(
     ensures unlifted { ledger.new.lifted ≡ None }
     ensures fits { Fits airport.now ledger.new }
 {
-    let (begun, names) = plan_turns(alloc, airport, ledger, late)?;
+    let delay = delay_in(alloc, ledger, late)?;
+    repair_delay(alloc, room, airport, ledger, &delay)
+}
+
+// What is said of the flight that is late: as it is in force, and on which step.
+fn delay_in(alloc: Global, ledger: &Ledger, late: &Lateness) -> Result<Delay, Memory>
+    requires { (delay : Late) × (delay_of ledger.now.state late.now.flight late.now.time late.now.until ≡ Some delay) }
+    ensures { IfOk result (λ delay. delay_of ledger.now.state late.now.flight late.now.time late.now.until ≡ Some delay) }
+{
+    let flight = ledger.flight(&late.flight).unwrap();
+    let (begun, _) = under_way(flight.steps.as_slice(), late.time).unwrap();
+    Delay::of(alloc, flight, *begun, late.time, late.until)
+}
+
+// The repair after a delay.
+fn repair_delay(
+    alloc: Global,
+    room: &mut SearchRoom,
+    airport: &Airport,
+    ledger: &mut Ledger,
+    delay: &Delay,
+) -> Result<Repaired, Memory>
+    requires fits { Fits airport.now ledger.old }
+    requires unlifted { ledger.old.lifted ≡ None }
+    requires sound { IsSound airport.now ledger.old.state }
+    requires delay { IsDelay airport.now ledger.old.state delay.now }
+    ensures repaired { IfOk result (λ done. IsRepairedAs airport.now ledger.old.state delay.now done.entries ledger.new.state) }
+    ensures back { IfOk result (λ done. taken_back done.before ledger.new.state ≡ ledger.old.state) }
+    ensures room { IfOk result (λ _. HasRoomForAll airport.now ledger.old.state ledger.new) }
+    ensures err { OnErr result (ledger.new.state ≡ ledger.old.state) }
+    ensures unlifted { ledger.new.lifted ≡ None }
+    ensures fits { Fits airport.now ledger.new }
+{
+    let names = names_in_turn(alloc, airport, ledger, delay)?;
     let before = take_out(alloc, airport, ledger, names.as_slice())?;
-    let delay = Delay::of(before.first_flight(), begun, late.time, late.until);
-    match let_through(alloc, room, airport, &delay, &before, ledger) {
+    match let_through(alloc, room, airport, delay, &before, ledger) {
         Ok(entries) => Ok(Repaired { entries, before }),
         Err(memory) => {
             take_back(airport, ledger, before);
@@ -69,30 +101,12 @@ pub fn repair(
     }
 }
 
-// The step on which the flight stays, and whose turn it is, one after the other.
-fn plan_turns(
-    alloc: Global,
-    airport: &Airport,
-    ledger: &Ledger,
-    late: &Lateness,
-) -> Result<(Step, Vec<Name>), Memory>
-    requires feasible { IsFeasibleState airport.now ledger.now.state }
-    requires delay { (delay : Late) × (delay_of ledger.now.state late.now.flight late.now.time late.now.until ≡ Some delay) × IsDelay airport.now ledger.now.state delay }
-    ensures { IfOk result (λ plan. (delay : Late) × (delay_of ledger.now.state late.now.flight late.now.time late.now.until ≡ Some delay) × (plan.0 ≡ delay.begun) × ((meetings : List Meeting) × AreInTheWay airport.now ledger.now.state delay meetings × (plan.1.items ≡ names_in_turn delay meetings))) }
-{
-    let flight = ledger.flight(&late.flight).unwrap();
-    let (begun, _) = under_way(flight.steps.as_slice(), late.time).unwrap();
-    let delay = Delay::of(flight, *begun, late.time, late.until);
-    let names = names_in_turn(alloc, airport, ledger, &delay)?;
-    Ok((*begun, names))
-}
-
 // Those that were taken out are put in force on the steps that they keep, and take their turns.
 fn let_through(
     alloc: Global,
     room: &mut SearchRoom,
     airport: &Airport,
-    delay: &Delay<'_>,
+    delay: &Delay,
     before: &TakenOut,
     ledger: &mut Ledger,
 ) -> Result<Entries, Memory>
@@ -116,7 +130,7 @@ fn take_turns(
     alloc: Global,
     room: &mut SearchRoom,
     airport: &Airport,
-    delay: &Delay<'_>,
+    delay: &Delay,
     before: &TakenOut,
     ledger: &mut Ledger,
 ) -> Result<Entries, Memory>
@@ -144,7 +158,7 @@ fn take_turn_of(
     alloc: Global,
     room: &mut SearchRoom,
     airport: &Airport,
-    delay: &Delay<'_>,
+    delay: &Delay,
     holder: &Holder,
     ledger: &mut Ledger,
 ) -> Result<Entry, Memory>

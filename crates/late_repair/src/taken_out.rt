@@ -1,11 +1,8 @@
 //! Holders that are taken out of force, and put back as they were.
-ghost use Rattle.std.specs.Prelude.{◌≡◌, ◌<◌, ◌∷◌, List as Items, length, map, All, AllPairs, IfOk, OnErr, IsTrue, IsFalse, None, bytes_eq};
-ghost use Rattle.taxi_base.specs.declared.answers.Flight.{Flight as FlightSeen};
+ghost use Rattle.std.specs.Prelude.{◌≡◌, ◌<◌, map, All, AllPairs, IfOk, OnErr, IsTrue, IsFalse, None, bytes_eq};
 ghost use Rattle.taxi_base.specs.State.{has_holder, holder_count, without, IsFeasibleState};
 ghost use Rattle.commitments.specs.Book.{Fits};
 ghost use Rattle.commitments.specs.Room.{HasRoomForAll, LosesNoRoom};
-ghost use Rattle.late_repair.specs.declared.holder.Holder.{Holder as HolderSeen};
-ghost use Rattle.late_repair.specs.declared.holder.Holder.TheVariants.{Flight as AFlight};
 ghost use Rattle.late_repair.specs.TakenOut.{name_of, with_holder, with_holders, without_all, taken_back, AreOthers, AreOut, IsFeasibleAmong};
 
 use crate::holder::Holder;
@@ -13,7 +10,7 @@ use airport_file::Airport;
 use commitments::Ledger;
 use std::alloc::Global;
 use std::marker::Model;
-use taxi_base::{Flight, Memory, Name};
+use taxi_base::{Memory, Name};
 
 /// Holders that were taken out of a ledger one after the other, each of another name. `take_back` puts them back.
 #[derive(Drop)]
@@ -40,17 +37,6 @@ impl TakenOut {
         ensures others { AreOthers self.now }
     {
         self.holders.as_slice()
-    }
-
-    /// The first of them, where it is a flight.
-    pub(crate) fn first_flight(&self) -> &Flight
-        requires { (flight : FlightSeen) × (rest : Items HolderSeen) × (self.now ≡ AFlight flight ∷ rest) }
-        ensures { (rest : Items HolderSeen) × (self.now ≡ AFlight result.now ∷ rest) }
-    {
-        match &self.holders[0] {
-            Holder::Flight(flight) => flight,
-            Holder::Party(_) => unreachable!(),
-        }
     }
 
     // The holders alone.

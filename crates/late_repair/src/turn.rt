@@ -28,7 +28,7 @@ pub(crate) fn take_turn(
     alloc: Global,
     room: &mut SearchRoom,
     airport: &Airport,
-    delay: &Delay<'_>,
+    delay: &Delay,
     flight: &Flight,
     ledger: &mut Ledger,
 ) -> Result<Entry, Memory>

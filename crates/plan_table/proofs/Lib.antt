@@ -1,3 +1,4 @@
 pub mod SlackLaws
 pub mod RowLaws
 pub mod TableLaws
+mod OnePlan

@@ -8,7 +8,7 @@ use taxi_base::{Arc, Flight, FlightKind, Name, Party, Step, Time};
 
 /// A row of the plan: a step of a flight, or a work party. A work party has no kind of flight, no class and no direction.
 #[derive(Drop)]
-pub struct PlanRow {
+pub(crate) struct PlanRow {
     pub name: Name,
     pub kind: Option<FlightKind>,
     pub class: Option<Name>,
@@ -33,7 +33,7 @@ pub struct PlanRow {
 
 /// The row of a flight's step, with its number and its slack.
 #[tactic(auto, unfolding(crate::specs::Rows::step_row))]
-pub fn step_row(
+pub(crate) fn step_row(
     airport: &Airport,
     flight: &Flight,
     number: u32,
@@ -75,7 +75,7 @@ pub fn step_row(
 
 /// The row of a work party, with its slack.
 #[tactic(auto, unfolding(crate::specs::Rows::party_row))]
-pub fn party_row(airport: &Airport, party: &Party, slack: Time) -> PlanRow
+pub(crate) fn party_row(airport: &Airport, party: &Party, slack: Time) -> PlanRow
     requires segment { party.now.segment.0 < length airport.now.segments }
     requires some { party.now.from ≤ party.now.until }
     ensures { result ≡ party_row airport.now party.now slack }

@@ -10,7 +10,7 @@ use commitments::Ledger;
 use taxi_base::{Flight, Party, Step, Time};
 
 /// By how many seconds later a step of a flight could be left, among the other holders.
-pub fn step_slack(airport: &Airport, ledger: &Ledger, flight: &Flight, step: &Step) -> Time
+pub(crate) fn step_slack(airport: &Airport, ledger: &Ledger, flight: &Flight, step: &Step) -> Time
     requires fits { Fits airport.now ledger.now }
     requires unlifted { ledger.now.lifted ≡ None }
     requires feasible { IsFeasibleStep (conditions_of airport.now ledger.now.state flight.now) step.now }
@@ -35,7 +35,7 @@ fn latest_leave(horizon: Time, clearance: Time, end: Time) -> Time
 }
 
 /// By how many seconds later a work party in force could end, among the other holders.
-pub fn party_slack(airport: &Airport, ledger: &Ledger, party: &Party) -> Time
+pub(crate) fn party_slack(airport: &Airport, ledger: &Ledger, party: &Party) -> Time
     requires fits { Fits airport.now ledger.now }
     requires unlifted { ledger.now.lifted ≡ None }
     requires in_force { Contains ledger.now.state.parties party.now }

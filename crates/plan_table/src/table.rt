@@ -1,6 +1,5 @@
 //! The table, row by row.
 ghost use Rattle.std.specs.Prelude.{◌≡◌, ◌∷◌, [], List, None, IfOk, OnOk, Contains, map};
-ghost use Rattle.taxi_base.specs.declared.answers.Flight.{Flight as FlightOf};
 ghost use Rattle.taxi_base.specs.Walks.{IsFeasibleStep};
 ghost use Rattle.taxi_base.specs.State.{conditions_of};
 ghost use Rattle.commitments.specs.Book.{Fits};
@@ -21,117 +20,108 @@ use taxi_base::{Flight, Memory, Party, Step};
 
 /// The plan of the flights and work parties of a ledger, with its times as seconds or, where a start is given, as civil times. The only
 /// error is that memory ran out.
-pub fn write_plan(
+pub fn write_plan<'a>(
     alloc: Global,
-    airport: &Airport,
-    ledger: &Ledger,
-    start: &Option<Start>,
+    airport: &'a Airport,
+    ledger: &'a Ledger,
+    start: &'a Option<Start>,
 ) -> Result<Vec<u8>, Memory>
     requires fits { Fits airport.now ledger.now }
     requires unlifted { ledger.now.lifted ≡ None }
     ensures { IfOk result (λ text. IsPlan airport.now ledger.now.state start.now text.items) }
 {
+    let plan = Plan {
+        airport,
+        ledger,
+        start,
+    };
     let mut records = RecordWriter::new(alloc);
     write_header(&mut records)?;
-    write_flights(&mut records, airport, ledger, start)?;
-    write_parties(&mut records, airport, ledger, start)?;
+    plan.write_flights(&mut records)?;
+    plan.write_parties(&mut records)?;
     records.finish()
 }
 
-// The rows of all flights.
-fn write_flights(
-    records: &mut RecordWriter,
-    airport: &Airport,
-    ledger: &Ledger,
-    start: &Option<Start>,
-) -> Result<(), Memory>
-    requires fits { Fits airport.now ledger.now }
-    requires unlifted { ledger.now.lifted ≡ None }
-    ensures { OnOk result ((rows : List RowOf) × AreFlightRows airport.now ledger.now.state ledger.now.state.flights rows × (records.new ≡ and_records records.old (map (row_fields start.now) rows))) }
-{
-    for place in 0..ledger.count() {
-        write_flight(records, airport, ledger, ledger.at(place), start)?;
+// What a plan is made of: the holders of a ledger, over an airport, and the start of its civil times, where it has one.
+#[derive(Drop)]
+struct Plan<'a> {
+    airport: &'a Airport,
+    ledger: &'a Ledger,
+    start: &'a Option<Start>,
+}
+
+impl<'a> Plan<'a> {
+    // The rows of all flights.
+    fn write_flights(&self, records: &mut RecordWriter) -> Result<(), Memory>
+        requires fits { Fits self.now.airport.now self.now.ledger.now }
+        requires unlifted { self.now.ledger.now.lifted ≡ None }
+        ensures { OnOk result ((rows : List RowOf) × AreFlightRows self.now.airport.now self.now.ledger.now.state self.now.ledger.now.state.flights rows × (records.new ≡ and_records records.old (map (row_fields self.now.start.now) rows))) }
+    {
+        for place in 0..self.ledger.count() {
+            self.write_flight(records, self.ledger.at(place))?;
+        }
+        Ok(())
     }
-    Ok(())
-}
 
-// The rows of a flight in force.
-fn write_flight(
-    records: &mut RecordWriter,
-    airport: &Airport,
-    ledger: &Ledger,
-    flight: &Flight,
-    start: &Option<Start>,
-) -> Result<(), Memory>
-    requires fits { Fits airport.now ledger.now }
-    requires unlifted { ledger.now.lifted ≡ None }
-    requires in_force { Contains ledger.now.state.flights flight.now }
-    ensures { OnOk result ((rows : List RowOf) × AreStepRows airport.now ledger.now.state flight.now 1 flight.now.steps rows × (records.new ≡ and_records records.old (map (row_fields start.now) rows))) }
-{
-    // The airport keeps its rules, so its horizon is near, and the steps are few.
-    let _horizon = airport.horizon();
-    let mut number = 0;
-    for step in flight.steps.as_slice() {
-        number += 1;
-        write_step(records, airport, ledger, flight, number, step, start)?;
+    // The rows of a flight in force.
+    fn write_flight(&self, records: &mut RecordWriter, flight: &Flight) -> Result<(), Memory>
+        requires fits { Fits self.now.airport.now self.now.ledger.now }
+        requires unlifted { self.now.ledger.now.lifted ≡ None }
+        requires in_force { Contains self.now.ledger.now.state.flights flight.now }
+        ensures { OnOk result ((rows : List RowOf) × AreStepRows self.now.airport.now self.now.ledger.now.state flight.now 1 flight.now.steps rows × (records.new ≡ and_records records.old (map (row_fields self.now.start.now) rows))) }
+    {
+        // The airport keeps its rules, so its horizon is near, and the steps are few.
+        let _horizon = self.airport.horizon();
+        let mut number = 0;
+        for step in flight.steps.as_slice() {
+            number += 1;
+            self.write_step(records, flight, number, step)?;
+        }
+        Ok(())
     }
-    Ok(())
-}
 
-// The row of a step of a flight in force.
-fn write_step(
-    records: &mut RecordWriter,
-    airport: &Airport,
-    ledger: &Ledger,
-    flight: &Flight,
-    number: u32,
-    step: &Step,
-    start: &Option<Start>,
-) -> Result<(), Memory>
-    requires fits { Fits airport.now ledger.now }
-    requires unlifted { ledger.now.lifted ≡ None }
-    requires in_force { Contains ledger.now.state.flights flight.now }
-    requires feasible { IsFeasibleStep (conditions_of airport.now ledger.now.state flight.now) step.now }
-    ensures { OnOk result ((row : RowOf) × IsStepRow airport.now ledger.now.state flight.now number step.now row × (records.new ≡ and_records records.old (row_fields start.now row ∷ []))) }
-{
-    let _horizon = airport.horizon();
-    let slack = step_slack(airport, ledger, flight, step);
-    let row = step_row(airport, flight, number, step, slack);
-    write_row(records, start, &row)
-}
-
-// The rows of all work parties.
-fn write_parties(
-    records: &mut RecordWriter,
-    airport: &Airport,
-    ledger: &Ledger,
-    start: &Option<Start>,
-) -> Result<(), Memory>
-    requires fits { Fits airport.now ledger.now }
-    requires unlifted { ledger.now.lifted ≡ None }
-    ensures { OnOk result ((rows : List RowOf) × ArePartyRows airport.now ledger.now.state ledger.now.state.parties rows × (records.new ≡ and_records records.old (map (row_fields start.now) rows))) }
-{
-    for place in 0..ledger.parties() {
-        write_party(records, airport, ledger, &ledger.party_at(place), start)?;
+    // The row of a step of a flight in force.
+    fn write_step(
+        &self,
+        records: &mut RecordWriter,
+        flight: &Flight,
+        number: u32,
+        step: &Step,
+    ) -> Result<(), Memory>
+        requires fits { Fits self.now.airport.now self.now.ledger.now }
+        requires unlifted { self.now.ledger.now.lifted ≡ None }
+        requires in_force { Contains self.now.ledger.now.state.flights flight.now }
+        requires feasible { IsFeasibleStep (conditions_of self.now.airport.now self.now.ledger.now.state flight.now) step.now }
+        ensures { OnOk result ((row : RowOf) × IsStepRow self.now.airport.now self.now.ledger.now.state flight.now number step.now row × (records.new ≡ and_records records.old (row_fields self.now.start.now row ∷ []))) }
+    {
+        let _horizon = self.airport.horizon();
+        let slack = step_slack(self.airport, self.ledger, flight, step);
+        let row = step_row(self.airport, flight, number, step, slack);
+        write_row(records, self.start, &row)
     }
-    Ok(())
-}
 
-// The row of a work party in force.
-fn write_party(
-    records: &mut RecordWriter,
-    airport: &Airport,
-    ledger: &Ledger,
-    party: &Party,
-    start: &Option<Start>,
-) -> Result<(), Memory>
-    requires fits { Fits airport.now ledger.now }
-    requires unlifted { ledger.now.lifted ≡ None }
-    requires in_force { Contains ledger.now.state.parties party.now }
-    ensures { OnOk result ((row : RowOf) × IsPartyRow airport.now ledger.now.state party.now row × (records.new ≡ and_records records.old (row_fields start.now row ∷ []))) }
-{
-    let _horizon = airport.horizon();
-    let slack = party_slack(airport, ledger, party);
-    let row = party_row(airport, party, slack);
-    write_row(records, start, &row)
+    // The rows of all work parties.
+    fn write_parties(&self, records: &mut RecordWriter) -> Result<(), Memory>
+        requires fits { Fits self.now.airport.now self.now.ledger.now }
+        requires unlifted { self.now.ledger.now.lifted ≡ None }
+        ensures { OnOk result ((rows : List RowOf) × ArePartyRows self.now.airport.now self.now.ledger.now.state self.now.ledger.now.state.parties rows × (records.new ≡ and_records records.old (map (row_fields self.now.start.now) rows))) }
+    {
+        for place in 0..self.ledger.parties() {
+            self.write_party(records, &self.ledger.party_at(place))?;
+        }
+        Ok(())
+    }
+
+    // The row of a work party in force.
+    fn write_party(&self, records: &mut RecordWriter, party: &Party) -> Result<(), Memory>
+        requires fits { Fits self.now.airport.now self.now.ledger.now }
+        requires unlifted { self.now.ledger.now.lifted ≡ None }
+        requires in_force { Contains self.now.ledger.now.state.parties party.now }
+        ensures { OnOk result ((row : RowOf) × IsPartyRow self.now.airport.now self.now.ledger.now.state party.now row × (records.new ≡ and_records records.old (row_fields self.now.start.now row ∷ []))) }
+    {
+        let _horizon = self.airport.horizon();
+        let slack = party_slack(self.airport, self.ledger, party);
+        let row = party_row(self.airport, party, slack);
+        write_row(records, self.start, &row)
+    }
 }

@@ -1,5 +1,6 @@
 //! Why a call ends before anything is done with its files.
 use airport_file::{AirportFault, AirportRefused};
+use taxi_base::Memory;
 use taxi_io::{ReadRefused, Trouble};
 
 /// Why a call ends before anything is done with its files.
@@ -53,5 +54,17 @@ impl From<Trouble> for Stop {
             Trouble::Failed => Stop::ReadFault,
             Trouble::Memory => Stop::Memory,
         }
+    }
+}
+
+/// Memory that ran out over the files that were read.
+impl From<Memory> for Stop {
+    ghost use Rattle.std.specs.Prelude.{◌≡◌};
+    ghost use Rattle.program_files.specs.declared.stop.Stop.TheVariants as stops;
+
+    ghost from_gives = { λ _ stop. stop ≡ stops.Memory };
+
+    fn from(_memory: Memory) -> Stop {
+        Stop::Memory
     }
 }

@@ -1,5 +1,5 @@
 -- How a block is written.
-use Rattle.std.specs.Prelude.{ℕ, Bool, true, false, List, [], ◌∷◌, ◌++◌, length, map, flat_map, codes, decimal}
+use Rattle.std.specs.Prelude.{ℕ, List, [], ◌∷◌, ◌++◌, length, map, flat_map, codes, decimal}
 use Rattle.taxi_base.specs.declared.numbers.Segment.{Segment}
 use Rattle.taxi_base.specs.declared.rows.Step.{Step}
 use Rattle.taxi_base.specs.declared.rows.Span.{Span}
@@ -121,13 +121,6 @@ unfoldable pub block_text : Airport → Block → List ℕ
 block_text airport block = lines_text (block_lines airport block)
 
 -- ---- short blocks
-
--- whether a block has rows, so that its text has no bound
-abbrev pub is_long : Block → Bool
-is_long (Refused why) = false
-is_long (Filed flight start end) = false
-is_long (Cancelled flight) = false
-is_long _ = true
 
 -- a line of words as it grows: what stands, then a blank and one more word
 abbrev pub and_word : List ℕ → List ℕ → List ℕ

@@ -5,3 +5,4 @@ mod ListTexts
 mod ObjectTexts
 mod Encoded
 mod ReadBack
+mod LineBack

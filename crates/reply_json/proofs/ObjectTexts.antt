@@ -145,26 +145,26 @@ module _ (airport : Airport) (command line : ℕ) (text : List ℕ) (old : List 
 
 -- ---- what is written, step by step
 
-pub route-written : (airport : Airport) (command line : ℕ) (flight : List ℕ) (second : ℕ) (steps : List Step) (labels : List LabelRow) (w old a1 a2 a3 a4 a5 : List ℕ)
+pub route-written : (airport : Airport) (command line : ℕ) (text : List ℕ) (flight : List ℕ) (second : ℕ) (steps : List Step) (labels : List LabelRow) (old a1 a2 a3 a4 a5 : List ℕ)
     → a1 ≡ (old ++ codes "{\"command\":") ++ decimal command
     → a2 ≡ (((a1 ++ codes ",\"flight\":") ++ quoted flight) ++ codes ",\"labels\":") ++ labels_text airport labels
     → a3 ≡ (a2 ++ codes ",\"line\":") ++ decimal line
     → a4 ≡ (((a3 ++ codes ",\"reply\":\"route\",\"second\":") ++ decimal second) ++ codes ",\"steps\":") ++ steps_text airport steps
-    → a5 ≡ ((a4 ++ codes ",\"words\":") ++ w) ++ (125 ∷ [])
-    → (text : List ℕ) → w ≡ words_text text → a5 ≡ old ++ compact_text (command_object airport command line text (Route flight second steps labels))
-route-written airport command line flight second steps labels w old a1 a2 a3 a4 a5 p1 p2 p3 p4 p5 text is = rw (p5, p4, p3, p2, p1, is) (route-text airport command line text old flight second steps labels)
+    → a5 ≡ ((a4 ++ codes ",\"words\":") ++ words_text text) ++ (125 ∷ [])
+    → a5 ≡ old ++ compact_text (command_object airport command line text (Route flight second steps labels))
+route-written airport command line text flight second steps labels old a1 a2 a3 a4 a5 p1 p2 p3 p4 p5 = rw (p5, p4, p3, p2, p1) (route-text airport command line text old flight second steps labels)
 
-pub no_route-written : (airport : Airport) (command line : ℕ) (labels : List LabelRow) (w old a1 a2 a3 a4 a5 a6 : List ℕ)
+pub no_route-written : (airport : Airport) (command line : ℕ) (text : List ℕ) (labels : List LabelRow) (old a1 a2 a3 a4 a5 a6 : List ℕ)
     → a1 ≡ (old ++ codes "{\"command\":") ++ decimal command
     → a2 ≡ a1 ++ codes ",\"labels\":"
     → a3 ≡ a2 ++ labels_text airport labels
     → a4 ≡ (a3 ++ codes ",\"line\":") ++ decimal line
     → a5 ≡ a4 ++ codes ",\"reply\":\"no-route\""
-    → a6 ≡ ((a5 ++ codes ",\"words\":") ++ w) ++ (125 ∷ [])
-    → (text : List ℕ) → w ≡ words_text text → a6 ≡ old ++ compact_text (command_object airport command line text (NoRoute labels))
-no_route-written airport command line labels w old a1 a2 a3 a4 a5 a6 p1 p2 p3 p4 p5 p6 text is = rw (p6, p5, p4, p3, p2, p1, is) (no_route-text airport command line text old labels)
+    → a6 ≡ ((a5 ++ codes ",\"words\":") ++ words_text text) ++ (125 ∷ [])
+    → a6 ≡ old ++ compact_text (command_object airport command line text (NoRoute labels))
+no_route-written airport command line text labels old a1 a2 a3 a4 a5 a6 p1 p2 p3 p4 p5 p6 = rw (p6, p5, p4, p3, p2, p1) (no_route-text airport command line text old labels)
 
-pub filed-written : (airport : Airport) (command line : ℕ) (flight : List ℕ) (start end : ℕ) (w old a1 a2 a3 a4 a5 a6 a7 a8 a9 : List ℕ)
+pub filed-written : (airport : Airport) (command line : ℕ) (text : List ℕ) (flight : List ℕ) (start end : ℕ) (old a1 a2 a3 a4 a5 a6 a7 a8 a9 : List ℕ)
     → a1 ≡ (old ++ codes "{\"command\":") ++ decimal command
     → a2 ≡ a1 ++ codes ",\"end\":"
     → a3 ≡ a2 ++ decimal end
@@ -173,62 +173,62 @@ pub filed-written : (airport : Airport) (command line : ℕ) (flight : List ℕ)
     → a6 ≡ (a5 ++ codes ",\"line\":") ++ decimal line
     → a7 ≡ a6 ++ codes ",\"reply\":\"filed\",\"start\":"
     → a8 ≡ a7 ++ decimal start
-    → a9 ≡ ((a8 ++ codes ",\"words\":") ++ w) ++ (125 ∷ [])
-    → (text : List ℕ) → w ≡ words_text text → a9 ≡ old ++ compact_text (command_object airport command line text (Filed flight start end))
-filed-written airport command line flight start end w old a1 a2 a3 a4 a5 a6 a7 a8 a9 p1 p2 p3 p4 p5 p6 p7 p8 p9 text is = rw (p9, p8, p7, p6, p5, p4, p3, p2, p1, is) (filed-text airport command line text old flight start end)
+    → a9 ≡ ((a8 ++ codes ",\"words\":") ++ words_text text) ++ (125 ∷ [])
+    → a9 ≡ old ++ compact_text (command_object airport command line text (Filed flight start end))
+filed-written airport command line text flight start end old a1 a2 a3 a4 a5 a6 a7 a8 a9 p1 p2 p3 p4 p5 p6 p7 p8 p9 = rw (p9, p8, p7, p6, p5, p4, p3, p2, p1) (filed-text airport command line text old flight start end)
 
-pub cancelled-written : (airport : Airport) (command line : ℕ) (flight : List ℕ) (w old a1 a2 a3 a4 a5 a6 : List ℕ)
+pub cancelled-written : (airport : Airport) (command line : ℕ) (text : List ℕ) (flight : List ℕ) (old a1 a2 a3 a4 a5 a6 : List ℕ)
     → a1 ≡ (old ++ codes "{\"command\":") ++ decimal command
     → a2 ≡ a1 ++ codes ",\"flight\":"
     → a3 ≡ a2 ++ quoted flight
     → a4 ≡ (a3 ++ codes ",\"line\":") ++ decimal line
     → a5 ≡ a4 ++ codes ",\"reply\":\"cancelled\""
-    → a6 ≡ ((a5 ++ codes ",\"words\":") ++ w) ++ (125 ∷ [])
-    → (text : List ℕ) → w ≡ words_text text → a6 ≡ old ++ compact_text (command_object airport command line text (Cancelled flight))
-cancelled-written airport command line flight w old a1 a2 a3 a4 a5 a6 p1 p2 p3 p4 p5 p6 text is = rw (p6, p5, p4, p3, p2, p1, is) (cancelled-text airport command line text old flight)
+    → a6 ≡ ((a5 ++ codes ",\"words\":") ++ words_text text) ++ (125 ∷ [])
+    → a6 ≡ old ++ compact_text (command_object airport command line text (Cancelled flight))
+cancelled-written airport command line text flight old a1 a2 a3 a4 a5 a6 p1 p2 p3 p4 p5 p6 = rw (p6, p5, p4, p3, p2, p1) (cancelled-text airport command line text old flight)
 
-pub windows-written : (airport : Airport) (command line : ℕ) (segment : Segment) (windows : List Span) (w old a1 a2 a3 a4 a5 a6 a7 : List ℕ)
+pub windows-written : (airport : Airport) (command line : ℕ) (text : List ℕ) (segment : Segment) (windows : List Span) (old a1 a2 a3 a4 a5 a6 a7 : List ℕ)
     → a1 ≡ (old ++ codes "{\"command\":") ++ decimal command
     → a2 ≡ (a1 ++ codes ",\"line\":") ++ decimal line
     → a3 ≡ a2 ++ codes ",\"reply\":\"windows\""
     → a4 ≡ (a3 ++ codes ",\"segment\":") ++ quoted (segment_word airport segment)
     → a5 ≡ a4 ++ codes ",\"windows\":"
     → a6 ≡ a5 ++ compact_text (list_value (map window_object windows))
-    → a7 ≡ ((a6 ++ codes ",\"words\":") ++ w) ++ (125 ∷ [])
-    → (text : List ℕ) → w ≡ words_text text → a7 ≡ old ++ compact_text (command_object airport command line text (Windows segment windows))
-windows-written airport command line segment windows w old a1 a2 a3 a4 a5 a6 a7 p1 p2 p3 p4 p5 p6 p7 text is = rw (p7, p6, p5, p4, p3, p2, p1, is) (windows-text airport command line text old segment windows)
+    → a7 ≡ ((a6 ++ codes ",\"words\":") ++ words_text text) ++ (125 ∷ [])
+    → a7 ≡ old ++ compact_text (command_object airport command line text (Windows segment windows))
+windows-written airport command line text segment windows old a1 a2 a3 a4 a5 a6 a7 p1 p2 p3 p4 p5 p6 p7 = rw (p7, p6, p5, p4, p3, p2, p1) (windows-text airport command line text old segment windows)
 
-pub occupancy-written : (airport : Airport) (command line : ℕ) (segment : Segment) (held : List HeldRow) (w old a1 a2 a3 a4 a5 a6 a7 : List ℕ)
+pub occupancy-written : (airport : Airport) (command line : ℕ) (text : List ℕ) (segment : Segment) (held : List HeldRow) (old a1 a2 a3 a4 a5 a6 a7 : List ℕ)
     → a1 ≡ (old ++ codes "{\"command\":") ++ decimal command
     → a2 ≡ a1 ++ codes ",\"held\":"
     → a3 ≡ a2 ++ compact_text (list_value (map (held_object airport) held))
     → a4 ≡ (a3 ++ codes ",\"line\":") ++ decimal line
     → a5 ≡ a4 ++ codes ",\"reply\":\"occupancy\""
     → a6 ≡ (a5 ++ codes ",\"segment\":") ++ quoted (segment_word airport segment)
-    → a7 ≡ ((a6 ++ codes ",\"words\":") ++ w) ++ (125 ∷ [])
-    → (text : List ℕ) → w ≡ words_text text → a7 ≡ old ++ compact_text (command_object airport command line text (Occupancy segment held))
-occupancy-written airport command line segment held w old a1 a2 a3 a4 a5 a6 a7 p1 p2 p3 p4 p5 p6 p7 text is = rw (p7, p6, p5, p4, p3, p2, p1, is) (occupancy-text airport command line text old segment held)
+    → a7 ≡ ((a6 ++ codes ",\"words\":") ++ words_text text) ++ (125 ∷ [])
+    → a7 ≡ old ++ compact_text (command_object airport command line text (Occupancy segment held))
+occupancy-written airport command line text segment held old a1 a2 a3 a4 a5 a6 a7 p1 p2 p3 p4 p5 p6 p7 = rw (p7, p6, p5, p4, p3, p2, p1) (occupancy-text airport command line text old segment held)
 
-pub timetable-written : (airport : Airport) (command line : ℕ) (flights : List FlightRow) (w old a1 a2 a3 a4 a5 a6 : List ℕ)
+pub timetable-written : (airport : Airport) (command line : ℕ) (text : List ℕ) (flights : List FlightRow) (old a1 a2 a3 a4 a5 a6 : List ℕ)
     → a1 ≡ (old ++ codes "{\"command\":") ++ decimal command
     → a2 ≡ a1 ++ codes ",\"flights\":"
     → a3 ≡ a2 ++ compact_text (list_value (map (flight_object airport) flights))
     → a4 ≡ (a3 ++ codes ",\"line\":") ++ decimal line
     → a5 ≡ a4 ++ codes ",\"reply\":\"timetable\""
-    → a6 ≡ ((a5 ++ codes ",\"words\":") ++ w) ++ (125 ∷ [])
-    → (text : List ℕ) → w ≡ words_text text → a6 ≡ old ++ compact_text (command_object airport command line text (Timetable flights))
-timetable-written airport command line flights w old a1 a2 a3 a4 a5 a6 p1 p2 p3 p4 p5 p6 text is = rw (p6, p5, p4, p3, p2, p1, is) (timetable-text airport command line text old flights)
+    → a6 ≡ ((a5 ++ codes ",\"words\":") ++ words_text text) ++ (125 ∷ [])
+    → a6 ≡ old ++ compact_text (command_object airport command line text (Timetable flights))
+timetable-written airport command line text flights old a1 a2 a3 a4 a5 a6 p1 p2 p3 p4 p5 p6 = rw (p6, p5, p4, p3, p2, p1) (timetable-text airport command line text old flights)
 
-pub batch-written : (airport : Airport) (command line : ℕ) (total : ℕ) (entries : List (List ℕ × Entry)) (w old a1 a2 a3 a4 a5 a6 a7 : List ℕ)
+pub batch-written : (airport : Airport) (command line : ℕ) (text : List ℕ) (total : ℕ) (entries : List (List ℕ × Entry)) (old a1 a2 a3 a4 a5 a6 a7 : List ℕ)
     → a1 ≡ (old ++ codes "{\"command\":") ++ decimal command
     → a2 ≡ a1 ++ codes ",\"entries\":"
     → a3 ≡ a2 ++ compact_text (list_value (map (entry_object airport) entries))
     → a4 ≡ (a3 ++ codes ",\"line\":") ++ decimal line
     → a5 ≡ a4 ++ codes ",\"reply\":\"batch\",\"total\":"
     → a6 ≡ a5 ++ decimal total
-    → a7 ≡ ((a6 ++ codes ",\"words\":") ++ w) ++ (125 ∷ [])
-    → (text : List ℕ) → w ≡ words_text text → a7 ≡ old ++ compact_text (command_object airport command line text (Batch total entries))
-batch-written airport command line total entries w old a1 a2 a3 a4 a5 a6 a7 p1 p2 p3 p4 p5 p6 p7 text is = rw (p7, p6, p5, p4, p3, p2, p1, is) (batch-text airport command line text old total entries)
+    → a7 ≡ ((a6 ++ codes ",\"words\":") ++ words_text text) ++ (125 ∷ [])
+    → a7 ≡ old ++ compact_text (command_object airport command line text (Batch total entries))
+batch-written airport command line text total entries old a1 a2 a3 a4 a5 a6 a7 p1 p2 p3 p4 p5 p6 p7 = rw (p7, p6, p5, p4, p3, p2, p1) (batch-text airport command line text old total entries)
 
 pub entry_route-written : (airport : Airport) (name : List ℕ) (second : ℕ) (steps : List Step) (labels : List LabelRow) (old a1 a2 a3 a4 a5 : List ℕ)
     → a1 ≡ (old ++ codes "{\"flight\":") ++ quoted name
@@ -312,7 +312,7 @@ late-text : (airport : Airport) (command line : ℕ) (text old flight : List ℕ
 unfolding serde_json_on_literals
 late-text airport command line text old flight entries = in_a_row-after old (codes "{\"command\":" ∷ decimal command ∷ codes ",\"entries\":" ∷ compact_text (list_value (map (entry_object airport) entries)) ∷ codes ",\"flight\":" ∷ quoted flight ∷ codes ",\"line\":" ∷ decimal line ∷ codes ",\"reply\":\"late\"" ∷ codes ",\"words\":" ∷ words_text text ∷ (125 ∷ []) ∷ [])
 
-pub late-written : (airport : Airport) (command line : ℕ) (flight : List ℕ) (entries : List (List ℕ × Entry)) (w old a1 a2 a3 a4 a5 a6 a7 a8 : List ℕ)
+pub late-written : (airport : Airport) (command line : ℕ) (text : List ℕ) (flight : List ℕ) (entries : List (List ℕ × Entry)) (old a1 a2 a3 a4 a5 a6 a7 a8 : List ℕ)
     → a1 ≡ (old ++ codes "{\"command\":") ++ decimal command
     → a2 ≡ a1 ++ codes ",\"entries\":"
     → a3 ≡ a2 ++ compact_text (list_value (map (entry_object airport) entries))
@@ -320,7 +320,7 @@ pub late-written : (airport : Airport) (command line : ℕ) (flight : List ℕ) 
     → a5 ≡ a4 ++ quoted flight
     → a6 ≡ (a5 ++ codes ",\"line\":") ++ decimal line
     → a7 ≡ a6 ++ codes ",\"reply\":\"late\""
-    → a8 ≡ ((a7 ++ codes ",\"words\":") ++ w) ++ (125 ∷ [])
-    → (text : List ℕ) → w ≡ words_text text → a8 ≡ old ++ compact_text (command_object airport command line text (Late flight entries))
-late-written airport command line flight entries w old a1 a2 a3 a4 a5 a6 a7 a8 p1 p2 p3 p4 p5 p6 p7 p8 text is =
-    rw (p8, p7, p6, p5, p4, p3, p2, p1, is) (late-text airport command line text old flight entries)
+    → a8 ≡ ((a7 ++ codes ",\"words\":") ++ words_text text) ++ (125 ∷ [])
+    → a8 ≡ old ++ compact_text (command_object airport command line text (Late flight entries))
+late-written airport command line text flight entries old a1 a2 a3 a4 a5 a6 a7 a8 p1 p2 p3 p4 p5 p6 p7 p8 =
+    rw (p8, p7, p6, p5, p4, p3, p2, p1) (late-text airport command line text old flight entries)

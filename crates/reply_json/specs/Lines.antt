@@ -1,9 +1,8 @@
 -- What is written of a command and its reply, and last of all?
-use Rattle.std.specs.Prelude.{◌≡◌, ℕ, List, [], ◌∷◌, ◌++◌, codes, decimal, map, ⊤}
+use Rattle.std.specs.Prelude.{◌≡◌, ℕ, List, [], ◌∷◌, ◌++◌, codes, decimal, map}
 use Rattle.taxi_base.specs.Airport.{Airport}
 use Rattle.taxi_text.specs.Words.{words_of}
 use Rattle.replies.specs.declared.block.Block.{Block}
-use Rattle.replies.specs.declared.block.Block.TheVariants.{Refused}
 use Rattle.serde_json.specs.Data.{Data}
 use Rattle.serde_json.specs.Written.{compact_text}
 use Rattle.reply_json.specs.Values.{text_value, number_value, list_value, object_value}
@@ -15,16 +14,6 @@ abbrev pub command_object : Airport → (command line : ℕ) → List ℕ → Bl
 command_object airport command line text block =
     object_value ((codes "command", number_value command) ∷ (codes "line", number_value line) ∷ (codes "words", list_value (map text_value (words_of text)))
     ∷ reply_members airport block)
-
--- The text of such an object is added, for every line whose words have this text as a list. No public clause cites this.
-abbrev pub IsObjectAt : Airport → (command line : ℕ) → List ℕ → Block → List ℕ → List ℕ → Type 0
-IsObjectAt airport command line words block old new =
-    (text : List ℕ) → words ≡ compact_text (list_value (map text_value (words_of text))) → new ≡ old ++ compact_text (command_object airport command line text block)
-
--- the block is no refusal
-abbrev pub IsNoRefusal : Block → Type 0
-IsNoRefusal (Refused why) = ⊥
-IsNoRefusal block = ⊤
 
 -- its line: the value's text with no space
 unfoldable pub object_line : Airport → (command line : ℕ) → List ℕ → Block → List ℕ

@@ -1,5 +1,6 @@
--- Which text of a block does an object give, and which transcript do the objects of a run?
-use Rattle.std.specs.Prelude.{◌≡◌, ℕ, List, [], ◌∷◌, ◌++◌, length, map, flat_map, codes, decimal, bytes_eq, Option, Some, ⊤, if◌then◌else◌}
+-- Which line does an object give again, and which text of a block? Which transcript do the objects of a run give?
+use Rattle.std.specs.Prelude.{◌≡◌, ℕ, List, [], ◌∷◌, ◌++◌, length, map, flat_map, chars, codes, decimal, bytes_eq, Option, Some, ⊤, if◌then◌else◌}
+use Rattle.std.specs.List.{join_with_byte}
 use Rattle.taxi_base.specs.Airport.{Airport}
 use Rattle.replies.specs.declared.block.Block.{Block}
 use Rattle.replies.specs.Texts.{lines_text}
@@ -44,7 +45,18 @@ count_at key shown = decimal (length (values_at key shown))
 abbrev pub rows_at : (list word : List ℕ) → List (List ℕ) → Data → List Words
 rows_at list word keys shown = map (λ row. word ∷ words_at keys row) (values_at list shown)
 
--- ---- lines
+-- ---- the line of a command
+
+-- the bytes of a string: each of its characters has the number of a byte
+abbrev pub bytes_in : Data → List ℕ
+bytes_in (string text) = chars text
+bytes_in _ = []
+
+-- The line of the command that an object tells of: the bytes of its words, joined by single blanks.
+unfoldable pub command_line_of : Data → List ℕ
+command_line_of shown = join_with_byte 32 (map bytes_in (values_at (codes "words") shown))
+
+-- ---- the lines of a block
 
 abbrev pub labels_at : Data → List Words
 labels_at shown = rows_at (codes "labels") (codes "label") (codes "arc" ∷ codes "from" ∷ codes "until" ∷ codes "value" ∷ []) shown

@@ -1,5 +1,5 @@
 //! What an object gives again, as laws of the definitions. The functions do nothing: their clauses are the laws.
-ghost use Rattle.std.specs.Prelude.{◌≡◌, ℕ, List, All};
+ghost use Rattle.std.specs.Prelude.{◌≡◌, ◌<◌, ℕ, List, All};
 ghost use Rattle.std.specs.List.{join_with_byte};
 ghost use Rattle.taxi_base.specs.Airport.{Airport, IsWellFormed};
 ghost use Rattle.taxi_text.specs.Words.{words_of};
@@ -9,11 +9,17 @@ ghost use Rattle.replies.specs.Texts.{block_text};
 ghost use Rattle.serde_json.specs.Data.{Data};
 ghost use Rattle.transcripts.specs.Runs.{transcript};
 ghost use Rattle.reply_json.specs.Lines.{command_object};
-ghost use Rattle.reply_json.specs.Reading.{TellOf, block_text_of, transcript_of};
+ghost use Rattle.reply_json.specs.Reading.{TellOf, command_line_of, block_text_of, transcript_of};
 
 /// The words of a line, joined by single blanks, are the line.
 pub fn words_give_the_line()
     ensures { (line : List ℕ) → join_with_byte 32 (words_of line) ≡ line }
+{}
+
+/// The object of a command gives its line, whatever bytes that has.
+pub fn objects_give_the_line()
+    ensures { (airport : Airport) (block : Block) (command line : ℕ) (text : List ℕ) → All (λ byte. byte < 256) text
+        → command_line_of (command_object airport command line text block) ≡ text }
 {}
 
 /// The object of a command gives the text of the block that answers it, by its members alone. The objects of a run give its transcript.

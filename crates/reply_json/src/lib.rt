@@ -6,8 +6,8 @@ mod laws;
 mod line;
 mod lists;
 mod members;
+mod numbered;
 mod pieces;
-mod place;
 mod refusals;
 mod reports;
 mod routes;
@@ -15,5 +15,5 @@ mod rows;
 mod short_replies;
 mod words;
 
-pub use laws::{objects_give_the_transcript, words_give_the_line};
+pub use laws::{objects_give_the_line, objects_give_the_transcript, words_give_the_line};
 pub use line::{done_line, write_object_line};

@@ -1,5 +1,5 @@
 //! What is told of a refusal.
-ghost use Rattle.std.specs.Prelude.{◌≡◌, ◌∷◌, [], codes, string_bytes, IfOk, OnOk};
+ghost use Rattle.std.specs.Prelude.{◌≡◌, ◌∷◌, [], ◌++◌, codes, string_bytes, IfOk, OnOk};
 ghost use Rattle.taxi_base.specs.Airport.{Airport as Plain};
 ghost use Rattle.replies.specs.declared.block.Block.TheVariants.{Refused};
 ghost use Rattle.serde_json.specs.View.{view, members_view};
@@ -9,38 +9,39 @@ ghost use Rattle.reply_json.specs.Replies.{why_member, cause_members, refusal_me
 ghost use Rattle.reply_json.specs.Lines.{command_object};
 
 use crate::members::{Members, put_number, put_text, put_value, put_word};
+use crate::numbered::Numbered;
 use crate::words::words_value;
 use serde_json::{Map, Value};
 use std::alloc::Global;
 use taxi_base::{Memory, Refusal, StepCause, StepFault, Time};
+use taxi_text::push_bytes;
 
-/// The text of the object of a refusal.
-pub(crate) fn refused_text(
-    alloc: Global,
-    command: u64,
-    number: u64,
-    line: &[u8],
+/// Writes the object of a refusal at the end.
+pub(crate) fn write_refused(
+    command: &Numbered,
     why: &Refusal,
-) -> Result<String, Memory>
-    ensures { (airport : Plain) → IfOk result (λ text. string_bytes text ≡ compact_text (command_object airport command number line.now (Refused why.now))) }
+    out: &mut Vec<u8>,
+) -> Result<(), Memory>
+    ensures { (airport : Plain) → OnOk result (out.new.items ≡ out.old.items ++ compact_text (command_object airport command.now.command command.now.line command.now.text.now (Refused why.now))) }
 {
-    let value = refused_value(alloc, command, number, line, why)?;
+    let text = refused_text(*out.allocator(), command, why)?;
+    push_bytes(out, text.as_bytes())
+}
+
+fn refused_text(alloc: Global, command: &Numbered, why: &Refusal) -> Result<String, Memory>
+    ensures { (airport : Plain) → IfOk result (λ text. string_bytes text ≡ compact_text (command_object airport command.now.command command.now.line command.now.text.now (Refused why.now))) }
+{
+    let value = refused_value(alloc, command, why)?;
     Ok(value.to_string(alloc)?)
 }
 
-fn refused_value(
-    alloc: Global,
-    command: u64,
-    number: u64,
-    line: &[u8],
-    why: &Refusal,
-) -> Result<Value, Memory>
-    ensures { (airport : Plain) → IfOk result (λ value. view value ≡ command_object airport command number line.now (Refused why.now)) }
+fn refused_value(alloc: Global, command: &Numbered, why: &Refusal) -> Result<Value, Memory>
+    ensures { (airport : Plain) → IfOk result (λ value. view value ≡ command_object airport command.now.command command.now.line command.now.text.now (Refused why.now)) }
 {
-    let words = words_value(alloc, line)?;
+    let words = words_value(alloc, command.text)?;
     let mut members = Map::new(alloc);
-    put_number(&mut members, alloc, "command", command)?;
-    put_number(&mut members, alloc, "line", number)?;
+    put_number(&mut members, alloc, "command", command.command)?;
+    put_number(&mut members, alloc, "line", command.line)?;
     put_value(&mut members, alloc, "words", words)?;
     put_word(&mut members, alloc, "reply", "refused")?;
     put_refusal(&mut members, alloc, why)?;

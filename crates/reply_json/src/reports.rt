@@ -1,15 +1,15 @@
 //! Reports, and what is told of several flights.
-ghost use Rattle.std.specs.Prelude.{◌≡◌, ◌++◌, codes, string_bytes, All, OnOk};
+ghost use Rattle.std.specs.Prelude.{◌≡◌, ◌++◌, codes, All, OnOk};
 ghost use Rattle.airport_file.specs.Words.{segment_word};
 ghost use Rattle.replies.specs.Printable.{HasSegment, IsPrintableWindow, IsPrintableHeld, IsPrintableFlight, IsPrintableEntry};
 ghost use Rattle.replies.specs.declared.block.Block.TheVariants.{Windows, Occupancy, Timetable, Batch, Late};
 ghost use Rattle.serde_json.specs.Written.{compact_text};
 ghost use Rattle.reply_json.specs.Values.{text_value};
-ghost use Rattle.reply_json.specs.Lines.{IsObjectAt};
+ghost use Rattle.reply_json.specs.Lines.{command_object};
 
 use crate::lists::write_rows;
+use crate::numbered::{Numbered, write_command, write_line, write_words};
 use crate::pieces::{quoted_name, quoted_segment};
-use crate::place::{Place, write_command, write_line, write_words};
 use airport_file::Airport;
 use replies::Entry;
 use taxi_base::{FlightRow, HeldRow, Memory, Name, Segment, Span};
@@ -18,43 +18,43 @@ use taxi_text::{push_bytes, push_number};
 /// Writes the object of the windows of a segment at the end.
 pub(crate) fn write_windows(
     airport: &Airport,
-    place: &Place,
+    command: &Numbered,
     segment: Segment,
     windows: &[Span],
     out: &mut Vec<u8>,
 ) -> Result<(), Memory>
     requires segment { HasSegment airport.now segment }
     requires windows { All IsPrintableWindow windows.now }
-    ensures { OnOk result (IsObjectAt airport.now place.now.command place.now.line (string_bytes place.now.words) (Windows segment windows.now) out.old.items out.new.items) }
+    ensures { OnOk result (out.new.items ≡ out.old.items ++ compact_text (command_object airport.now command.now.command command.now.line command.now.text.now (Windows segment windows.now))) }
 {
-    write_command(place, out)?;
-    write_line(place, out)?;
+    write_command(command, out)?;
+    write_line(command, out)?;
     push_bytes(out, b",\"reply\":\"windows\"")?;
     write_segment(airport, segment, out)?;
     push_bytes(out, b",\"windows\":")?;
     write_rows(airport, windows, out)?;
-    write_words(place, out)
+    write_words(command, out)
 }
 
 /// Writes the object of what is held of a segment at the end.
 pub(crate) fn write_occupancy(
     airport: &Airport,
-    place: &Place,
+    command: &Numbered,
     segment: Segment,
     held: &[HeldRow],
     out: &mut Vec<u8>,
 ) -> Result<(), Memory>
     requires segment { HasSegment airport.now segment }
     requires held { All (IsPrintableHeld airport.now) held.now }
-    ensures { OnOk result (IsObjectAt airport.now place.now.command place.now.line (string_bytes place.now.words) (Occupancy segment held.now) out.old.items out.new.items) }
+    ensures { OnOk result (out.new.items ≡ out.old.items ++ compact_text (command_object airport.now command.now.command command.now.line command.now.text.now (Occupancy segment held.now))) }
 {
-    write_command(place, out)?;
+    write_command(command, out)?;
     push_bytes(out, b",\"held\":")?;
     write_rows(airport, held, out)?;
-    write_line(place, out)?;
+    write_line(command, out)?;
     push_bytes(out, b",\"reply\":\"occupancy\"")?;
     write_segment(airport, segment, out)?;
-    write_words(place, out)
+    write_words(command, out)
 }
 
 fn write_segment(airport: &Airport, segment: Segment, out: &mut Vec<u8>) -> Result<(), Memory>
@@ -69,59 +69,59 @@ fn write_segment(airport: &Airport, segment: Segment, out: &mut Vec<u8>) -> Resu
 /// Writes the object of the flights in force at the end.
 pub(crate) fn write_timetable(
     airport: &Airport,
-    place: &Place,
+    command: &Numbered,
     flights: &[FlightRow],
     out: &mut Vec<u8>,
 ) -> Result<(), Memory>
     requires { All (IsPrintableFlight airport.now) flights.now }
-    ensures { OnOk result (IsObjectAt airport.now place.now.command place.now.line (string_bytes place.now.words) (Timetable flights.now) out.old.items out.new.items) }
+    ensures { OnOk result (out.new.items ≡ out.old.items ++ compact_text (command_object airport.now command.now.command command.now.line command.now.text.now (Timetable flights.now))) }
 {
-    write_command(place, out)?;
+    write_command(command, out)?;
     push_bytes(out, b",\"flights\":")?;
     write_rows(airport, flights, out)?;
-    write_line(place, out)?;
+    write_line(command, out)?;
     push_bytes(out, b",\"reply\":\"timetable\"")?;
-    write_words(place, out)
+    write_words(command, out)
 }
 
 /// Writes the object of a batch at the end.
 pub(crate) fn write_batch(
     airport: &Airport,
-    place: &Place,
+    command: &Numbered,
     total: u32,
     entries: &[(Name, Entry)],
     out: &mut Vec<u8>,
 ) -> Result<(), Memory>
     requires { All (IsPrintableEntry airport.now) entries.now }
-    ensures { OnOk result (IsObjectAt airport.now place.now.command place.now.line (string_bytes place.now.words) (Batch total entries.now) out.old.items out.new.items) }
+    ensures { OnOk result (out.new.items ≡ out.old.items ++ compact_text (command_object airport.now command.now.command command.now.line command.now.text.now (Batch total entries.now))) }
 {
-    write_command(place, out)?;
+    write_command(command, out)?;
     push_bytes(out, b",\"entries\":")?;
     write_rows(airport, entries, out)?;
-    write_line(place, out)?;
+    write_line(command, out)?;
     push_bytes(out, b",\"reply\":\"batch\",\"total\":")?;
     push_number(out, u64::from(total))?;
-    write_words(place, out)
+    write_words(command, out)
 }
 
 /// Writes the object of a late flight at the end.
 pub(crate) fn write_late(
     airport: &Airport,
-    place: &Place,
+    command: &Numbered,
     flight: &Name,
     entries: &[(Name, Entry)],
     out: &mut Vec<u8>,
 ) -> Result<(), Memory>
     requires { All (IsPrintableEntry airport.now) entries.now }
-    ensures { OnOk result (IsObjectAt airport.now place.now.command place.now.line (string_bytes place.now.words) (Late flight.now entries.now) out.old.items out.new.items) }
+    ensures { OnOk result (out.new.items ≡ out.old.items ++ compact_text (command_object airport.now command.now.command command.now.line command.now.text.now (Late flight.now entries.now))) }
 {
     let name = quoted_name(flight);
-    write_command(place, out)?;
+    write_command(command, out)?;
     push_bytes(out, b",\"entries\":")?;
     write_rows(airport, entries, out)?;
     push_bytes(out, b",\"flight\":")?;
     push_bytes(out, name.bytes())?;
-    write_line(place, out)?;
+    write_line(command, out)?;
     push_bytes(out, b",\"reply\":\"late\"")?;
-    write_words(place, out)
+    write_words(command, out)
 }

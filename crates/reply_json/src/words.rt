@@ -10,20 +10,20 @@ use std::alloc::Global;
 use taxi_base::Memory;
 use taxi_text::words;
 
-/// The text of the list of a line's pieces between its blanks.
-pub(crate) fn words_text(alloc: Global, line: &[u8]) -> Result<String, Memory>
-    ensures { IfOk result (λ text. string_bytes text ≡ compact_text (list_value (map text_value (words_of line.now)))) }
+/// The list of the pieces between the blanks of a line's text, as it is written.
+pub(crate) fn words_text(alloc: Global, text: &[u8]) -> Result<String, Memory>
+    ensures { IfOk result (λ list. string_bytes list ≡ compact_text (list_value (map text_value (words_of text.now)))) }
 {
-    let value = words_value(alloc, line)?;
+    let value = words_value(alloc, text)?;
     Ok(value.to_string(alloc)?)
 }
 
 /// The pieces as strings.
-pub(crate) fn words_value(alloc: Global, line: &[u8]) -> Result<Value, Memory>
-    ensures { IfOk result (λ value. view value ≡ list_value (map text_value (words_of line.now))) }
+pub(crate) fn words_value(alloc: Global, text: &[u8]) -> Result<Value, Memory>
+    ensures { IfOk result (λ value. view value ≡ list_value (map text_value (words_of text.now))) }
 {
     let mut values = Vec::new(alloc);
-    for word in words(line) {
+    for word in words(text) {
         values.push(text_value(alloc, word)?)?;
     }
     Ok(Value::from(values))

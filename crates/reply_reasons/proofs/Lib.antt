@@ -9,3 +9,8 @@ pub mod StepTold
 pub mod WaitLaws
 pub mod AgainLaws
 pub mod WholeLaws
+pub mod ToldLaws
+pub mod HeldSeconds
+pub mod HeldAhead
+pub mod HeldBehind
+pub mod NamedLaws

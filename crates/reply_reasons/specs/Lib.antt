@@ -4,4 +4,6 @@ pub mod InTheWay
 pub mod Waits
 pub mod Taken
 pub mod Explained
+pub mod Told
+pub mod Named
 pub mod Text

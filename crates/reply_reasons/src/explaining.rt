@@ -24,23 +24,9 @@ use std::alloc::Global;
 use taxi_base::{List, Memory, Request, Step, Time, begin_of, end_of};
 use taxi_text::{Command, CommandRefused, read_command};
 
-/// What explains the reply to a line that is given to the holders in force. The only error is that memory ran out.
+/// What explains the reply to a line that is given to the holders in force. The ledger is used up: which holders it has afterwards is not
+/// said. The only error is that memory ran out.
 pub fn explain(
-    alloc: Global,
-    airport: &Airport,
-    mut ledger: Ledger,
-    line: &[u8],
-) -> Result<List<Reason>, Memory>
-    requires fits { Fits airport.now ledger }
-    requires unlifted { ledger.lifted ≡ None }
-    requires sound { IsSound airport.now ledger.state }
-    ensures { IfOk result (λ reasons. IsExplained airport.now ledger.state line.now reasons) }
-{
-    explain_line(alloc, airport, &mut ledger, line)
-}
-
-// The same over a ledger that is lent, so that it is let go in one place.
-fn explain_line(
     alloc: Global,
     airport: &Airport,
     ledger: &mut Ledger,

@@ -17,6 +17,8 @@ mod waits;
 
 pub use asking::{Asking, Way};
 pub use explaining::explain;
-pub use laws::no_holder_is_worth_more_than_all;
+pub use laws::{
+    answers_are_those_of_replies, no_holder_is_worth_more_than_all, waits_name_holders,
+};
 pub use reason::Reason;
 pub use text::write_reasons;

@@ -5,11 +5,10 @@ ghost use Rattle.reply_reasons.specs.Text.{second_word, holder_words, reason_wor
 
 use crate::reason::Reason;
 use airport_file::Airport;
-use airport_words::{arc_text, segment_text};
-use itoa::Buffer;
+use airport_words::{arc_text, push_word, segment_text};
 use std::alloc::Global;
 use taxi_base::{Memory, Name, Time};
-use taxi_text::push_bytes;
+use taxi_text::{push_bytes, push_number};
 
 /// The text of the lines, one after the other. The only error is that memory ran out.
 #[tactic(auto, unfolding(crate::specs::Text::reasons_text))]
@@ -179,18 +178,10 @@ fn push_holder(out: &mut Vec<u8>, holder: &Option<Name>) -> Result<(), Memory>
     }
 }
 
-// A blank and one more word.
-fn push_word(out: &mut Vec<u8>, word: &[u8]) -> Result<(), Memory>
-    ensures { OnOk result (out.new.items ≡ and_word out.old.items word.now) }
-{
-    push_bytes(out, b" ")?;
-    push_bytes(out, word)
-}
-
 // A blank and a number.
 fn push_decimal(out: &mut Vec<u8>, number: u64) -> Result<(), Memory>
     ensures { OnOk result (out.new.items ≡ and_word out.old.items (decimal number)) }
 {
-    let mut digits = Buffer::new();
-    push_word(out, digits.format(number).as_bytes())
+    push_bytes(out, b" ")?;
+    push_number(out, number)
 }

@@ -5,3 +5,5 @@ mod RowOrder
 mod BusyLaws
 mod TextLaws
 mod SumLaws
+mod OneText
+mod Orderly

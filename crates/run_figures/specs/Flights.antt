@@ -49,6 +49,21 @@ sums_of airport flights = record {
 abbrev pub waits_of : Airport → Flight → ℕ
 waits_of airport flight = sum_by (λ step. step.leave - step.enter - least_for airport flight step) flight.steps
 
+-- a walk begins no earlier, or ends no later, than was asked for
+abbrev pub IsInTime : Request → List Step → Type 0
+IsInTime Filed steps = ⊤
+IsInTime (Arrival from to time hold) steps = time ≤ begin_of steps
+IsInTime (Departure from to time queue) steps = end_of steps ≤ time
+
+-- What is known of each flight in force: it has a step, ends within a week and no earlier than it begins, takes no less than its class's least
+-- seconds, and is in time.
+pub record IsOrderly (airport : Airport) (flight : Flight) : Type 0 where
+  pub some : 0 < length flight.steps
+  pub ordered : begin_of flight.steps ≤ end_of flight.steps
+  pub near : end_of flight.steps ≤ 604800
+  pub lasts : least_by airport flight ≤ taxied_by flight
+  pub in_time : IsInTime flight.request flight.steps
+
 -- ---- for private clauses
 
 abbrev pub with_flight : Airport → Sums → Flight → Sums
@@ -58,20 +73,6 @@ with_flight airport sums flight = record {
   least = sums.least + least_by airport flight;
   shifted = sums.shifted + shifted_by flight.request flight.steps;
 }
-
--- a walk begins no earlier, or ends no later, than was asked for
-abbrev pub IsInTime : Request → List Step → Type 0
-IsInTime Filed steps = ⊤
-IsInTime (Arrival from to time hold) steps = time ≤ begin_of steps
-IsInTime (Departure from to time queue) steps = end_of steps ≤ time
-
--- what is known of each flight in force
-pub record IsOrderly (airport : Airport) (flight : Flight) : Type 0 where
-  pub some : 0 < length flight.steps
-  pub ordered : begin_of flight.steps ≤ end_of flight.steps
-  pub near : end_of flight.steps ≤ 604800
-  pub lasts : least_by airport flight ≤ taxied_by flight
-  pub in_time : IsInTime flight.request flight.steps
 
 -- sums over so many flights at most, of which no number has more than 32 bits
 pub record AreSmall (flights : ℕ) (sums : Sums) : Type 0 where

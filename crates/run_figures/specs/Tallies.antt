@@ -1,15 +1,7 @@
--- How are counts kept? No public clause but that of a reply's text cites this file.
-use Rattle.std.specs.Prelude.{ℕ, ◌≡◌, ◌+◌, Bool, ◌||◌, List, bytes_eq, codes, if◌then◌else◌}
-use Rattle.taxi_base.specs.Airport.{Airport}
-use Rattle.replies.specs.declared.block.Block.{Block}
-use Rattle.replies.specs.Texts.{block_text}
-use Rattle.replies.specs.Printable.{IsPrintable}
+-- How are counts kept? No public clause cites this file.
+use Rattle.std.specs.Prelude.{ℕ, ◌+◌, Bool, ◌||◌, List, bytes_eq, codes, if◌then◌else◌}
 use Rattle.run_figures.specs.declared.counting.Count.{Count}
 use Rattle.run_figures.specs.Counts.{count_of}
-
--- bytes are the text of a block that has one in the grammar
-abbrev pub IsReplyText : Airport → List ℕ → Type 0
-IsReplyText airport text = (block : Block) × IsPrintable airport block × (text ≡ block_text airport block)
 
 -- a kind that did not come yet
 abbrev pub none_yet : List ℕ → Count

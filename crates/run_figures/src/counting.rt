@@ -8,12 +8,13 @@ ghost use Rattle.replies.specs.declared.block.Block.{Block as PlainBlock};
 ghost use Rattle.replies.specs.declared.entries.Entry.{Entry as PlainEntry};
 ghost use Rattle.replies.specs.Texts.{block_text};
 ghost use Rattle.replies.specs.Printable.{IsPrintable};
+ghost use Rattle.block_reader.specs.Read.{IsBlockText};
 ghost use Rattle.run_figures.specs.Counts.{AreCounts, entry_word, entry_kinds, refusals_of, entries_of, tallied, refusal_word, refusal_kinds};
-ghost use Rattle.run_figures.specs.Tallies.{with_one, none_yet, tells_more, IsReplyText};
+ghost use Rattle.run_figures.specs.Tallies.{with_one, none_yet, tells_more};
 
 use crate::words::{entry_word, first_word, refusal_word};
 use airport_file::Airport;
-use block_reader::{BlockRefused, read_block};
+use block_reader::read_back;
 use replies::{Block, Entry};
 use std::alloc::Global;
 use taxi_base::{Memory, Name};
@@ -59,7 +60,7 @@ impl ReplyCounts {
 
     /// Counts one more reply, by its text. The only error is that memory ran out; the counts are then of no use.
     pub fn add(&mut self, alloc: Global, airport: &Airport, reply: &[u8]) -> Result<(), Memory>
-        requires reply { IsReplyText airport.now reply.now }
+        requires reply { IsBlockText airport.now reply.now }
         requires few { (blocks : List PlainBlock) × AreCounts airport.now blocks self.old × (length blocks < 2 ^ 30) }
         ensures { (blocks : List PlainBlock) (block : PlainBlock) → AreCounts airport.now blocks self.old → IsPrintable airport.now block → reply.now ≡ block_text airport.now block → OnOk result (AreCounts airport.now (blocks ++ block ∷ []) self.new) }
     {
@@ -111,19 +112,17 @@ fn count_one(counts: &mut Vec<Count>, words: &[u8])
     ensures { counts.new.items ≡ map (with_one words.now) counts.old.items }
 {
     for place in 0..counts.len() {
-        counts[place] = with_one(&counts[place], words);
+        count_if_kind(&mut counts[place], words);
     }
 }
 
-// A count, and one more where it is of the kind with these words.
-fn with_one(count: &Count, words: &[u8]) -> Count
-    requires { count.now.number + 1 < 2 ^ 64 }
-    ensures { result ≡ with_one words.now count.now }
+// One more, if the kind is the one with these words.
+fn count_if_kind(count: &mut Count, words: &[u8])
+    requires { count.old.number + 1 < 2 ^ 64 }
+    ensures { count.new ≡ with_one words.now count.old }
 {
-    let more = if count.kind.bytes() == words { 1 } else { 0 };
-    Count {
-        kind: count.kind,
-        number: count.number + more,
+    if count.kind.bytes() == words {
+        count.number += 1;
     }
 }
 
@@ -142,16 +141,4 @@ fn tells_more(word: &[u8]) -> bool
     ensures { result ≡ tells_more word.now }
 {
     word == b"refused".as_slice() || word == b"batch".as_slice() || word == b"late".as_slice()
-}
-
-// The block whose text a reply is.
-fn read_back(alloc: Global, airport: &Airport, reply: &[u8]) -> Result<Block, Memory>
-    requires reply { IsReplyText airport.now reply.now }
-    ensures { (block : PlainBlock) → IsPrintable airport.now block → reply.now ≡ block_text airport.now block → IfOk result (λ read. read ≡ block) }
-{
-    match read_block(alloc, airport, reply) {
-        Ok((block, _)) => Ok(block),
-        Err(BlockRefused::Memory) => Err(Memory::told()),
-        Err(BlockRefused::NotABlock) => unreachable!(),
-    }
 }

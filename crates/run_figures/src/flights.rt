@@ -2,7 +2,7 @@
 ghost use Rattle.std.specs.Prelude.{◌≡◌, ◌+◌, ◌≤◌, ◌^◌, ℕ, filter};
 ghost use Rattle.taxi_base.specs.Airport.{IsWellFormed};
 ghost use Rattle.taxi_base.specs.State.{IsSound};
-ghost use Rattle.run_figures.specs.Flights.{is_same_kind, is_of, taxied_by, least_by, shifted_by, sums_of, with_flight, IsOrderly, AreSmall};
+ghost use Rattle.run_figures.specs.Flights.{is_of, taxied_by, least_by, shifted_by, sums_of, with_flight, IsOrderly, AreSmall};
 
 use airport_file::Airport;
 use commitments::Ledger;
@@ -44,18 +44,7 @@ pub(crate) fn sums_over(airport: &Airport, ledger: &Ledger, kind: FlightKind, cl
 fn is_of(flight: &Flight, kind: FlightKind, class: Class) -> bool
     ensures { result ≡ is_of kind class flight.now }
 {
-    is_same_kind(flight.request.kind(), kind) && flight.class.0 == class.0
-}
-
-fn is_same_kind(one: FlightKind, other: FlightKind) -> bool
-    ensures { result ≡ is_same_kind one other }
-{
-    match (one, other) {
-        (FlightKind::Filed, FlightKind::Filed) => true,
-        (FlightKind::Arrival, FlightKind::Arrival) => true,
-        (FlightKind::Departure, FlightKind::Departure) => true,
-        _ => false,
-    }
+    flight.request.kind() == kind && flight.class == class
 }
 
 // The sums with one more flight.

@@ -116,7 +116,3 @@ batch-done old new requests wishes known none (inl told) = inl (record {
   due = rw none (record { wishes = wishes; known = known; total = told.total; entries = told.entries; sequenced = told.sequenced; block_is = refl });
   done = told.done;
 })
-
--- one batch tells one list of entries
-pub same-entries : (total other : ℕ) (entries others : List (List ℕ × Entry)) → Batch total entries ≡ Batch other others → entries ≡ others
-same-entries total other entries others same = cc

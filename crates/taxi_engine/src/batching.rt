@@ -12,7 +12,6 @@ ghost use Rattle.replies.specs.Asked.{asked_in, IsAskedInGrammar};
 ghost use Rattle.replies.specs.Batches.{IsSequenced};
 ghost use Rattle.commitments.specs.Book.{Fits};
 ghost use Rattle.sequence_exchange.specs.Serving.{IsShortRequest, AreNew};
-ghost use Rattle.block_writer.specs.Printed.{IsWritable};
 ghost use Rattle.taxi_engine.specs.Done.{IsDoneOrMemory};
 ghost use Rattle.taxi_engine.specs.Batched.{IsSequencedTold};
 
@@ -22,7 +21,7 @@ use airport_file::Airport;
 use command_refusals::asked_batch;
 use commitments::Ledger;
 use place_cells::SearchRoom;
-use replies::{Block, Wish};
+use replies::Wish;
 use sequence_exchange::{sequence, undo};
 use std::alloc::Global;
 use taxi_base::{Memory, Refusal};
@@ -82,47 +81,9 @@ fn print_sequenced(
     // The airport keeps its rules, so what is due can be written.
     let _horizon = airport.horizon();
     let done = sequence(alloc, room, airport, ledger, wishes)?;
-    let block = Block::Batch {
-        total: done.total,
-        entries: done.entries,
-    };
-    print_batch(airport, ledger, reply, &block)
-}
-
-// Writes the block of a batch as the reply. Where memory runs out its flights are taken out of force again.
-fn print_batch(
-    airport: &Airport,
-    ledger: &mut Ledger,
-    reply: &mut ReplyText,
-    told: &Block,
-) -> Result<(), Memory>
-    requires fits { Fits airport.now ledger.old }
-    requires unlifted { ledger.old.lifted ≡ None }
-    requires writable { IsWritable airport.now told.now }
-    ensures text { OnOk result (reply.new ≡ block_text airport.now told.now) }
-    ensures kept { OnOk result (ledger.new.state ≡ ledger.old.state) }
-    ensures err { OnErr result ((before : State) (wishes : List WishSeen) (total : ℕ) (entries : List (List ℕ × Entry)) → told.now ≡ block.Batch total entries → AreNew before wishes → IsSequenced airport.now before wishes total entries ledger.old.state → ledger.new.state ≡ before) }
-    ensures unlifted { ledger.new.lifted ≡ None }
-    ensures fits { Fits airport.now ledger.new }
-{
-    match reply.print_lent(airport, told) {
-        Ok(()) => Ok(()),
-        Err(memory) => {
-            take_back(airport, ledger, told);
-            Err(memory)
-        }
+    let printed = reply.print_batch(airport, done.total, &done.entries);
+    if printed.is_err() {
+        undo(airport, ledger, &done.entries);
     }
-}
-
-// Takes the flights of a block out of force again.
-fn take_back(airport: &Airport, ledger: &mut Ledger, told: &Block)
-    requires fits { Fits airport.now ledger.old }
-    requires unlifted { ledger.old.lifted ≡ None }
-    ensures state { (before : State) (wishes : List WishSeen) (total : ℕ) (entries : List (List ℕ × Entry)) → told.now ≡ block.Batch total entries → AreNew before wishes → IsSequenced airport.now before wishes total entries ledger.old.state → ledger.new.state ≡ before }
-    ensures unlifted { ledger.new.lifted ≡ None }
-    ensures fits { Fits airport.now ledger.new }
-{
-    if let Block::Batch { entries, .. } = told {
-        undo(airport, ledger, entries);
-    }
+    printed
 }

@@ -3,7 +3,7 @@ ghost use Rattle.taxi_text.specs.declared.command.Command.TheVariants.{Cancel};
 ghost use Rattle.taxi_engine.specs.Done.{IsDoneAsDue};
 
 use crate::Engine;
-use crate::texts::cancelled_text;
+use block_writer::cancelled_text;
 use taxi_base::{Name, Refusal};
 
 impl Engine {
@@ -15,6 +15,6 @@ impl Engine {
             self.refuse(&Refusal::NotInForce);
             return;
         }
-        self.reply.set_short(cancelled_text(&self.airport, flight));
+        self.reply.set_short(cancelled_text(flight));
     }
 }

@@ -8,8 +8,8 @@ ghost use Rattle.taxi_engine.specs.Engine.{Answers};
 ghost use Rattle.taxi_engine.specs.Done.{IsDone, IsDoneOrMemory};
 
 use crate::reply::ReplyText;
-use crate::texts::refused_text;
 use airport_file::Airport;
+use block_writer::refused_text;
 use commitments::Ledger;
 use place_cells::SearchRoom;
 use std::alloc::Global;
@@ -165,7 +165,7 @@ impl Engine {
     pub(crate) fn refuse(&mut self, why: &Refusal)
         ensures { IsDone (refused self.old.state why.now) self.old self.new }
     {
-        self.reply.set_short(refused_text(&self.airport, why));
+        self.reply.set_short(refused_text(why));
     }
 }
 

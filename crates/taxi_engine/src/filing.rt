@@ -19,7 +19,7 @@ impl Engine {
     {
         match check_filed(self.alloc, &self.airport, &mut self.ledger, filed) {
             Ok(flight) => {
-                self.reply.set_short(filed_text(&self.airport, &flight));
+                self.reply.set_short(filed_text(&flight));
                 self.ledger.commit(&self.airport, flight);
             }
             Err(why) => self.refuse(&why),

@@ -1,13 +1,13 @@
 //! The text of a reply.
 ghost use Rattle.std.specs.Prelude.{◌≡◌, [], All, OnOk};
 ghost use Rattle.replies.specs.Texts.{block_text};
-ghost use Rattle.replies.specs.declared.block.Block.TheVariants.{Route};
+ghost use Rattle.replies.specs.declared.block.Block.TheVariants.{Route, Batch};
 ghost use Rattle.replies.specs.Printable.{HasArc};
-ghost use Rattle.block_writer.specs.Printed.{IsWritable};
+ghost use Rattle.block_writer.specs.Printed.{IsWritable, IsWritableEntry};
 
 use airport_file::Airport;
-use block_writer::{print_block, print_route};
-use replies::Block;
+use block_writer::{print_batch, print_block, print_route};
+use replies::{Block, Entries};
 use std::alloc::Global;
 use std::marker::Model;
 use taxi_base::{LabelRow, Memory, Name, Step, Time};
@@ -65,17 +65,24 @@ impl ReplyText {
         requires { IsWritable airport.now block }
         ensures { OnOk result (self.new ≡ block_text airport.now block) }
     {
-        self.print_lent(airport, &block)
+        self.is_long = true;
+        self.long.clear();
+        print_block(airport, &block, &mut self.long)
     }
 
-    /// The same of a block that is still of use.
-    pub fn print_lent(&mut self, airport: &Airport, block: &Block) -> Result<(), Memory>
-        requires { IsWritable airport.now block.now }
-        ensures { OnOk result (self.new ≡ block_text airport.now block.now) }
+    /// The text of a batch's block in place of what was there. Where memory runs out nothing is said of what stands there.
+    pub fn print_batch(
+        &mut self,
+        airport: &Airport,
+        total: u32,
+        entries: &Entries,
+    ) -> Result<(), Memory>
+        requires { All (IsWritableEntry airport.now) entries.now }
+        ensures { OnOk result (self.new ≡ block_text airport.now (Batch total entries.now)) }
     {
         self.is_long = true;
         self.long.clear();
-        print_block(airport, block, &mut self.long)
+        print_batch(airport, total, entries, &mut self.long)
     }
 
     /// The text of a route's block in place of what was there. Where memory runs out nothing is said of what stands there.

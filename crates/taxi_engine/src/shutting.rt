@@ -4,7 +4,8 @@ ghost use Rattle.replies.specs.Printable.{IsName};
 ghost use Rattle.taxi_engine.specs.Done.{IsDoneAsDue, IsDoneOrMemory};
 
 use crate::Engine;
-use crate::texts::{cancelled_text, shut_text};
+use crate::texts::shut_text;
+use block_writer::cancelled_text;
 use command_refusals::check_work;
 use taxi_base::{Name, Refusal};
 use taxi_text::Shut;
@@ -17,7 +18,7 @@ impl Engine {
     {
         match check_work(&self.airport, &mut self.ledger, shut) {
             Ok(party) => {
-                self.reply.set_short(shut_text(&self.airport, &party));
+                self.reply.set_short(shut_text(&party));
                 self.ledger.place(&self.airport, party);
             }
             Err(why) => self.refuse(&why),
@@ -32,7 +33,7 @@ impl Engine {
             self.refuse(&Refusal::NotInForce);
             return;
         }
-        self.reply.set_short(cancelled_text(&self.airport, name));
+        self.reply.set_short(cancelled_text(name));
         self.ledger.remove(&self.airport, name);
     }
 }

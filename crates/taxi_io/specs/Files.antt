@@ -52,3 +52,7 @@ abbrev pub TookFront : Option Files → List ℕ → Option (List ℕ) → ℕ �
 TookFront None name rest count = Unit {0}
 TookFront (Some files) name rest count =
     (bytes : List ℕ) × (file_of files name ≡ Some bytes) × (count ≤ length bytes) × (rest ≡ Some (drop count bytes))
+
+-- of the file of this name no more bytes were taken than the limit
+abbrev pub IsTakenWithin : Option Files → List ℕ → Option (List ℕ) → ℕ → Type 0
+IsTakenWithin told name rest limit = (count : ℕ) × (count ≤ limit) × TookFront told name rest count

@@ -1,8 +1,8 @@
 //! Reading a file whole, or a piece of one that is begun.
-ghost use Rattle.std.specs.Prelude.{◌≡◌, ◌≤◌, ◌<◌, ◌+◌, ◌++◌, ◌∷◌, [], ℕ, min, length, take, IfOk, OnOk, IsErrOf, IsTrue};
+ghost use Rattle.std.specs.Prelude.{◌≡◌, ◌≤◌, ◌<◌, ◌+◌, ◌++◌, ◌∷◌, ◌⊎◌, [], false, ℕ, min, length, take, IfOk, OnOk, IsErrOf, IsTrue};
 ghost use Rattle.std.specs.Io.KnownBytes.{IsAtEnd};
 ghost use Rattle.taxi_io.specs.Counts.{Rose};
-ghost use Rattle.taxi_io.specs.Files.{IsFile, IsLonger, SameNames, BeganMore, TookFront, Gave, IsAtEndOnly, GaveByte};
+ghost use Rattle.taxi_io.specs.Files.{IsFile, IsLonger, SameNames, BeganMore, TookFront, IsTakenWithin, Gave, IsAtEndOnly, GaveByte};
 
 use crate::shelf::Shelf;
 use crate::trouble::ReadRefused;
@@ -30,6 +30,8 @@ pub fn read_all<S: Shelf>(
     // One byte past the limit is read, and no more.
     ensures taken { IsErrOf result ReadRefused.TooLarge → TookFront (S.files shelf.old) name.now (S.rest shelf.new) (limit + 1) }
     ensures fault { IsErrOf result ReadRefused.Fault → Rose (S.faults shelf.old) (S.faults shelf.new) }
+    // So whoever has taken more than the limit answers that, and does not read on.
+    ensures short { IsErrOf result ReadRefused.Fault → (S.begun shelf.new ≡ false) ⊎ IsTakenWithin (S.files shelf.old) name.now (S.rest shelf.new) limit }
 
     ensures tried { BeganMore (S.tried shelf.old) (S.tried shelf.new) (name.now ∷ []) }
     ensures later { S.faults shelf.old ≤ S.faults shelf.new }

@@ -3,6 +3,7 @@
 
 mod calls;
 mod loose;
+mod why;
 
 ghost use Rattle.std.specs.Prelude.{◌≡◌, Option, length};
 ghost use types.Logic.{sem};
@@ -10,10 +11,11 @@ ghost use Rattle.taxi_engine.specs.Engine.{EngineState};
 ghost use Rattle.taxi_library.specs.Open.{holds, IsOpen, Lends};
 ghost use Rattle.taxi_library.specs.Calls.{IsMade, IsWhy, IsAnswer, IsCopied};
 
-use calls::{answered, copied, opened, told, why};
+use calls::{answered, copied, opened, told, why_refused};
 use loose::Loose;
 use std::alloc::Global;
 use taxi_engine::Engine;
+use why::Why;
 
 /// What C knows of an engine: its address. The byte is never read.
 #[repr(C)]
@@ -24,16 +26,16 @@ pub struct Rusboqan {
 /// The version of the library: 10,000 for each major one, 100 for each minor one, and the patch.
 #[unsafe(no_mangle)]
 pub extern "C" fn rusboqan_version() -> u32
-    ensures { result ≡ 10201 }
+    ensures { result ≡ 10202 }
 {
-    10201
+    10202
 }
 
 /// Opens an engine over the airport of a file's bytes, and writes its handle. False where the bytes are no airport, or
 /// memory runs out; then no handle is written.
 #[unsafe(no_mangle)]
 pub extern "C" fn rusboqan_open(alloc: Global, airport: &[u8], out: &mut *mut Rusboqan) -> bool
-    ensures* { ∃ₛ (λ (engine : Option EngineState). sem 𝓛 (IsOpen out.new engine) ∗ ⌜ IsMade airport.now result engine ⌝) }
+    ensures* { ∃ₛ (λ (engine : Option EngineState). sem 𝓛 (IsOpen out.new engine) ∗ ⌜ IsMade airport.now result out.old out.new engine ⌝) }
 {
     match opened(alloc, airport) {
         Some(engine) => {
@@ -48,9 +50,13 @@ pub extern "C" fn rusboqan_open(alloc: Global, airport: &[u8], out: &mut *mut Ru
 /// than 4,194,304; 0 where nothing is wrong with them, and 3 where memory runs out.
 #[unsafe(no_mangle)]
 pub extern "C" fn rusboqan_why(alloc: Global, airport: &[u8], at: &mut u32) -> u8
-    ensures { IsWhy airport.now result at.new }
+    ensures { IsWhy airport.now result at.old at.new }
 {
-    why(alloc, airport, at)
+    let why = why_refused(alloc, airport);
+    if let Why::Refused { at: record } = why {
+        *at = record;
+    }
+    why.number()
 }
 
 /// Answers the command of a line, and gives the length of the reply; 0 where the line holds no command.
@@ -76,12 +82,12 @@ pub unsafe extern "C" fn rusboqan_text(at: *mut Rusboqan, text: &mut *const u8) 
     reply.len()
 }
 
-/// Copies the text of the last reply, where it fits, and gives its length.
+/// Copies the text of the last reply, where it fits, and gives its length. Where it doesn't fit the room stays as it is.
 #[unsafe(no_mangle)]
 pub unsafe extern "C" fn rusboqan_reply(at: *mut Rusboqan, room: &mut [u8]) -> usize
     ghost held: { EngineState }
     requires* { sem 𝓛 (holds at held) }
-    ensures* { sem 𝓛 (holds at held) ∗ ⌜ IsCopied held.reply result room.new ⌝ }
+    ensures* { sem 𝓛 (holds at held) ∗ ⌜ IsCopied held.reply result room.old room.new ⌝ }
 {
     copied(&mut *(at as *mut Engine), room)
 }

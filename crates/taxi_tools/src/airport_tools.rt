@@ -27,23 +27,13 @@ pub(crate) fn output_of_airport<S: Shelf>(
     ensures later { S.faults shelf.old ≤ S.faults shelf.new }
 {
     let airport = read_airport_file(alloc, shelf, airport)?;
-    let output = airport_output(alloc, &airport, tool);
+    let text = airport_text(alloc, &airport, tool);
     drop(airport);
-    output
+    Ok(text?)
 }
 
-// The same of an airport that is lent. One call above ends it, since a body that ends an airport by itself is slow to prove.
-fn airport_output(alloc: Global, airport: &Airport, tool: AirportTool) -> Result<Vec<u8>, Stop>
-    ensures ok { IfOk result (λ text. IsAirportText airport.now tool text.items) }
-    ensures stop { IfErr result (λ stop. stop ≡ Stop.Memory) }
-{
-    match airport_text(alloc, airport, tool) {
-        Ok(text) => Ok(text),
-        Err(_) => Err(Stop::Memory),
-    }
-}
-
-// What a tool writes of an airport. The only error is that memory ran out.
+// What a tool writes of an airport. The only error is that memory ran out. One call above ends the airport, since a body that ends one by
+// itself is slow to prove.
 fn airport_text(alloc: Global, airport: &Airport, tool: AirportTool) -> Result<Vec<u8>, Memory>
     ensures { IfOk result (λ text. IsAirportText airport.now tool text.items) }
 {

@@ -1,13 +1,10 @@
 //! The verb `explain`.
-ghost use Rattle.std.specs.Prelude.{◌≡◌, ◌≤◌, ◌<◌, List, length, None, IfOk, IfErr, MatchOption, MatchResult};
+ghost use Rattle.std.specs.Prelude.{◌≡◌, ◌≤◌, ◌<◌, ℕ, List, length, None, IfOk, IfErr, MatchOption, MatchResult};
 ghost use Rattle.taxi_base.specs.State.{IsSound};
 ghost use Rattle.taxi_text.specs.FirstLines.{lent};
 ghost use Rattle.taxi_text.specs.Lines.{commands_of};
 ghost use Rattle.commitments.specs.Book.{Fits};
 ghost use Rattle.command_run.specs.Supplied.{IsRunBefore};
-ghost use Rattle.reply_reasons.specs.declared.reason.Reason.{Reason};
-ghost use Rattle.reply_reasons.specs.Explained.{IsExplained};
-ghost use Rattle.reply_reasons.specs.Text.{reasons_text};
 ghost use Rattle.program_words.specs.Verb.{Route};
 ghost use Rattle.program_files.specs.Inputs.{IsRunInOrder};
 ghost use Rattle.program_files.specs.LastLine.{EndsWith};
@@ -47,10 +44,7 @@ pub(crate) fn output_of_command<S: Shelf>(
     ensures later { S.faults shelf.old ≤ S.faults shelf.new }
 {
     let (airport, commands) = read_inputs(alloc, shelf, airport, commands)?;
-    let Ok(text) = explanation(alloc, airport, commands.as_slice(), number) else {
-        return Err(Stop::Memory);
-    };
-    Ok(text)
+    Ok(explanation(alloc, airport, commands.as_slice(), number)?)
 }
 
 /// Writes an explanation as one piece, or the line that says why there is none.
@@ -74,7 +68,7 @@ pub(crate) fn write_explanation<K: Sink>(
 }
 
 // Why the reply to one of some commands is as it is; none where there are fewer. The only error is that memory ran out, for a command before
-// it too. Calls end the engine's parts, since a body that ends them by itself is slow to prove.
+// it too. One call ends the engine's parts, since a body that ends them at several places is slow to prove.
 fn explanation(
     alloc: Global,
     airport: Airport,
@@ -88,38 +82,31 @@ fn explanation(
 {
     let mut engine = Engine::new(alloc, airport)?;
     let line = run_before(&mut engine, commands, number);
-    let (airport, ledger) = engine.into_parts();
-    match line {
-        Ok(Some(line)) => {
-            let text = text_of_line(alloc, &airport, ledger, line);
-            drop(airport);
-            Ok(Some(text?))
-        }
-        Ok(None) => {
-            drop((airport, ledger));
-            Ok(None)
-        }
-        Err(memory) => {
-            drop((airport, ledger));
-            Err(memory)
-        }
-    }
+    let (airport, mut ledger) = engine.into_parts();
+    let text = text_of_line(alloc, &airport, &mut ledger, line);
+    drop((airport, ledger));
+    text
 }
 
-// Why the reply to a line is as it is that is given to the holders in force.
+// Why the reply to the line before which a run ended is as it is, given to the holders that the run left in force; none where it ended before
+// no line.
 fn text_of_line(
     alloc: Global,
     airport: &Airport,
-    ledger: Ledger,
-    line: &[u8],
-) -> Result<Vec<u8>, Memory>
-    requires fits { Fits airport.now ledger }
-    requires unlifted { ledger.lifted ≡ None }
-    requires sound { IsSound airport.now ledger.state }
-    ensures { IfOk result (λ text. (reasons : List Reason) × IsExplained airport.now ledger.state line.now reasons × (text.items ≡ reasons_text airport.now reasons)) }
+    ledger: &mut Ledger,
+    line: Result<Option<&[u8]>, Memory>,
+) -> Result<Option<Vec<u8>>, Memory>
+    requires fits { Fits airport.now ledger.old }
+    requires unlifted { ledger.old.lifted ≡ None }
+    requires sound { IsSound airport.now ledger.old.state }
+    ensures { (commands : List (List ℕ)) (number : ℕ) → 0 < number → IfOk line.entry (λ next. IsRunBefore airport.now commands number (lent next) ledger.old.state) →
+        IfOk result (λ found. MatchOption found (length commands < number) (λ text. IsExplanation airport.now commands number text.items)) }
 {
+    let Some(line) = line? else {
+        return Ok(None);
+    };
     let reasons = explain(alloc, airport, ledger, line)?;
-    write_reasons(alloc, airport, reasons.as_slice())
+    Ok(Some(write_reasons(alloc, airport, reasons.as_slice())?))
 }
 
 // The line that says that there are fewer commands.

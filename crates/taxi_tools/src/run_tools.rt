@@ -34,10 +34,7 @@ pub(crate) fn output_of_run<S: Shelf>(
     ensures later { S.faults shelf.old ≤ S.faults shelf.new }
 {
     let (airport, commands) = read_inputs(alloc, shelf, airport, commands)?;
-    let Ok(text) = run_text(alloc, airport, commands.as_slice(), tool) else {
-        return Err(Stop::Memory);
-    };
-    Ok(text)
+    Ok(run_text(alloc, airport, commands.as_slice(), tool)?)
 }
 
 // What a tool writes of a run over commands at an airport. The only error is that memory ran out, for a command too. A call ends the

@@ -6,12 +6,13 @@ ghost use Rattle.taxi_text.specs.Lines.{commands_of};
 ghost use Rattle.transcript_check.specs.Verdicts.{IsBlockVerdict, IsVerdict};
 
 use crate::failure::Failure;
+use crate::not_passed::NotPassed;
 use airport_file::Airport;
-use block_reader::{BlockRefused, read_block};
+use block_reader::read_block;
 use std::alloc::Global;
 use taxi_base::Memory;
 use taxi_text::{lines, skipped};
-use transcripts::{BlockChecker, CheckRefused, done_line};
+use transcripts::{BlockChecker, done_line};
 
 /// What the check of a transcript finds.
 #[derive(Clone, Copy, Debug, Drop)]
@@ -42,14 +43,15 @@ pub fn check_transcript<C: BlockChecker>(
     let mut count: u64 = 0;
     for line in lines(commands) {
         if !skipped(line) {
-            match check_block(alloc, airport, checker, line, rest)? {
+            match check_block(alloc, airport, checker, line, rest) {
                 Ok(length) => rest = &rest[length..],
-                Err(why) => {
+                Err(NotPassed::Fails(why)) => {
                     return Ok(Verdict::Wrong {
                         number: count + 1,
                         why,
                     });
                 }
+                Err(NotPassed::Memory) => return Err(Memory::told()),
             }
             count += 1;
         }
@@ -63,26 +65,19 @@ pub fn check_transcript<C: BlockChecker>(
     })
 }
 
-// Reads the block that is due for a line, and has it checked: how many bytes its text has where it passes, and else why it fails.
+// Reads the block that is due for a line, and has it checked: how many bytes its text has.
 fn check_block<C: BlockChecker>(
     alloc: Global,
     airport: &Airport,
     checker: &mut C,
     line: &[u8],
     rest: &[u8],
-) -> Result<Result<usize, Failure>, Memory>
+) -> Result<usize, NotPassed>
     requires same { C.airport checker.old ≡ airport.now }
-    ensures verdict { IfOk result (IsBlockVerdict airport.now (C.state checker.old) line.now rest.now (C.state checker.new)) }
+    ensures verdict { IsBlockVerdict airport.now (C.state checker.old) line.now rest.now (C.state checker.new) result }
     ensures airport { C.airport checker.new ≡ airport.now }
 {
-    let (block, length) = match read_block(alloc, airport, rest) {
-        Ok(read) => read,
-        Err(BlockRefused::NotABlock) => return Ok(Err(Failure::Form)),
-        Err(BlockRefused::Memory) => return Err(Memory::told()),
-    };
-    match checker.check_next(line, block) {
-        Ok(()) => Ok(Ok(length)),
-        Err(CheckRefused::Wrong { rule }) => Ok(Err(Failure::Rule(rule))),
-        Err(CheckRefused::Memory) => Err(Memory::told()),
-    }
+    let (block, length) = read_block(alloc, airport, rest)?;
+    checker.check_next(line, block)?;
+    Ok(length)
 }

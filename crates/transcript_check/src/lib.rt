@@ -4,6 +4,7 @@
 mod checking;
 mod failure;
 mod laws;
+mod not_passed;
 
 pub use checking::{Verdict, check_transcript};
 pub use failure::Failure;

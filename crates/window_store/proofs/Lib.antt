@@ -7,6 +7,7 @@ pub mod Staying
 pub mod Pieces
 pub mod Runs
 pub mod Rooms
+pub mod Grown
 pub mod Fresh
 pub mod Wholes
 pub mod Rows

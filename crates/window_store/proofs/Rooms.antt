@@ -14,7 +14,7 @@ use Rattle.window_store.specs.Spans.{Listed, nodes}
 use Rattle.window_store.specs.Store.{Store, of_lists_and_ids, IsStore, no_list, ids_owned}
 use Rattle.window_store.specs.Kept.{GainsRoom}
 use Rattle.window_store.specs.Edits.{list_in}
-use Rattle.window_store.specs.Counts.{count_of, GainsNodes}
+use Rattle.window_store.specs.Counts.{count_of, IsRoomier, GainsNodes}
 
 -- how often an id is owned, once one list is another
 pub times-set : (id : ℕ) (lists : List Listed) (k : ℕ) (l : Listed) → k < length lists
@@ -44,15 +44,6 @@ times-drawn_once id from (suc count) =
 -- what is below a number is none above it
 none-above : (next id : ℕ) (xs : List ℕ) → All (λ x. x < next) xs → next ≤ id → times id xs ≡ 0
 none-above next id xs all high = times-below id xs (λ k d low. omega (arith, all k d low))
-
--- what making room does to a list
-pub record IsRoomier (wanted next more : ℕ) (old new : Listed) : Type 0 where
-  pub windows : new.intervals.windows ≡ old.intervals.windows
-  pub held : new.held ≡ old.held
-  pub spare : new.intervals.spare ≡ drawn next (more - next) ++ old.intervals.spare
-  pub count : more + nodes old ≡ next + nodes new
-  pub below : All (λ id. id < more) (owned new.intervals)
-  pub most : nodes new ≤ max wanted (nodes old)
 
 length-drawn : (from count : ℕ) → length (drawn from count) ≡ count
 length-drawn from zero = refl

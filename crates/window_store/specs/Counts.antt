@@ -1,7 +1,8 @@
 -- How many steps are counted for each list, and what room is made by the counts. No public clause cites this module.
-use Rattle.std.specs.Prelude.{ℕ, ◌≡◌, ◌+◌, ◌<◌, ◌≤◌, max, ◌==◌, if◌then◌else◌, List, length, map, count_by, sum_by, slice_index_or}
+use Rattle.std.specs.Prelude.{ℕ, ◌≡◌, ◌+◌, ◌-◌, ◌<◌, ◌≤◌, max, ◌==◌, if◌then◌else◌, List, ◌++◌, length, All, map, count_by, sum_by, slice_index_or}
 use Rattle.taxi_base.specs.declared.numbers.Segment.{Segment}
 use Rattle.taxi_base.specs.declared.rows.Step.{Step}
+use Rattle.interval_list.specs.Intervals.{owned, drawn}
 use Rattle.window_store.specs.declared.step_counts.Counted.{Counted}
 use Rattle.window_store.specs.Spans.{Listed, nodes}
 use Rattle.window_store.specs.Store.{Store, IsStore, list_at}
@@ -40,6 +41,15 @@ pub record IsCountedAtMost (more : Segment → ℕ) (old new : List ℕ) : Type 
 -- each list has nodes for one window more than its number and its count say
 abbrev pub HaveRoomFor : List ℕ → List Listed → Type 0
 HaveRoomFor counts lists = (s : Segment) → s.0 < length lists → 1 + (list_in lists s).held + count_of counts s ≤ nodes (list_in lists s)
+
+-- A list keeps its windows and its number. It has the next ids as spare nodes in front, and no more nodes than it had or than are wanted.
+pub record IsRoomier (wanted next more : ℕ) (old new : Listed) : Type 0 where
+  pub windows : new.intervals.windows ≡ old.intervals.windows
+  pub held : new.held ≡ old.held
+  pub spare : new.intervals.spare ≡ drawn next (more - next) ++ old.intervals.spare
+  pub count : more + nodes old ≡ next + nodes new
+  pub below : All (λ id. id < more) (owned new.intervals)
+  pub most : nodes new ≤ max wanted (nodes old)
 
 -- The lists and their ids are sound still. Each list has at least as many nodes, and no more than it had or than its
 -- number and its count want; and each id that is drawn is a new node's.

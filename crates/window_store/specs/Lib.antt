@@ -3,6 +3,7 @@ pub mod Held
 pub mod Store
 pub mod Stands
 pub mod Kept
+pub mod Beside
 pub mod Conflicting
 pub mod Stays
 pub mod Edits

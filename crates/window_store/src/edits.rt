@@ -3,13 +3,17 @@ ghost use Rattle.std.specs.Prelude.{ℕ, ◌≡◌, ◌+◌, ◌/◌, ◌^◌, �
 ghost use Rattle.taxi_base.specs.declared.numbers.Segment.{Segment as SegmentNumber};
 ghost use Rattle.taxi_base.specs.Airport.{conflict, segment_of};
 ghost use Rattle.taxi_base.specs.Windows.{Hold, hold_of, holds_of};
+ghost use Rattle.interval_list.specs.Intervals.{owned};
 ghost use Rattle.conflict_sets.specs.Conflicts.{AreConflicts};
+ghost use Rattle.window_store.specs.Spans.{nodes};
 ghost use Rattle.window_store.specs.Store.{of_lists_and_ids, IsStore, HaveRoom};
 ghost use Rattle.window_store.specs.Stands.{StandsFor, HasRoomFor, AreOnSegments, TakeTime, AreInTime};
+ghost use Rattle.window_store.specs.Beside.{HasRoomBeside};
 ghost use Rattle.window_store.specs.Stays.{step_at};
 ghost use Rattle.window_store.specs.Edits.{of_lists, list_in, EachInConflict, ChangesConflicting, CanHold, IsHeld, StandsForLeft, IsReleased, AreHeld, AreReleased};
-ghost use Rattle.window_store.specs.Counts.{count_of, stepped, IsCounted, IsCountedAtMost, HaveRoomFor, GainsNodes, GainsNodesFor};
+ghost use Rattle.window_store.specs.Counts.{count_of, stepped, IsCounted, IsCountedAtMost, HaveRoomFor, IsRoomier, GainsNodes, GainsNodesFor};
 
+use crate::beside::RoomBeside;
 use crate::held::OtherHolds;
 use crate::segment_windows::SegmentWindows;
 use crate::stays::{begins_stay, stay_from};
@@ -160,9 +164,10 @@ fn release_stay<R: OtherHolds>(
 // ---- making room
 
 /// Counts the steps that touch each list, and makes nodes there for one window more than its number and its count say.
-/// What was made before memory ran out stays.
-pub(crate) fn make_room(
+/// Room for as many holds is made beside the lists. What was made before memory ran out stays.
+pub(crate) fn make_room<B: RoomBeside>(
     lists: &mut [SegmentWindows],
+    beside: &mut B,
     ids: &mut Ids,
     counts: &mut StepCounts,
     conflicts: &Conflicts,
@@ -174,19 +179,23 @@ pub(crate) fn make_room(
     requires few { All (λ l. l.held + length steps.now < 2 ^ 33) lists.old }
     requires store { IsStore (of_lists_and_ids lists.old ids.old.next) }
     requires room { HaveRoom lists.old }
+    requires beside { HasRoomBeside (B.segments beside.old) (B.room beside.old) lists.old }
     ensures room { OnOk result (HasRoomFor conflicts.now.sets steps.now (of_lists lists.new)) }
     ensures gained { GainsNodesFor conflicts.now.sets steps.now (of_lists_and_ids lists.old ids.old.next) (of_lists_and_ids lists.new ids.new.next) }
     ensures counts { length counts.new ≡ length lists.new }
+    ensures beside { HasRoomBeside (B.segments beside.new) (B.room beside.new) lists.new }
+    ensures kept { B.keeps beside.old beside.new }
 {
     counts.clear();
     for step in steps {
-        make_room_for_step(lists, ids, counts, conflicts, step)?;
+        make_room_for_step(lists, beside, ids, counts, conflicts, step)?;
     }
     Ok(())
 }
 
-fn make_room_for_step(
+fn make_room_for_step<B: RoomBeside>(
     lists: &mut [SegmentWindows],
+    beside: &mut B,
     ids: &mut Ids,
     counts: &mut StepCounts,
     conflicts: &Conflicts,
@@ -198,15 +207,47 @@ fn make_room_for_step(
     requires few { (s : SegmentNumber) → s.0 < length lists.old → (list_in lists.old s).held + count_of counts.old s + 1 < 2 ^ 33 }
     requires store { IsStore (of_lists_and_ids lists.old ids.old.next) }
     requires room { HaveRoomFor counts.old lists.old }
+    requires beside { HasRoomBeside (B.segments beside.old) (B.room beside.old) lists.old }
     ensures counted { OnOk result (IsCounted (stepped conflicts.now.sets (step.now ∷ [])) counts.old counts.new) }
     ensures at_most { IsCountedAtMost (stepped conflicts.now.sets (step.now ∷ [])) counts.old counts.new }
     ensures room { OnOk result (HaveRoomFor counts.new lists.new) }
     ensures gained { GainsNodes counts.new (of_lists_and_ids lists.old ids.old.next) (of_lists_and_ids lists.new ids.new.next) }
+    ensures beside { HasRoomBeside (B.segments beside.new) (B.room beside.new) lists.new }
+    ensures kept { B.keeps beside.old beside.new }
 {
     for segment in segments_of(conflicts, step) {
         let steps = counts.count(*segment);
         let list = &mut lists[segment.0 as usize];
-        list.make_room(ids, list.held() + steps + 1)?;
+        let wanted = list.held() + steps + 1;
+        make_nodes(list, beside, ids, *segment, wanted)?;
     }
     Ok(())
+}
+
+// Makes room for one hold fewer beside a list, and then nodes until the list has so many. Where it has, nothing is done.
+fn make_nodes<B: RoomBeside>(
+    list: &mut SegmentWindows,
+    beside: &mut B,
+    ids: &mut Ids,
+    segment: Segment,
+    wanted: usize,
+) -> Result<(), Memory>
+    requires exists { segment.0 < B.segments beside.old }
+    requires some { 1 ≤ wanted }
+    requires below { All (λ id. id < ids.old.next) (owned list.old.intervals) }
+    requires fits { ids.old.next + wanted < 2 ^ 64 }
+    requires few { wanted ≤ 2 ^ 33 }
+    requires beside { nodes list.old ≤ 1 + B.room beside.old segment }
+    ensures roomier { IsRoomier wanted ids.old.next ids.new.next list.old list.new }
+    ensures enough { OnOk result (wanted ≤ nodes list.new) }
+    ensures beside { nodes list.new ≤ 1 + B.room beside.new segment }
+    ensures as_many { B.segments beside.new ≡ B.segments beside.old }
+    ensures gained { (s : SegmentNumber) → B.room beside.old s ≤ B.room beside.new s }
+    ensures kept { B.keeps beside.old beside.new }
+{
+    if wanted <= list.nodes() {
+        return Ok(());
+    }
+    beside.make_room(segment, wanted - 1)?;
+    list.make_room(ids, wanted)
 }

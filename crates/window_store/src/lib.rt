@@ -1,6 +1,7 @@
 //! Each segment's free windows, exact after every edit, with room for the edits to come.
 #![tactic(auto)]
 
+mod beside;
 mod edits;
 mod held;
 mod laws;
@@ -11,6 +12,7 @@ mod step_counts;
 mod still_held;
 mod store;
 
+pub use beside::RoomBeside;
 pub use held::OtherHolds;
 pub use laws::{
     lists_are_short, stores_stand_for_holds_in_any_order, windows_are_few,

@@ -1,10 +1,11 @@
 //! One segment's windows.
-ghost use Rattle.std.specs.Prelude.{ℕ, ◌≡◌, ◌+◌, ◌-◌, ◌^◌, ◌<◌, ◌≤◌, max, List, [], ◌∷◌, ◌++◌, length, All, IfOk, OnOk, OnErr, vec_capacity};
+ghost use Rattle.std.specs.Prelude.{ℕ, ◌≡◌, ◌+◌, ◌^◌, ◌<◌, ◌≤◌, List, [], ◌∷◌, ◌++◌, length, All, IfOk, OnOk, OnErr, vec_capacity};
 ghost use Rattle.taxi_base.specs.declared.rows.Span.{Span as Plain};
 ghost use Rattle.taxi_base.specs.Windows.{AreWindows};
-ghost use Rattle.interval_list.specs.Intervals.{spans_of, owned, drawn, IsNormal, OwnsSame, KeepsUnmet, KeepsUntouched};
+ghost use Rattle.interval_list.specs.Intervals.{spans_of, owned, IsNormal, OwnsSame, KeepsUnmet, KeepsUntouched};
 ghost use Rattle.window_store.specs.Spans.{Listed, nodes, is_unheld, StandsForSpans};
 ghost use Rattle.window_store.specs.Stays.{HaveSecondsOf};
+ghost use Rattle.window_store.specs.Counts.{IsRoomier};
 
 use crate::held::HeldSeconds;
 use crate::row::{copy_row, follow, follow_back};
@@ -85,21 +86,23 @@ impl SegmentWindows {
         self.held
     }
 
+    /// How many windows and spare nodes there are together.
+    pub(crate) fn nodes(&self) -> usize
+        ensures { result ≡ nodes self.now }
+    {
+        self.intervals.len() + self.intervals.spare()
+    }
+
     /// Makes spare nodes until there are so many windows and spare nodes together. What was made before memory ran out
     /// stays.
     pub(crate) fn make_room(&mut self, ids: &mut Ids, wanted: usize) -> Result<(), Memory>
         requires below { All (λ id. id < ids.old.next) (owned self.old.intervals) }
         requires fits { ids.old.next + wanted < 2 ^ 64 }
         requires few { wanted ≤ 2 ^ 33 }
-        ensures windows { self.new.intervals.windows ≡ self.old.intervals.windows }
-        ensures held { self.new.held ≡ self.old.held }
-        ensures spare { self.new.intervals.spare ≡ drawn ids.old.next (ids.new.next - ids.old.next) ++ self.old.intervals.spare }
-        ensures next { ids.new.next + nodes self.old ≡ ids.old.next + nodes self.new }
-        ensures below { All (λ id. id < ids.new.next) (owned self.new.intervals) }
-        ensures ok { OnOk result (nodes self.new ≡ max wanted (nodes self.old)) }
-        ensures err { OnErr result (nodes self.new ≤ max wanted (nodes self.old)) }
+        ensures roomier { IsRoomier wanted ids.old.next ids.new.next self.old self.new }
+        ensures enough { OnOk result (wanted ≤ nodes self.new) }
     {
-        while self.intervals.len() + self.intervals.spare() < wanted {
+        while self.nodes() < wanted {
             self.make_node(ids)?;
         }
         Ok(())

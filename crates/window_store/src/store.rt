@@ -6,8 +6,10 @@ ghost use Rattle.interval_list.specs.Intervals.{span, IsNormal};
 ghost use Rattle.window_store.specs.Spans.{nodes};
 ghost use Rattle.window_store.specs.Store.{Store, IsStore, list_at, windows_at, spans_at};
 ghost use Rattle.window_store.specs.Stands.{StandsFor, HasRoomFor, AreOnSegments, TakeTime, AreInTime};
+ghost use Rattle.window_store.specs.Beside.{HasRoomBeside};
 ghost use Rattle.window_store.specs.Kept.{IsApartFrom, IsClearOf, KeepsWindows, KeepsNodes, GainsRoom, DrawsWhatIsLacking, LiesInOne};
 
+use crate::beside::RoomBeside;
 use crate::edits::{Term, hold_steps, make_room, release_steps};
 use crate::held::OtherHolds;
 use crate::row::lies_in_one;
@@ -72,14 +74,6 @@ impl WindowStore {
         self.ids.next
     }
 
-    /// For how many spans a segment is held.
-    pub fn held(&self, segment: Segment) -> usize
-        requires { segment.0 < length self.now.lists }
-        ensures { result ≡ (list_at self.now segment).held }
-    {
-        self.lists[segment.0 as usize].held()
-    }
-
     /// A segment's windows from first to last. They lie apart, and each ends by the horizon.
     pub fn windows(&self, segment: Segment) -> Windows<'_>
         requires { segment.0 < length self.now.lists }
@@ -108,18 +102,28 @@ impl WindowStore {
         lies_in_one(self.spans(segment), Span { from, until })
     }
 
-    /// Makes room for steps, and no more than is lacking. All windows stay, also where memory runs out.
-    pub fn reserve(&mut self, conflicts: &Conflicts, steps: &[Step]) -> Result<(), Memory>
+    /// Makes room for steps, and no more than is lacking. What stands beside the store has room for one hold fewer than there
+    /// are nodes in each list, before and afterwards. All windows stay, also where memory runs out.
+    pub fn reserve<B: RoomBeside>(
+        &mut self,
+        beside: &mut B,
+        conflicts: &Conflicts,
+        steps: &[Step],
+    ) -> Result<(), Memory>
         requires segments { length self.old.lists ≡ conflicts.now.segments }
         requires steps { AreOnSegments conflicts.now.segments steps.now }
         requires few { All (λ l. l.held + length steps.now < 2 ^ 33) self.old.lists }
+        requires beside { HasRoomBeside (B.segments beside.old) (B.room beside.old) self.old.lists }
         ensures room { OnOk result (HasRoomFor conflicts.now.sets steps.now self.new) }
         ensures gained { GainsRoom self.old self.new }
         ensures lacking { DrawsWhatIsLacking conflicts.now.sets steps.now self.old self.new }
         ensures stands { (horizon : ℕ) (holds : List Hold) → StandsFor conflicts.now.sets horizon holds self.old → StandsFor conflicts.now.sets horizon holds self.new }
+        ensures beside { HasRoomBeside (B.segments beside.new) (B.room beside.new) self.new.lists }
+        ensures kept { B.keeps beside.old beside.new }
     {
         let lists = self.lists.as_mut_slice();
-        make_room(lists, &mut self.ids, &mut self.counts, conflicts, steps)
+        let ids = &mut self.ids;
+        make_room(lists, beside, ids, &mut self.counts, conflicts, steps)
     }
 
     /// Holds what the steps hold, each until the clearance after its leave is over. It needs no memory. A window that has no

@@ -23,7 +23,7 @@ returns-in-NoRoute-clause-told c flight found =
     let lifted = c.lift.ensures.state in
     let s = sought_again airport state name anew.time anew.may_be_none flight anew.request in
     let form = form-ok anew.may_be_none c.in_ok-pass_if-in-NoRoute.field-0 (sym c.pass_if-in-NoRoute.ensures ∙ c.in_ok-pass_if-in-NoRoute.was) in
-    let told = subst (λ (labels : List LabelRow). IsFoundAmong airport (state_of c.lift.new.held) name anew.time anew.request (NoRoute labels) c.no_route_among-told.result) c.as_slice-in-NoRoute.ensures c.no_route_among-told.ensures.found in
+    let told = subst (λ (labels : List LabelRow). IsFoundAmong airport (state_of c.lift.new.held) name anew.time anew.request (NoRoute labels) c.no_route_among-told.result) c.as_slice.ensures c.no_route_among-told.ensures.found in
     let here = subst (λ (st : State). IsFoundAmong airport st name anew.time anew.request (NoRoute c.in-NoRoute.labels) c.no_route_among-told.result) lifted told in
     rw c.in-NoRoute.is
     (told-found s (NoRoute c.in-NoRoute.labels) form state (state_of c.lower.new.held) c.no_route_among-told.result (here flight found s (again-seeks airport state name anew.time anew.may_be_none flight anew.request))

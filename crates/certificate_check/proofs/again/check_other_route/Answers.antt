@@ -1,6 +1,5 @@
-use Rattle.std.proofs.Common.{◌≡◌, ◌∙◌, List, Some, refl, sym, ap, subst}
+use Rattle.std.proofs.Common.{◌≡◌, ◌∙◌, Some, refl, sym, ap, subst}
 use Rattle.std.specs.Prelude.{All}
-use Rattle.taxi_base.specs.declared.rows.Step.{Step}
 use Rattle.taxi_base.specs.Walks.{Meets}
 use Rattle.taxi_base.specs.State.{State, without, with_route, flight_named, flights_without, conditions_of, IsSound}
 use Rattle.replies.specs.declared.block.Block.{Block}
@@ -25,11 +24,12 @@ returns-then-is_err-clause-told c flight found =
     let airport = c.args.airport.now in
     let state = state_of c.args.held.now in
     let anew = c.args.anew.now in
+    let route = c.args.route in
     let name = anew.name.now in
     let lifted = c.lift.ensures.state in
-    let block : Block = Route name c.args.second c.args.steps c.args.labels.now in
+    let block : Block = Route name route.second route.steps route.labels in
     let s = sought_again airport state name anew.time anew.may_be_none flight anew.request in
-    let told = subst (λ (steps : List Step). IsFoundAmong airport (state_of c.lift.new.held) name anew.time anew.request (Route name c.args.second steps c.args.labels.now) c.route_among-told.result) c.as_slice.ensures c.route_among-told.ensures.found in
+    let told = rw (c.as_told.ensures.second, c.as_told.ensures.steps, c.as_told.ensures.labels) at c.route_among-told.ensures.found in
     let here = subst (λ (st : State). IsFoundAmong airport st name anew.time anew.request block c.route_among-told.result) lifted told in
     told-found s block refl state (state_of c.lower.new.held) c.route_among-told.result (here flight found s (again-seeks airport state name anew.time anew.may_be_none flight anew.request))
     (c.lower.ensures.state ∙ lifted) (λ done is. absurd (never-ok c.route_among-told.result (sym c.is_err.ensures.value ∙ c.if-is_err.true) done is))
@@ -39,58 +39,61 @@ put_on-requires-clause-met c flight there_now =
     let airport = c.args.airport.now in
     let state = state_of c.args.held.now in
     let anew = c.args.anew.now in
+    let route = c.args.route in
     let name = anew.name.now in
     let lifted = c.lift.ensures.state in
-    let block : Block = Route name c.args.second c.args.steps c.args.labels.now in
+    let block : Block = Route name route.second route.steps route.labels in
     let found = subst (λ (st : State). flight_named name st.flights ≡ Some flight) lifted there_now in
     let s = sought_again airport state name anew.time anew.may_be_none flight anew.request in
-    let told = subst (λ (steps : List Step). IsFoundAmong airport (state_of c.lift.new.held) name anew.time anew.request (Route name c.args.second steps c.args.labels.now) c.route_among-told.result) c.as_slice.ensures c.route_among-told.ensures.found in
+    let told = rw (c.as_told.ensures.second, c.as_told.ensures.steps, c.as_told.ensures.labels) at c.route_among-told.ensures.found in
     let here = subst (λ (st : State). IsFoundAmong airport st name anew.time anew.request block c.route_among-told.result) lifted told in
     let passed = ok-there c.route_among-told.result (sym c.is_err.ensures.value ∙ c.if-is_err.false) in
     let all = rw passed at (here flight found s (again-seeks airport state name anew.time anew.may_be_none flight anew.request)) in
-    let walk = told-walk s name c.args.second c.args.steps c.args.labels.now all in
-    subst (λ (st : State). Meets (conditions_of airport st flight) anew.request c.args.steps) (sym lifted) (c.requires.meant flight found c.args.steps walk)
+    let walk = told-walk s name route.second route.steps route.labels all in
+    subst (λ (st : State). Meets (conditions_of airport st flight) anew.request route.steps) (sym lifted) (c.requires.meant flight found route.steps walk)
 
 pub returns-clause-told : goal.returns-clause-told
 returns-clause-told c flight found =
     let airport = c.args.airport.now in
     let state = state_of c.args.held.now in
     let anew = c.args.anew.now in
+    let route = c.args.route in
     let name = anew.name.now in
     let lifted = c.lift.ensures.state in
-    let block : Block = Route name c.args.second c.args.steps c.args.labels.now in
+    let block : Block = Route name route.second route.steps route.labels in
     let s = sought_again airport state name anew.time anew.may_be_none flight anew.request in
-    let told = subst (λ (steps : List Step). IsFoundAmong airport (state_of c.lift.new.held) name anew.time anew.request (Route name c.args.second steps c.args.labels.now) c.route_among-told.result) c.as_slice.ensures c.route_among-told.ensures.found in
+    let told = rw (c.as_told.ensures.second, c.as_told.ensures.steps, c.as_told.ensures.labels) at c.route_among-told.ensures.found in
     let here = subst (λ (st : State). IsFoundAmong airport st name anew.time anew.request block c.route_among-told.result) lifted told in
     let passed = ok-there c.route_among-told.result (sym c.is_err.ensures.value ∙ c.if-is_err.false) in
     let all = rw passed at (here flight found s (again-seeks airport state name anew.time anew.may_be_none flight anew.request)) in
     let there = subst (λ (st : State). flight_named name st.flights ≡ Some flight) (sym lifted) found in
-    told-passed s block refl all state (state_of c.put_on.new.held) (c.in_ok-put_on.ensures.ok flight there ∙ ap (with_route flight anew.request c.args.steps) lifted)
+    told-passed s block refl all state (state_of c.put_on.new.held) (c.in_ok-put_on.ensures.ok flight there ∙ ap (with_route flight anew.request route.steps) lifted)
 
 pub returns-clause-ready : goal.returns-clause-ready
 returns-clause-ready c =
     let airport = c.args.airport.now in
     let state = state_of c.args.held.now in
     let anew = c.args.anew.now in
+    let route = c.args.route in
     let name = anew.name.now in
     let lifted = c.lift.ensures.state in
-    let block : Block = Route name c.args.second c.args.steps c.args.labels.now in
+    let block : Block = Route name route.second route.steps route.labels in
     let some = some-there (flight_named name state.flights) c.requires.in_force in
     let flight = some.0 in
     let found = some.1 in
     let s = sought_again airport state name anew.time anew.may_be_none flight anew.request in
-    let told = subst (λ (steps : List Step). IsFoundAmong airport (state_of c.lift.new.held) name anew.time anew.request (Route name c.args.second steps c.args.labels.now) c.route_among-told.result) c.as_slice.ensures c.route_among-told.ensures.found in
+    let told = rw (c.as_told.ensures.second, c.as_told.ensures.steps, c.as_told.ensures.labels) at c.route_among-told.ensures.found in
     let here = subst (λ (st : State). IsFoundAmong airport st name anew.time anew.request block c.route_among-told.result) lifted told in
     let passed = ok-there c.route_among-told.result (sym c.is_err.ensures.value ∙ c.if-is_err.false) in
     let all = rw passed at (here flight found s (again-seeks airport state name anew.time anew.may_be_none flight anew.request)) in
     let there = subst (λ (st : State). flight_named name st.flights ≡ Some flight) (sym lifted) found in
-    let met = c.requires.meant flight found c.args.steps (told-walk s name c.args.second c.args.steps c.args.labels.now all) in
-    let after = c.in_ok-put_on.ensures.ok flight there ∙ ap (with_route flight anew.request c.args.steps) lifted in
+    let met = c.requires.meant flight found route.steps (told-walk s name route.second route.steps route.labels all) in
+    let after = c.in_ok-put_on.ensures.ok flight there ∙ ap (with_route flight anew.request route.steps) lifted in
     record {
-      is_sound = subst (IsSound airport) (sym after) (again-sound airport state state refl c.requires.ready.is_sound name flight found anew.request c.args.steps met);
+      is_sound = subst (IsSound airport) (sym after) (again-sound airport state state refl c.requires.ready.is_sound name flight found anew.request route.steps met);
       has_spans = c.put_on.ensures.spans;
       can_go_on = subst (λ (st : State). All (λ f. CanGoOn airport f.request) st.flights) (sym after)
-          (go_on-with airport (record flight { request = anew.request; steps = c.args.steps }) (flights_without flight.name state.flights) (sought-goes_on airport anew.request c.requires.sought)
+          (go_on-with airport (record flight { request = anew.request; steps = route.steps }) (flights_without flight.name state.flights) (sought-goes_on airport anew.request c.requires.sought)
           (go_on-without airport flight.name state.flights c.requires.ready.can_go_on));
       are_known = c.put_on.ensures.known;
     }

@@ -1,4 +1,4 @@
-use Rattle.std.proofs.Common.{◌<◌, length, get_or, refl}
+use Rattle.std.proofs.Common.{◌<◌, length, get_or}
 use Rattle.std.proofs.lemmas.List.Elements.{All-contains}
 use Rattle.replies.proofs.ChoiceNames.{nodes_named-are}
 use Rattle.taxi_text.specs.declared.command.Command.TheVariants as command
@@ -6,7 +6,8 @@ use Rattle.replies.specs.Asked.{departure_any}
 use Rattle.replies.specs.Sought.{sought_any}
 use Rattle.checked_state.specs.Flights.{state_of}
 use Rattle.certificate_check.proofs.JudgedLaws.{told-judged}
-use Rattle.certificate_check.proofs.ChoiceLaws.{no_node, others_of, first-others, some-named, choice-sought}
+use Rattle.certificate_check.proofs.NewLaws.{any-seeks}
+use Rattle.certificate_check.proofs.ChoiceLaws.{no_node, others_of, some-named, choice-sought}
 use Rattle.certificate_check.proofs.choice.check_departure_any.Goals as goal
 
 pub returns-in-Named-clause-judged : goal.returns-in-Named-clause-judged
@@ -18,11 +19,11 @@ returns-in-Named-clause-judged c =
     let known = rw c.in-Named.is at c.in_ok-named.ensures in
     let some = some-named airport asked.nodes nodes known.2 c.requires.some in
     let choice = departure_any c.in-Named.from nodes asked.time asked.slack in
-    let node = get_or nodes 0 no_node in
     let told = rw c.as_slice-nodes.ensures at c.check_new_to_any.ensures.told in
-    told-judged airport state (command.DepartureAny asked) c.args.block known.3
-    (sought_any airport state asked.flight c.in-Named.class choice node (others_of nodes)) (rw (known.0, known.1, known.2) (choice-sought airport state asked.flight c.in-Named.class choice no_node some))
-    c.check_new_to_any.result (state_of c.check_new_to_any.new.held) (told choice node (others_of nodes) refl (first-others nodes no_node some))
+    let s = sought_any airport state asked.flight c.in-Named.class choice (get_or nodes 0 no_node) (others_of nodes) in
+    told-judged airport state (command.DepartureAny asked) c.args.block known.3 s (rw (known.0, known.1, known.2) (choice-sought airport state asked.flight c.in-Named.class choice no_node some))
+    c.check_new_to_any.result (state_of c.check_new_to_any.new.held)
+    (told s (any-seeks airport state asked.flight c.in-Named.class choice nodes no_node some))
 
 pub bounds-nodes-0 : goal.bounds-nodes-0
 bounds-nodes-0 c =
@@ -35,9 +36,14 @@ check_new_to_any-requires-clause-sought c node there =
     let exist = (nodes_named-are c.args.airport.now c.args.asked.now.nodes c.in-Named.nodes known.2).exist in
     (All-contains (λ n. n.0 < length c.args.airport.now.nodes) c.in-Named.nodes node exist (rw c.as_slice-nodes.ensures at there), (c.requires.time, c.requires.queue))
 
-pub check_new_to_any-requires-clause-choice : goal.check_new_to_any-requires-clause-choice
-check_new_to_any-requires-clause-choice c =
+pub check_new_to_any-requires-clause-seeks : goal.check_new_to_any-requires-clause-seeks
+check_new_to_any-requires-clause-seeks c =
+    let airport = c.args.airport.now in
+    let state = state_of c.args.held.now in
+    let asked = c.args.asked.now in
     let nodes = c.in-Named.nodes in
     let known = rw c.in-Named.is at c.in_ok-named.ensures in
-    let some = some-named c.args.airport.now c.args.asked.now.nodes nodes known.2 c.requires.some in
-    rw c.as_slice-nodes.ensures (departure_any c.in-Named.from nodes c.args.asked.now.time c.args.asked.now.slack, get_or nodes 0 no_node, others_of nodes, refl, first-others nodes no_node some)
+    let some = some-named airport asked.nodes nodes known.2 c.requires.some in
+    let choice = departure_any c.in-Named.from nodes asked.time asked.slack in
+    rw c.as_slice-nodes.ensures
+    (sought_any airport state asked.flight c.in-Named.class choice (get_or nodes 0 no_node) (others_of nodes), any-seeks airport state asked.flight c.in-Named.class choice nodes no_node some)

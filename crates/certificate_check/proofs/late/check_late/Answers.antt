@@ -19,7 +19,7 @@ check_repair-checked-requires-clause-can_go_on c =
 
 pub check_repair-checked-requires-clause-unrefused : goal.check_repair-checked-requires-clause-unrefused
 check_repair-checked-requires-clause-unrefused c =
-    subst (λ (s : State). first_refusal c.args.airport.now s (command.Late c.args.name.now c.args.time c.args.until) ≡ None) (sym c.in_ok-before.ensures.state)
+    subst (λ (s : State). first_refusal c.args.airport.now s (command.Late c.args.line.now.flight.now c.args.line.now.time c.args.line.now.until) ≡ None) (sym c.in_ok-before.ensures.state)
     (sym c.late_refused.ensures ∙ c.in_default.is)
 
 pub check_repair-checked-requires-clause-same : goal.check_repair-checked-requires-clause-same
@@ -34,8 +34,8 @@ returns-then-is_err-clause-judged c =
     let airport = c.args.airport.now in
     let before = state_of c.in_ok-before.before in
     let result = c.check_repair-checked.result in
-    subst (λ (s : State). IsJudged airport (command.Late c.args.name.now c.args.time c.args.until) c.args.block s result before) c.in_ok-before.ensures.state
-    (put-back airport before (command.Late c.args.name.now c.args.time c.args.until) c.args.block (state_of c.check_repair-checked.new.held) result (sym c.is_err.ensures.value ∙ c.if-is_err.true)
+    subst (λ (s : State). IsJudged airport (command.Late c.args.line.now.flight.now c.args.line.now.time c.args.line.now.until) c.args.block s result before) c.in_ok-before.ensures.state
+    (put-back airport before (command.Late c.args.line.now.flight.now c.args.line.now.time c.args.line.now.until) c.args.block (state_of c.check_repair-checked.new.held) result (sym c.is_err.ensures.value ∙ c.if-is_err.true)
     c.check_repair-checked.ensures.judged)
 
 pub returns-then-is_err-clause-ready : goal.returns-then-is_err-clause-ready
@@ -56,8 +56,8 @@ returns-clause-judged c =
     let before = state_of c.in_ok-before.before in
     let after = state_of c.check_repair-checked.new.held in
     let result = c.check_repair-checked.result in
-    subst (λ (s : State). IsJudged airport (command.Late c.args.name.now c.args.time c.args.until) c.args.block s result after) c.in_ok-before.ensures.state
-    (gone-through airport before (command.Late c.args.name.now c.args.time c.args.until) c.args.block after result (sym c.is_err.ensures.value ∙ c.if-is_err.false)
+    subst (λ (s : State). IsJudged airport (command.Late c.args.line.now.flight.now c.args.line.now.time c.args.line.now.until) c.args.block s result after) c.in_ok-before.ensures.state
+    (gone-through airport before (command.Late c.args.line.now.flight.now c.args.line.now.time c.args.line.now.until) c.args.block after result (sym c.is_err.ensures.value ∙ c.if-is_err.false)
     c.check_repair-checked.ensures.judged)
 
 pub returns-clause-ready : goal.returns-clause-ready

@@ -39,12 +39,12 @@ returns-in_err-pass_unless-clause-checked c =
     let state = state_of c.args.held.now in
     let turn = c.args.turn.now in
     let s = sought_in airport state turn in
-    let block : Block = Route turn.name c.args.second c.args.steps c.args.labels.now in
+    let block : Block = Route turn.name c.args.route.second c.args.route.steps c.args.route.labels in
     let here = c.take_out.ensures.state in
     let has = subst (λ (st : State). AreSpansOf (holds_in airport st) c.spans.result.now) here (subst (AreSpansOf (holds_in airport (state_of c.take_out.new.held))) (sym c.spans.ensures) (spans-alone _ _ _ c.take_out.ensures.tidy.has_spans)) in
     let sought = c.sought_by-sought.result in
     let seeks = turn-seeks airport state turn c.spans.result.now has sought.request _ sought.floor c.sought_by-sought.ensures.request c.sought_by-sought.ensures.way c.sought_by-sought.ensures.floor in
-    let first = rw c.as_slice.ensures at (c.in_ok-broken.ensures.first s seeks turn.name) in
+    let first = rw (c.as_told-told.ensures.second, c.as_told-told.ensures.steps, c.as_told-told.ensures.labels) at (c.in_ok-broken.ensures.first s seeks turn.name) in
     let err = err_from_is_err_and c.from_residual-in_err-pass_unless.result c.from_residual-in_err-pass_unless.ensures.1 in
     rw err.1
     (subst (λ (why : CheckRefused). IsTurnChecked s block (Err why) (state_of c.take_out.new.held)) (sym err.2)
@@ -60,15 +60,15 @@ put_in-requires-clause-arcs c =
     let has = subst (λ (st : State). AreSpansOf (holds_in airport st) c.spans.result.now) here (subst (AreSpansOf (holds_in airport (state_of c.take_out.new.held))) (sym c.spans.ensures) (spans-alone _ _ _ c.take_out.ensures.tidy.has_spans)) in
     let sought = c.sought_by-sought.result in
     let seeks = turn-seeks airport state turn c.spans.result.now has sought.request _ sought.floor c.sought_by-sought.ensures.request c.sought_by-sought.ensures.way c.sought_by-sought.ensures.floor in
-    let first = rw c.as_slice.ensures at (c.in_ok-broken.ensures.first s seeks turn.name) in
+    let first = rw (c.as_told-told.ensures.second, c.as_told-told.ensures.steps, c.as_told-told.ensures.labels) at (c.in_ok-broken.ensures.first s seeks turn.name) in
     let passed = answer-ok c.in_ok-broken.broken c.in_ok-pass_unless.field-0 (sym c.pass_unless.ensures ∙ c.in_ok-pass_unless.was) in
     let all = rw passed at first in
-    turn-arcs airport state turn c.args.steps (all rule.Walk).0
+    turn-arcs airport state turn c.args.route.steps (all rule.Walk).0
 
 pub put_in-requires-clause-goes_on : goal.put_in-requires-clause-goes_on
 put_in-requires-clause-goes_on c =
     let turn = c.args.turn.now in
-    subst (CanGoOn c.args.airport.now) (sym (rw c.as_slice-2.ensures at c.request_routed.ensures)) (routed-goes_on c.args.airport.now turn.request turn.kept c.requires.goes_on)
+    subst (CanGoOn c.args.airport.now) (sym (rw c.as_slice.ensures at c.request_routed.ensures)) (routed-goes_on c.args.airport.now turn.request turn.kept c.requires.goes_on)
 
 pub put_in-requires-clause-absent : goal.put_in-requires-clause-absent
 put_in-requires-clause-absent c =
@@ -100,10 +100,10 @@ returns-clause-checked c =
     let has = subst (λ (st : State). AreSpansOf (holds_in airport st) c.spans.result.now) here (subst (AreSpansOf (holds_in airport (state_of c.take_out.new.held))) (sym c.spans.ensures) (spans-alone _ _ _ c.take_out.ensures.tidy.has_spans)) in
     let sought = c.sought_by-sought.result in
     let seeks = turn-seeks airport state turn c.spans.result.now has sought.request _ sought.floor c.sought_by-sought.ensures.request c.sought_by-sought.ensures.way c.sought_by-sought.ensures.floor in
-    let first = rw c.as_slice.ensures at (c.in_ok-broken.ensures.first s seeks turn.name) in
+    let first = rw (c.as_told-told.ensures.second, c.as_told-told.ensures.steps, c.as_told-told.ensures.labels) at (c.in_ok-broken.ensures.first s seeks turn.name) in
     let passed = answer-ok c.in_ok-broken.broken c.in_ok-pass_unless.field-0 (sym c.pass_unless.ensures ∙ c.in_ok-pass_unless.was) in
-    let routed = rw c.as_slice-2.ensures at c.request_routed.ensures in (
+    let routed = rw c.as_slice.ensures at c.request_routed.ensures in (
       rw passed at first,
-      c.in_ok-put_in.ensures.state ∙ ap (with_flight (record { name = turn.name; class = turn.class; request = c.request_routed.result; steps = c.args.steps })) here
-          ∙ ap (λ (r : Request). with_flight (record { name = turn.name; class = turn.class; request = r; steps = c.args.steps }) (without turn.name state)) routed,
+      c.in_ok-put_in.ensures.state ∙ ap (with_flight (record { name = turn.name; class = turn.class; request = c.request_routed.result; steps = c.args.route.steps })) here
+          ∙ ap (λ (r : Request). with_flight (record { name = turn.name; class = turn.class; request = r; steps = c.args.route.steps }) (without turn.name state)) routed,
     )

@@ -1,26 +1,33 @@
-use Rattle.std.proofs.Common.{◌∙◌, List, ℕ, refl, sym, subst}
-use Rattle.replies.specs.declared.block.Block.TheVariants.{Route, NoRoute}
-use Rattle.replies.specs.Sought.{sought_new}
+use Rattle.std.proofs.Common.{List, sym, subst}
+use Rattle.taxi_base.specs.declared.numbers.Node.{Node}
+use Rattle.replies.specs.Sought.{sought_wish}
 use Rattle.checked_state.specs.Flights.{state_of}
-use Rattle.certificate_check.specs.Judged.{IsToldOf}
-use Rattle.certificate_check.proofs.JudgedLaws.{name-ok, told-found}
+use Rattle.check_walks.specs.Choice.{CanBeSoughtAny}
+use Rattle.certificate_check.specs.NewFlight.{SeeksNew}
+use Rattle.certificate_check.proofs.NewLaws.{has-target, one-sought, one-seeks}
 use Rattle.certificate_check.proofs.routed.check_new.Goals as goal
 
-pub returns-in-Route-clause-told : goal.returns-in-Route-clause-told
-returns-in-Route-clause-told c =
+pub check_new_to_any-requires-clause-sought : goal.check_new_to_any-requires-clause-sought
+check_new_to_any-requires-clause-sought c =
     let airport = c.args.airport.now in
-    let state = state_of c.args.held.now in
-    let name = c.args.name.now in
-    let s = sought_new airport state name c.args.class c.args.request in
-    let same = name-ok c.eq.result c.in-Route.flight name c.eq.ensures c.in_ok-pass_if-in-Route.field-0 (sym c.pass_if.ensures ∙ c.in_ok-pass_if-in-Route.was) in
-    rw c.in-Route.is
-    (subst (λ (n : List ℕ). IsToldOf s (Route n c.in-Route.second c.in-Route.steps c.in-Route.labels) state c.check_new_route.result (state_of c.check_new_route.new.held)) (sym same)
-    (rw c.as_slice-labels.ensures at c.check_new_route.ensures.told))
+    let asked = c.args.wish.now.request in
+    let to = has-target airport asked c.requires.sought in
+    subst (CanBeSoughtAny airport asked) (sym (c.target_of.ensures to.0 to.1)) (one-sought airport asked to.0 to.1 c.requires.sought)
 
-pub returns-in-NoRoute-clause-told : goal.returns-in-NoRoute-clause-told
-returns-in-NoRoute-clause-told c =
+pub check_new_to_any-requires-clause-seeks : goal.check_new_to_any-requires-clause-seeks
+check_new_to_any-requires-clause-seeks c =
     let airport = c.args.airport.now in
     let state = state_of c.args.held.now in
-    let s = sought_new airport state c.args.name.now c.args.class c.args.request in
-    let found = rw c.as_slice.ensures at (c.no_new_route_among.ensures.found c.args.name.now) in
-    rw c.in-NoRoute.is (told-found s (NoRoute c.in-NoRoute.labels) refl state state c.no_new_route_among.result found refl (λ done is. refl))
+    let wish = c.args.wish.now in
+    let to = has-target airport wish.request c.requires.sought in
+    let s = sought_wish airport state wish in
+    (s, subst (λ (nodes : List Node). SeeksNew airport state wish nodes s) (sym (c.target_of.ensures to.0 to.1)) (one-seeks airport state wish to.0 to.1))
+
+pub returns-clause-told : goal.returns-clause-told
+returns-clause-told c =
+    let airport = c.args.airport.now in
+    let state = state_of c.args.held.now in
+    let wish = c.args.wish.now in
+    let to = has-target airport wish.request c.requires.sought in
+    let s = sought_wish airport state wish in
+    c.check_new_to_any.ensures.told s (subst (λ (nodes : List Node). SeeksNew airport state wish nodes s) (sym (c.target_of.ensures to.0 to.1)) (one-seeks airport state wish to.0 to.1))

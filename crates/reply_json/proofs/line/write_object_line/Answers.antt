@@ -9,9 +9,9 @@ pub returns : goal.returns
 unfolding object_line
 returns c = λ block printable is.
     let old = c.args.out.now.items in
-    let text : Block → List ℕ = λ b. compact_text (command_object c.args.airport.now c.args.command c.args.number c.args.line.now b) in
+    let text : Block → List ℕ = λ b. compact_text (command_object c.args.airport.now c.args.command c.args.line c.args.text.now b) in
     on_ok_weaker c.push_bytes.result
     (λ pushed.
-    pushed ∙ ap (λ (t : List ℕ). t ++ 10 ∷ []) c.in_ok-write_whole_object.ensures ∙ append_assoc old (text c.in_ok-block.block) (10 ∷ [])
-    ∙ ap (λ (b : Block). old ++ (text b ++ 10 ∷ [])) (c.in_ok-block.ensures.same block printable is))
+    pushed ∙ ap (λ (t : List ℕ). t ++ 10 ∷ []) c.in_ok-write_object.ensures ∙ append_assoc old (text c.in_ok-block.block) (10 ∷ [])
+    ∙ ap (λ (b : Block). old ++ (text b ++ 10 ∷ [])) (c.in_ok-block.ensures.only block printable is))
     c.push_bytes.ensures.ok

@@ -6,4 +6,4 @@ use Rattle.reply_json.proofs.refusals.refused_text.Goals as goal
 pub returns : goal.returns
 returns c = λ airport.
     let is = c.in_ok-value.ensures airport in
-    c.in_ok-to_string.ensures.text (ap has_float is ∙ refused-floatless airport c.args.command c.args.number c.args.line.now c.args.why.now) ∙ ap compact_text is
+    c.in_ok-to_string.ensures.text (ap has_float is ∙ refused-floatless airport c.args.command.now.command c.args.command.now.line c.args.command.now.text.now c.args.why.now) ∙ ap compact_text is

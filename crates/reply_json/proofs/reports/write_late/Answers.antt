@@ -6,7 +6,7 @@ use Rattle.reply_json.proofs.reports.write_late.Goals as goal
 pub returns : goal.returns
 returns c =
     on_ok_weaker c.write_words.result
-    (late-written c.args.airport.now c.args.place.now.command c.args.place.now.line c.args.flight.now c.args.entries.now _ c.args.out.now.items _ _ _ _ _ _ _ _
+    (late-written c.args.airport.now c.args.command.now.command c.args.command.now.line c.args.command.now.text.now c.args.flight.now c.args.entries.now c.args.out.now.items _ _ _ _ _ _ _ _
     c.in_ok-write_command.ensures
     c.in_ok-push_bytes.ensures.ok
     c.in_ok-write_rows.ensures

@@ -5,7 +5,7 @@ use Rattle.reply_json.proofs.routes.write_no_route.Goals as goal
 pub returns : goal.returns
 returns c =
     on_ok_weaker c.write_words.result
-    (no_route-written c.args.airport.now c.args.place.now.command c.args.place.now.line c.args.labels.now _ c.args.out.now.items _ _ _ _ _ _
+    (no_route-written c.args.airport.now c.args.command.now.command c.args.command.now.line c.args.command.now.text.now c.args.labels.now c.args.out.now.items _ _ _ _ _ _
     c.in_ok-write_command.ensures
     c.in_ok-push_bytes.ensures.ok
     c.in_ok-write_rows.ensures

@@ -6,7 +6,7 @@ use Rattle.reply_json.proofs.short_replies.write_filed.Goals as goal
 pub returns : goal.returns
 returns c =
     on_ok_weaker c.write_words.result
-    (filed-written c.args.airport.now c.args.place.now.command c.args.place.now.line c.args.flight.now c.args.start c.args.end _ c.args.out.now.items _ _ _ _ _ _ _ _ _
+    (filed-written c.args.airport.now c.args.command.now.command c.args.command.now.line c.args.command.now.text.now c.args.flight.now c.args.start c.args.end c.args.out.now.items _ _ _ _ _ _ _ _ _
     c.in_ok-write_command.ensures
     c.in_ok-push_bytes.ensures.ok
     (c.in_ok-push_number.ensures.ok ∙ ap (λ (n : ℕ). c.push_bytes.new.out.items ++ decimal n) c.from.ensures)

@@ -4,4 +4,4 @@ use Rattle.reply_json.proofs.Floatless.{words-floatless}
 use Rattle.reply_json.proofs.words.words_text.Goals as goal
 
 pub returns : goal.returns
-returns c = c.in_ok-to_string.ensures.text (ap has_float c.in_ok-value.ensures ∙ words-floatless c.args.line.now) ∙ ap compact_text c.in_ok-value.ensures
+returns c = c.in_ok-to_string.ensures.text (ap has_float c.in_ok-value.ensures ∙ words-floatless c.args.text.now) ∙ ap compact_text c.in_ok-value.ensures

@@ -8,7 +8,7 @@ use Rattle.reply_json.proofs.words.words_value.Goals as goal
 pub loop-word-preserved : goal.loop-word-preserved
 loop-word-preserved c =
     let inv = c.loop-word.invariant.values in
-    let more = word-more view text_value c.loop-word.values.items c.in_ok-text_value.field-0 inv.0 _ _ (words_of c.args.line.now) c.in-Some.word.now inv.1 c.in-Some.ensures.steps inv.2 c.in_ok-text_value.ensures in
+    let more = word-more view text_value c.loop-word.values.items c.in_ok-text_value.field-0 inv.0 _ _ (words_of c.args.text.now) c.in-Some.word.now inv.1 c.in-Some.ensures.steps inv.2 c.in_ok-text_value.ensures in
     record {
       can = tt;
       finite = tt;

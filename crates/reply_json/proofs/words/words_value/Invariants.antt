@@ -10,5 +10,5 @@ invariant-loop-word l =
     record {
       can : goal.iterator-loop-word.can_next l.word-iterator;
       finite : goal.iterator-loop-word.is_finite l.word-iterator;
-      values : (read : List (List ℕ)) × (read ++ words_left l.word-iterator ≡ words_of l.line) × (map view l.values.items ≡ map text_value read);
+      values : (read : List (List ℕ)) × (read ++ words_left l.word-iterator ≡ words_of l.text) × (map view l.values.items ≡ map text_value read);
     }

@@ -10,8 +10,8 @@ pub loop-place-preserved : goal.loop-place-preserved
 loop-place-preserved c =
     let counts = c.args.counts.now.items in
     let low : c.loop-place.place < length counts = omega (arith, c.loop-place-test.true, c.len-place-end.ensures, c.args.counts.now.ok.0) in
-    ap (λ (v : Count). set c.loop-place.counts.items c.loop-place.place v) c.with_one.ensures
-    ∙ map_over_more (with_one c.args.words.now) counts c.loop-place.counts.items c.loop-place.place c.index.result.now low c.loop-place.invariant c.index.ensures
+    ap (λ (v : Count). set c.loop-place.counts.items c.loop-place.place v) c.count_if_kind.ensures
+    ∙ map_over_more (with_one c.args.words.now) counts c.loop-place.counts.items c.loop-place.place c.index_mut.result.now low c.loop-place.invariant c.index_mut.ensures.value
 
 pub returns : goal.returns
 returns c =

@@ -5,8 +5,7 @@ use Rattle.replies.specs.Texts.{block_text}
 use Rattle.taxi_engine.proofs.texts.filed_text.Goals as goal
 
 pub returns : goal.returns
-returns c =
-    let airport = c.args.airport.now in
+returns c = λ airport.
     let flight = c.args.flight.now in
-    subst (λ end. c.text_of.result ≡ block_text airport (Filed flight.name (begin_of flight.steps) end)) (c.end_of.ensures ∙ ap end_of c.as_slice-steps.ensures)
-    (subst (λ start. c.text_of.result ≡ block_text airport (Filed flight.name start c.end_of.result)) (c.begin_of.ensures ∙ ap begin_of c.as_slice-steps.ensures) c.text_of.ensures)
+    subst (λ end. c.filed_text.result ≡ block_text airport (Filed flight.name (begin_of flight.steps) end)) (c.end_of.ensures ∙ ap end_of c.as_slice-steps.ensures)
+    (subst (λ start. c.filed_text.result ≡ block_text airport (Filed flight.name start c.end_of.result)) (c.begin_of.ensures ∙ ap begin_of c.as_slice-steps.ensures) (c.filed_text.ensures airport))

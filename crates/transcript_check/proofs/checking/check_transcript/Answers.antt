@@ -36,7 +36,7 @@ overflow_add-result-2 g c =
 pub loop-line-preserved-then-not-skipped : goal.loop-line-preserved-then-not-skipped
 loop-line-preserved-then-not-skipped g c =
     let kept : is_skipped c.in-Some.line.now ≡ false = sym c.skipped.ensures ∙ c.if-not-skipped.true in
-    let passed = rw c.in-Ok.is at c.in_ok-length.ensures.verdict in
+    let passed = c.in-Ok.ensures.verdict in
     record {
       can = tt;
       finite = tt;
@@ -55,10 +55,11 @@ loop-line-preserved g c =
       so_far = checked-skipped _ _ _ _ _ _ _ _ _ c.loop-line.invariant.so_far c.in-Some.ensures.steps skipped;
     }
 
-pub returns-in-Err : goal.returns-in-Err
-returns-in-Err g c =
+pub returns-in-Err-Fails : goal.returns-in-Err-Fails
+returns-in-Err-Fails g c =
     let kept : is_skipped c.in-Some.line.now ≡ false = sym c.skipped.ensures ∙ c.if-not-skipped.true in
-    checked-failed _ _ _ _ _ _ _ _ _ _ c.loop-line.invariant.so_far c.in-Some.ensures.steps kept (rw c.in-Err.is at c.in_ok-length.ensures.verdict)
+    rw c.in-Err-Fails.field-0-is
+    (checked-failed _ _ _ _ _ _ _ _ _ _ c.loop-line.invariant.so_far c.in-Some.ensures.steps kept (rw c.in-Err-Fails.field-0-is at c.in-Err-Fails.ensures.verdict))
 
 pub returns-then-eq : goal.returns-then-eq
 returns-then-eq g c =

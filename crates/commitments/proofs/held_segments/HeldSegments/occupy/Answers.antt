@@ -9,7 +9,7 @@ insert-requires-clause-room c =
     let airport = c.args.airport.now in
     let stands = subst (λ (h : HeldBook). StandsFor airport.conflicts airport.horizon (map (hold_by airport) h.steps) h.store) (sym c.self.view_is) c.requires.stands in
     let room = subst (λ (h : HeldBook). HasRoomFor airport.conflicts c.args.steps.now h.store) (sym c.self.view_is) c.requires.room in
-    room-for-steps airport c.self.inside.index c.self.inside.store c.args.steps.now c.keep_segments.ensures c.self.invariant.0 c.self.invariant.1 stands room
+    room-for-steps airport c.self.inside.index c.self.inside.store c.args.steps.now c.keep_segments.ensures c.self.invariant stands room
 
 pub occupy-requires-clause-stands : goal.occupy-requires-clause-stands
 occupy-requires-clause-stands c =

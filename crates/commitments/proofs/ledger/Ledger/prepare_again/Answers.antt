@@ -10,8 +10,3 @@ reserve-requires-clause-steps c =
 pub reserve-requires-clause-few : goal.reserve-requires-clause-few
 reserve-requires-clause-few c =
     few-held c.args.airport.now c.keep_rules.ensures _ _ (subst (Fits c.args.airport.now) (sym c.self.view_is) c.requires.fits) c.requires.few
-
-pub reserve-requires-clause-stands : goal.reserve-requires-clause-stands
-reserve-requires-clause-stands c =
-    let fits = subst (Fits c.args.airport.now) (sym c.self.view_is) c.requires.fits in
-    (c.args.airport.now.horizon, _, fits.stands)

@@ -23,7 +23,7 @@ returns-in_ok-block c = λ blocks block are printable is.
     let airport = c.args.airport.now in
     let counts = c.args.self.now in
     let word = reply-word airport block c.args.reply.now c.first_word-word.result.now c.first_word-word.ensures.0 is c.first_word-word.ensures.1 in
-    let read : c.in_ok-block.block ≡ block = c.in_ok-block.ensures block printable is in
+    let read : c.in_ok-block.block ≡ block = c.in_ok-block.ensures.only block printable is in
     counts-add airport blocks block counts c.count_told.new.self are printable c.count_told.ensures.commands
     (ap (λ (v : Vec Count Global). v.items) c.count_told.ensures.replies ∙ c.count_one.ensures ∙ ap (λ (w : List ℕ). map (with_one w) counts.replies.items) word)
     (c.count_told.ensures.entries (flat_map entries_of blocks) are.entries

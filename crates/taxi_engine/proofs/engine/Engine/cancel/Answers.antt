@@ -48,7 +48,7 @@ returns c =
     let state = c.self.inside.ledger.state in
     let name = c.args.flight.now in
     let there : is_in_force name state ≡ true = ap is_some (sym c.cancel.ensures.flight) ∙ c.is_none.ensures ∙ ap not c.if-is_none.false in
-    let text = c.set_short.ensures ∙ c.cancelled_text.ensures in
+    let text = c.set_short.ensures ∙ c.cancelled_text.ensures _ in
     let after = cancelled-state name c.self.inside.ledger c.cancel.new.self c.cancel.result c.cancel.ensures.flight c.cancel.ensures.state there in
     subst (λ (s : EngineState). IsDoneAsDue (Cancel name) s (record { airport = airport; state = c.cancel.new.self.state; reply = c.set_short.new.self })) c.self.view_is
     (record { reply = cancelled_reply state name; due = cancel-due airport state name there; done = λ i. record { airport = airport; state = after i; reply = text i } })

@@ -33,7 +33,7 @@ returns-in-Ok c =
     let airport = c.self.inside.airport in
     let state = c.self.inside.ledger.state in
     let flight = c.in-Ok.flight in
-    let text = c.set_short.ensures ∙ c.filed_text.ensures in
+    let text = c.set_short.ensures ∙ c.filed_text.ensures _ in
     let after : c.commit.new.self.state ≡ with_flight flight state = c.commit.ensures.state ∙ ap (with_flight flight) c.in-Ok.ensures.state in
     subst
     (λ (s : EngineState). IsDoneOrMemory (File c.args.filed.now) s (record { airport = airport; state = c.commit.new.self.state; reply = c.set_short.new.self }))

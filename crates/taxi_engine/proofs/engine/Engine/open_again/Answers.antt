@@ -39,7 +39,7 @@ returns c =
     let state = c.self.inside.ledger.state in
     let name = c.args.name.now in
     let there : is_at_work name state ≡ true = ap is_some (sym c.party.ensures) ∙ c.is_none.ensures ∙ ap not c.if-is_none.false in
-    let text = c.set_short.ensures ∙ c.cancelled_text.ensures in
+    let text = c.set_short.ensures ∙ c.cancelled_text.ensures _ in
     let after = removed-state name c.self.inside.ledger c.remove.new.self c.remove.result c.remove.ensures.party c.remove.ensures.state there
     ∙ sym (without-party airport name state c.self.invariant.0.feasible there) in
     subst (λ (s : EngineState). IsDoneAsDue (WorkDone name) s (record { airport = airport; state = c.remove.new.self.state; reply = c.set_short.new.self })) c.self.view_is

@@ -29,7 +29,7 @@ returns-in-Ok c =
     let airport = c.self.inside.airport in
     let state = c.self.inside.ledger.state in
     let party = c.in-Ok.party in
-    let text = c.set_short.ensures ∙ c.shut_text.ensures in
+    let text = c.set_short.ensures ∙ c.shut_text.ensures _ in
     let after : c.place.new.self.state ≡ with_party party state = c.place.ensures.state ∙ ap (with_party party) c.in-Ok.ensures.state in
     subst
     (λ (s : EngineState). IsDoneOrMemory (Work c.args.shut.now) s (record { airport = airport; state = c.place.new.self.state; reply = c.set_short.new.self }))
