@@ -31,14 +31,19 @@ class ProgramTest(unittest.TestCase):
         self.programs = builds_of(self.crate)
         self.assertTrue(self.programs, f"{self.crate} is not built: rt ci builds it")
 
-    def expect(self, words, files, status, text, **how):
-        """A call over these files, each by its name, ends with this status and has written this text, by each build."""
+    def runs(self, words, files, **how):
+        """A call over these files, each by its name, by each build: the build's name, and what has come of it."""
         with tempfile.TemporaryDirectory() as folder:
             for name, content in files.items():
                 with open(f"{folder}/{name}", "wb") as out:
                     out.write(content)
             for program in self.programs:
-                with self.subTest(program=os.path.basename(program), words=words):
-                    ran = subprocess.run([program, *words.split()], cwd=folder, capture_output=True, timeout=60, check=False, **how)
-                    self.assertEqual(ran.stdout, text)
-                    self.assertEqual(ran.returncode, status)
+                ran = subprocess.run([program, *words.split()], cwd=folder, capture_output=True, timeout=60, check=False, **how)
+                yield os.path.basename(program), ran
+
+    def expect(self, words, files, status, text, **how):
+        """A call over these files ends with this status and has written this text, by each build."""
+        for program, ran in self.runs(words, files, **how):
+            with self.subTest(program=program, words=words):
+                self.assertEqual(ran.stdout, text)
+                self.assertEqual(ran.returncode, status)

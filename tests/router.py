@@ -30,6 +30,34 @@ seconds,C,M,25
 seconds,D,M,15
 conflict,A,C
 """
+# One taxiway from a runway node to K, where it parts to two stands, with a way around its second segment. H is too heavy for that.
+WAY_AROUND = b"""node,R,runway
+node,J,junction
+node,K,junction
+node,L,junction
+node,S1,stand
+node,S2,stand
+class,M
+class,H
+segment,A,R,J,both
+segment,B,J,K,both
+segment,C,K,S1,both
+segment,D,J,L,both
+segment,E,L,K,both
+segment,F,K,S2,both
+seconds,A,M,30
+seconds,A,H,30
+seconds,B,M,20
+seconds,B,H,20
+seconds,C,M,20
+seconds,C,H,20
+seconds,D,M,25
+seconds,E,M,25
+seconds,F,M,20
+seconds,F,H,20
+"""
+# A second runway node beside the two stands, behind K.
+SECOND_RUNWAY = b"node,R2,runway\nsegment,E,K,R2,both\nseconds,E,M,40\n"
 FIRST_VERSION = b"taxi-airport,1\nhorizon,3600\n"
 SECOND_VERSION = b"taxi-airport,2\nhorizon,3600\n"
 SMALL = FIRST_VERSION + TWO_STANDS

@@ -183,12 +183,15 @@ done 7
         self.route(SMALL, commands, text)
 
     def test_as_many_flights_as_may_be_in_force(self):
-        # Each on the same segment after the one before. The last one is routed anew twice, and then one more asks.
+        # Each on the same segment after the one before. A batch of two is one too many. The last flight is routed anew twice, and then
+        # one more of each kind asks.
         commands = b"".join(b"file F%d M %d A+ %d\n" % (k, 30 * k, 30 * k + 30) for k in range(4095))
+        commands += b"batch arrival Z M R S1 200000 3600 departure G M S2 R 300000 0\n"
         commands += b"arrival Z M R S1 200000 3600\nreroute Z 100000\ndivert Z 100000 S2\nfile G M 300000 A+ 300030\n"
+        commands += b"work G A 300000 300030\ndeparture G M S2 R 300000 0\narrival-any G M R 300000 0 S1 S2\n"
         text = b"".join(b"filed F%d %d %d\n" % (k, 30 * k, 30 * k + 30) for k in range(4095))
         to_the_stand = b"route Z 200050 2 1\nstep A+ 200000 200030\nstep B+ 200030 200050\nlabel A+ 122850 604800 200030\n"
-        text += 2 * to_the_stand
+        text += b"refused full\n" + 2 * to_the_stand
         text += b"""route Z 200070 3 3
 step A+ 200000 200030
 step C+ 200030 200055
@@ -197,7 +200,10 @@ label A+ 122850 604800 200030
 label B+ 0 604800 200050
 label C+ 122850 604800 200055
 refused full
-done 4099
+refused full
+refused full
+refused full
+done 4103
 """
         self.route(b"taxi-airport,1\nhorizon,604800\n" + TWO_STANDS, commands, text)
 
