@@ -15,8 +15,8 @@ ghost use Rattle.airport_lint.specs.Bars.{BarsArrival, BarsDeparture};
 ghost use Rattle.airport_lint.specs.Sets.{marked, needed_marks};
 ghost use Rattle.airport_lint.specs.Text.{IsAdviceText};
 
-/// Where advice on the class or on one of the nodes is told, no walk does what an arrival or a departure asks for, whoever else
-/// holds what.
+/// No walk does what an arrival asks for where its class has no seconds, or `no-arrival` is said of the class or of one of its nodes.
+/// For a departure it is so with `no-departure`. It holds whoever else holds what.
 pub fn advice_bars_walks()
     ensures arrivals { (c : Conditions) (from to : Node) (time hold : ℕ) (steps : List Step) (advice : Told) → IsTrue (is_of Runway c.airport from) → IsTrue (is_of Stand c.airport to) →
         IsSo c.airport advice → BarsArrival c.class from to advice → Meets c (Arrival from to time hold) steps → ⊥ }
