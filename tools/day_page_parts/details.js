@@ -22,12 +22,15 @@ const ENDS = {
   "no-route": "until a late flight left it no route",
 };
 
+const AS_ASKED =
+  "A flight is as asked if its request got a route within its HOLD or QUEUE, or if it was filed as given. Its waits don't count against it, wherever it waits.";
+
 class Details {
   constructor(view, clock) {
     Object.assign(this, { view, clock });
     this.box = byId("details");
-    view.listen(["selected", "command"], () => this.draw());
-    view.listen(["time", "plan"], () => this.markStep());
+    view.listen(["day", "selected", "command", "limit", "plan"], () => this.draw());
+    view.listen(["time"], () => this.markStep());
     this.draw();
   }
 
@@ -43,22 +46,46 @@ class Details {
     this.markStep();
   }
 
+  // The day in numbers. Each that marks flights shows them in the list.
   ofNothing() {
-    const { day } = this.view;
-    const trouble = day.notes.length;
-    const waits = day.inForceAfter(day.commands.length).reduce((sum, stay) => sum + stay.waited, 0);
+    const { view } = this;
+    const { day } = view;
+    const counts = countMarks(view);
+    const inForce = day.inForceAfter(view.plan === null ? day.commands.length : view.plan);
+    const waits = inForce.reduce((sum, stay) => sum + stay.waited, 0);
+    const twice = [...standUses(view).values()].filter((uses) => overlapsOf(uses).length).length;
     return [
       element("h2", {}, "The day"),
       this.facts([
         ["commands", String(day.commands.length)],
         ["flights and parties", String(day.holders.size)],
-        ["in force at the end", String(day.inForceAfter(day.commands.length).length)],
-        ["not as asked", trouble ? String(trouble) : "none"],
+        [view.plan === null ? "in force at the end" : "in force in this plan", String(inForce.length)],
         ["segments", String(day.segments.length)],
-        ["waits", waits ? span(waits) : "none"],
+        ["waiting in all", waits ? span(waits) : "none"],
       ]),
+      element("h3", {}, "To look at"),
+      this.facts([
+        ["as asked", `${counts.asked} of ${counts.flights}`],
+        ...Object.entries(MARKS).map(([mark, text]) => [this.markTerm(mark, text), counts[mark] ? this.markLink(mark, counts[mark]) : "none"]),
+        ["stands with two at once", twice ? this.standsLink(twice) : "none"],
+      ]),
+      element("p", { class: "hint" }, AS_ASKED),
       element("p", { class: "hint" }, "Choose a flight in the list, on the timeline or on the map."),
     ];
+  }
+
+  markTerm(mark, text) {
+    const bounded = { long: `from ${span(this.view.limit)}`, far: `by ${span(this.view.limit)}` }[mark];
+    return bounded ? `${text}, ${bounded}` : text;
+  }
+
+  markLink(mark, count) {
+    const show = () => this.view.setFilter({ mark });
+    return element("button", { type: "button", class: "link", onclick: show, title: "Show them in the list" }, `${count} flight${count > 1 ? "s" : ""}`);
+  }
+
+  standsLink(count) {
+    return element("button", { type: "button", class: "link", onclick: () => this.view.set({ rows: "stands" }), title: "Show the rows by stand" }, String(count));
   }
 
   facts(rows) {
@@ -99,7 +126,7 @@ class Details {
     if (stay.asked) facts.push(["asked", this.askedText(stay)]);
     facts.push(["taxi time", span(stay.finish - stay.begin)]);
     if (stay.waited) facts.push(["waits", span(stay.waited)]);
-    if (stay.held) facts.push([stay.kind === "departure" ? "early at the runway" : "held before it", `${span(stay.held[0])}${stay.held[1] ? ` for ${stay.held[1]}` : ""}`]);
+    if (stay.held) facts.push([awayText(stay), `${span(stay.held[0])}${stay.held[1] ? ` for ${stay.held[1]}` : ""}`]);
     return facts;
   }
 
@@ -110,16 +137,16 @@ class Details {
     return limit ? `from ${text}, or up to ${span(limit)} later` : `at ${text}`;
   }
 
+  // The steps as a table. What a step waits stands in a line of its own below it, so that names and times have room.
   steps(stay) {
-    const head = ["segment", "to", "enter", "leave", "waits"].map((text) => element("th", { scope: "col" }, text));
-    const rows = stay.steps.map((step) => this.step(stay, step));
-    return element("table", {}, element("thead", {}, element("tr", {}, ...head)), element("tbody", {}, ...rows));
+    const head = ["segment", "to", "enter", "leave"].map((text) => element("th", { scope: "col" }, text));
+    const rows = stay.steps.flatMap((step) => this.step(stay, step));
+    const table = element("table", { class: "steps" }, element("thead", {}, element("tr", {}, ...head)), element("tbody", {}, ...rows));
+    return element("div", { class: "wide" }, table);
   }
 
   step(stay, step) {
     const { clock, view } = this;
-    const wait = element("td", { class: step.wait ? "wait" : null }, step.wait ? span(step.wait) : "");
-    if (step.holder) wait.append(" for ", this.link(step.holder));
     const row = element(
       "tr",
       {},
@@ -127,10 +154,17 @@ class Details {
       element("td", {}, view.day.nodeName(view.day.head(step.arc))),
       element("td", { class: "time" }, clock.text(step.enter)),
       element("td", { class: "time" }, clock.text(step.leave)),
-      wait,
     );
     this.rows.push({ row, stay, step });
-    return row;
+    return step.wait ? [row, this.wait(step)] : [row];
+  }
+
+  wait(step) {
+    const mark = waitMark(this.view, step);
+    const cell = element("td", { colspan: 4, class: mark ? "wait marked" : "wait" }, `waits ${span(step.wait)}`);
+    if (step.holder) cell.append(" for ", this.link(step.holder));
+    if (mark) cell.append(`: ${mark}`);
+    return element("tr", { class: "wait" }, cell);
   }
 
   link(name) {

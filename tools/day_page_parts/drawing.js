@@ -1,29 +1,10 @@
 // Draws the timeline with a pen: on the screen, in print and for a picture.
 
 const LETTERS = { reroute: "R", divert: "D", late: "L", batch: "B", "arrival-any": "C", "departure-any": "C" };
-const AXIS = 22;
+// From the top: the time of the cursor, the marks of the axis, and what was refused.
+const FLAG = 16;
+const AXIS = FLAG + 20;
 const LANE = 18;
-
-// The rows of the timeline: one a flight or party, or one a segment that somebody holds.
-function timelineRows(view) {
-  const { day } = view;
-  const shown = (stay) => view.plan === null || stay.inForceAfter(view.plan);
-  if (view.rows === "flights") {
-    return view
-      .shownHolders()
-      .map((holder) => flightRow(holder, holder.stays.filter(shown)))
-      .filter((row) => view.plan === null || row.stays.length);
-  }
-  const passing = new Set(view.shownHolders());
-  const wanted = ({ stay }) => shown(stay) && passing.has(day.holders.get(stay.name));
-  return day.bySegment.map((items, segment) => ({ label: day.segments[segment][0], segment, items: items.filter(wanted) })).filter((row) => row.items.length);
-}
-
-// The row of a flight or a party, and the seconds in which it has something.
-function flightRow(holder, stays) {
-  const begins = stays.map((stay) => stay.begin).concat(holder.notes.map((note) => note.second));
-  return { label: holder.name, holder, stays, notes: holder.notes, begin: Math.min(...begins), end: Math.max(...begins, ...stays.map((stay) => stay.last)) };
-}
 
 class TimelineDrawing {
   // The place is what of the picture the rows have: left and right edge, the seconds there, and the height of a row.
@@ -53,7 +34,7 @@ class TimelineDrawing {
       const x = this.x(second);
       pen.line([[x, top + AXIS - 4], [x, bottom]], { stroke: colours.line });
       const text = clock.mark(second, apart);
-      if (x + pen.width(text) / 2 < place.right + 6) pen.text(x, top + AXIS / 2 - 1, text, { fill: colours.faint, align: "center" });
+      if (x + pen.width(text) / 2 < place.right + 6) pen.text(x, top + FLAG + 8, text, { fill: colours.faint, align: "center" });
     }
   }
 
@@ -75,15 +56,78 @@ class TimelineDrawing {
   label(row, y) {
     const { pen, place, colours } = this;
     const chosen = row.holder && row.holder.name === this.view.selected;
-    const colour = row.holder && !row.stays.some((stay) => stay.closed === Infinity) ? colours.faint : colours.ink;
+    const colour = this.labelColour(row);
     let text = row.label;
     while (text.length > 1 && pen.width(text) > place.left - 14) text = text.slice(0, -1);
     pen.text(place.left - 8, y + place.row / 2, text === row.label ? text : `${text.slice(0, -1)}…`, { fill: colour, align: "right", bold: chosen });
   }
 
+  // Who is out of force is pale, and a stand that two stand at is red.
+  labelColour(row) {
+    const { colours } = this;
+    if (row.kind === "stand") return row.overlaps.length ? colours.refused : row.uses.length ? colours.ink : colours.faint;
+    return row.kind === "flight" && !row.stays.some((stay) => stay.closed === Infinity) ? colours.faint : colours.ink;
+  }
+
   row(row, y) {
-    if (row.holder) this.flightRow(row, y);
-    else for (const item of row.items) this.segmentItem(item, y);
+    const draw = { flight: this.flightRow, packed: this.packedRow, stand: this.standRow, segment: this.segmentRow };
+    draw[row.kind].call(this, row, y);
+  }
+
+  segmentRow(row, y) {
+    for (const item of row.items) this.segmentItem(item, y);
+  }
+
+  // Several flights, each with its name behind it.
+  packedRow(row, y) {
+    for (const member of row.members) {
+      if (!this.part(member.begin, member.end + (this.pen.width(member.label, 10) + 12) / this.scale)) continue;
+      this.member(member, y);
+    }
+  }
+
+  member(member, y) {
+    const { pen, colours, view, place } = this;
+    const chosen = member.holder.name === view.selected;
+    const [left, right] = [this.x(member.begin), this.x(member.end)];
+    const width = pen.width(member.label, 10);
+    if (chosen) pen.rect(left - 2, y + 1, right - left + width + 10, place.row - 2, { fill: colours.lit, alpha: 0.3 });
+    this.flightRow(member, y);
+    pen.text(right + 4, y + place.row / 2, member.label, { fill: this.labelColour(member), size: 10, bold: chosen });
+  }
+
+  // Who stands at a stand, how each comes there and leaves, and where two are there at once.
+  standRow(row, y) {
+    for (const use of row.uses) this.standUse(use, y);
+    for (const { from, until } of row.overlaps) {
+      const seen = this.part(from, until);
+      if (seen) this.pen.rect(seen[0], y + 1, Math.max(2, seen[1]), this.place.row - 3, { fill: this.colours.refused, hatched: true, alpha: 0.55 });
+    }
+    for (const use of row.uses) this.useName(use, y);
+  }
+
+  // The names of a use, or the first of them where there is no room for both.
+  useName(use, y) {
+    const seen = this.part(use.from, use.until);
+    const fits = (text) => seen && this.pen.width(text, 10) <= seen[1] - 6;
+    this.name(use.from, use.until, y, [use.label, use.names[0]].find(fits) || "", true);
+  }
+
+  standUse(use, y) {
+    const { pen, colours, place, view } = this;
+    for (const stay of [use.arrival, use.departure]) if (stay) this.taxi(stay, y);
+    const seen = this.part(use.from, use.until);
+    if (!seen) return;
+    const known = use.arrival && use.departure;
+    const fill = use.names.includes(view.selected) ? colours.lit : colours.stand;
+    pen.rect(seen[0], y + 3, Math.max(2, seen[1]), place.row - 7, { fill, alpha: known ? 0.75 : 0.4 });
+    if (!known) pen.rect(seen[0], y + 3, Math.max(2, seen[1]), place.row - 7, { stroke: fill, dash: [3, 3] });
+  }
+
+  // The taxi to a stand or from it, as a thin line.
+  taxi(stay, y) {
+    const seen = this.part(stay.begin, stay.finish);
+    if (seen) this.pen.rect(seen[0], y + this.place.row / 2 - 2, Math.max(1.5, seen[1]), 3, { fill: this.colours[stay.kind] });
   }
 
   flightRow(row, y) {
@@ -149,9 +193,16 @@ class TimelineDrawing {
     const lit = this.view.rows === "segments" && stay.name === this.view.selected;
     const colour = lit ? this.colours.lit : this.colours[stay.kind];
     this.fill(step.enter, Math.min(end, step.still), y + 3, height, { fill: colour, hatched: stay.kind === "work" });
-    if (step.still < end) this.fill(step.still, end, y + 3, height, { fill: this.colours.wait });
+    if (step.still < end) this.wait(step, end, y + 3, height);
     this.edges(stay, step, end, y, colour);
-    this.name(step.enter, end, y, label, stay.kind === "work");
+    if (this.view.rows !== "packed") this.name(step.enter, end, y, label, stay.kind === "work");
+  }
+
+  // A wait; one that is long, or on a runway, has a red frame.
+  wait(step, end, y, height) {
+    this.fill(step.still, end, y, height, { fill: this.colours.wait });
+    const seen = waitMark(this.view, step) && this.part(step.still, end);
+    if (seen) this.pen.rect(seen[0], y, Math.max(2, seen[1]), height, { stroke: this.colours.refused, width: 2 });
   }
 
   fill(begin, end, y, height, how) {

@@ -30,7 +30,7 @@ function keepInSight(list, item) {
 // The colours of the page as they stand now, by the names that the style gives them.
 function palette() {
   const style = getComputedStyle(document.documentElement);
-  const names = ["paper", "raised", "ink", "faint", "line", "arrival", "departure", "filed", "work", "wait", "refused", "no-route", "cursor", "lit"];
+  const names = ["paper", "raised", "ink", "faint", "line", "arrival", "departure", "filed", "work", "wait", "stand", "runway", "refused", "no-route", "cursor", "lit"];
   return Object.fromEntries(names.map((name) => [name, style.getPropertyValue(`--${name}`).trim()]));
 }
 

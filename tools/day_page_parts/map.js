@@ -21,14 +21,48 @@ class MapDrawing {
   // The airport itself. Names are written where there is room for them.
   ground() {
     const { pen, colours, day, frame } = this;
+    this.taken = [];
+    for (const runway of day.map.runways) this.runway(runway);
     for (const segment of day.map.lines.keys()) pen.line(this.line(segment), { stroke: colours.line, width: frame.scale > 1 ? 4 : 2.5 });
     const pixels = frame.scale * day.map.typical;
-    this.taken = [];
+    for (const runway of day.map.runways) this.nameRunway(runway);
     for (const kind of ["runway", "stand"]) {
       for (const [node, point] of day.map.points) if (day.nodes[node][1] === kind) this.node(node, kind, this.place(point), pixels);
     }
+    this.nameTaxiways();
     if (pixels > 60) for (const segment of day.map.lines.keys()) this.nameSegment(segment);
     this.north();
+  }
+
+  // A runway, as wide as it is, but never too thin to be seen.
+  runway({ width, line }) {
+    const points = line.map((point) => this.place(point));
+    this.pen.line(points, { stroke: this.colours.runway, width: Math.max(5, width * this.frame.scale), cap: "butt" });
+    this.pen.line(points, { stroke: this.colours.paper, width: 1, dash: [10, 8] });
+  }
+
+  // The two halves of a runway's name stand beyond its two ends; a name that has none stands in the middle.
+  nameRunway({ name, line }) {
+    const [first, last] = [this.place(line[0]), this.place(line[line.length - 1])];
+    const halves = name.split("/");
+    const length = Math.hypot(last[0] - first[0], last[1] - first[1]) || 1;
+    const [x, y] = [(last[0] - first[0]) / length, (last[1] - first[1]) / length];
+    const how = { size: 12, bold: true };
+    if (halves.length !== 2) return this.write((first[0] + last[0]) / 2, (first[1] + last[1]) / 2 - 12, name, this.colours.ink, 0, how);
+    this.write(first[0] - 16 * x, first[1] - 12 * y, halves[0], this.colours.ink, 0, how);
+    this.write(last[0] + 16 * x, last[1] + 12 * y, halves[1], this.colours.ink, 0, how);
+  }
+
+  // Each taxiway has its name once, on its longest segment, and again where there is much room.
+  nameTaxiways() {
+    const named = new Set();
+    for (const { segment, name } of this.day.map.taxiways) {
+      const line = this.line(segment);
+      if (!line.length) continue;
+      const { point } = along(line, 0.5);
+      this.write(point[0], point[1], name, this.colours.ink, named.has(name) ? 50 : 4, { size: 11 });
+      named.add(name);
+    }
   }
 
   // A small map has small marks, and few names.
@@ -142,12 +176,21 @@ function readMap(day) {
   day.segments.forEach(([, tail, head], segment) => {
     if (!lines.has(segment) && points.has(tail) && points.has(head)) lines.set(segment, [points.get(tail), points.get(head)]);
   });
-  const all = [...lines.values()].flat().concat([...points.values()]);
+  const runways = map.runways.map((runway) => ({ ...runway, line: pairs(runway.line) }));
+  const all = [...lines.values()].flat().concat([...points.values()], runways.flatMap(({ line }) => line));
   const [east, north] = [all.map(([x]) => x), all.map(([, y]) => y)];
   const lengths = [...lines.values()].map((line) => Math.hypot(line[0][0] - line[line.length - 1][0], line[0][1] - line[line.length - 1][1]));
   lengths.sort((a, b) => a - b);
   const extent = (numbers) => numbers.reduce(([low, high], number) => [Math.min(low, number), Math.max(high, number)], [Infinity, -Infinity]);
-  return { lines, points, east: extent(east), north: extent(north), typical: lengths[lengths.length >> 1] || 1 };
+  const typical = lengths[lengths.length >> 1] || 1;
+  return { lines, points, runways, taxiways: taxiwaysOf(map, lines), east: extent(east), north: extent(north), typical };
+}
+
+// The segments that have the name of a taxiway, the longest first.
+function taxiwaysOf(map, lines) {
+  const length = ([first, ...rest]) => rest.reduce(([sum, before], point) => [sum + Math.hypot(point[0] - before[0], point[1] - before[1]), point], [0, first])[0];
+  const named = map.taxiways.map(([segment, name]) => ({ segment, name, length: length(lines.get(segment)) }));
+  return named.sort((a, b) => b.length - a.length);
 }
 
 function pairs(flat) {
@@ -188,8 +231,8 @@ class AirportMap {
     });
     this.box.addEventListener("wheel", (event) => this.wheel(event), { passive: false });
     new ResizeObserver(() => this.resize()).observe(this.box);
-    view.listen(["colours"], () => this.draw());
-    view.listen(["time", "plan", "selected"], () => this.drawTraffic());
+    view.listen(["colours", "day"], () => this.draw());
+    view.listen(["time", "plan", "selected", "limit"], () => this.drawTraffic());
     this.resize();
   }
 
@@ -277,7 +320,7 @@ class AirportMap {
     if (event.pointerType === "touch" || this.view.playing) return;
     const box = this.box.getBoundingClientRect();
     const near = this.at(event.clientX - box.left, event.clientY - box.top);
-    tip(near ? stepText(this.view.day, this.clock, near.stay, near.step) : null, event);
+    tip(near ? stepText(this.view, this.clock, near.stay, near.step) : null, event);
   }
 }
 

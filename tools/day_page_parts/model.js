@@ -1,5 +1,8 @@
 // The day as it was replayed: who is in force after each command, and who is where at each second.
 
+// Compares names as people do: G2 comes before G10.
+const NAMES_IN_ORDER = new Intl.Collator("en", { numeric: true });
+
 // One step of a stay: an arc, and the seconds at which it is entered and left. `wait` of its seconds are more than it needs.
 class Step {
   constructor(arc, enter, leave) {
@@ -30,6 +33,7 @@ class Stay {
     this.steps = this.stepsOf(data, day);
     this.begin = this.steps[0].enter;
     this.finish = this.steps[this.steps.length - 1].leave;
+    this.replaced = false;
     this.last = this.steps[this.steps.length - 1].shut;
     this.from = day.tail(this.steps[0].arc);
     this.to = day.head(this.steps[this.steps.length - 1].arc);
@@ -91,6 +95,18 @@ class Holder {
     return this.notes.length ? this.notes[0].second : Infinity;
   }
 
+  // The names of the nodes from and to which it goes, or asked to go; null where that isn't known.
+  ends(day, stay = this.newest) {
+    if (stay && this.kind !== "work") return [day.nodeName(stay.from), day.nodeName(stay.to)];
+    const asked = this.notes.find((note) => note.ends);
+    return asked ? asked.ends : [null, null];
+  }
+
+  // The name of its runway node or of its stand; null if it has none.
+  end(day, kind, stay = this.newest) {
+    return this.ends(day, stay).find((name) => name !== null && day.kindOf(name) === kind) || null;
+  }
+
   // How it ended: in force, or the word for why it is not.
   get fate() {
     const stay = this.newest;
@@ -104,9 +120,12 @@ class Day {
   constructor(data) {
     this.data = data;
     this.horizon = data.horizon;
+    this.runwayPieces = new Set(data.runwayPieces);
     this.commands = data.commands;
     this.segments = data.segments;
     this.nodes = data.nodes;
+    this.kinds = new Map(data.nodes);
+    this.stands = this.namedInOrder("stand");
     this.stays = data.stays.map((stay) => new Stay(stay, this));
     this.markReplaced();
     this.notes = data.notes.map((note) => ({ ...note, second: note.at === null ? this.commands[note.command - 1].told : note.at }));
@@ -131,6 +150,22 @@ class Day {
     return this.nodes[node][0];
   }
 
+  // What kind of node a name is of.
+  kindOf(name) {
+    return this.kinds.get(name);
+  }
+
+  // Whether a segment is a piece of a runway, as far as the files tell.
+  onRunway(segment) {
+    return this.runwayPieces.has(segment);
+  }
+
+  // The nodes of a kind, by their names.
+  namedInOrder(kind) {
+    const nodes = this.nodes.map((_, node) => node).filter((node) => this.nodes[node][1] === kind);
+    return nodes.sort((a, b) => NAMES_IN_ORDER.compare(this.nodeName(a), this.nodeName(b)));
+  }
+
   className(number) {
     return number < 0 ? "" : this.data.classes[number];
   }
@@ -141,6 +176,7 @@ class Day {
     for (const stay of this.stays) {
       const next = opened.get(`${stay.closed} ${stay.name}`);
       if (!next) continue;
+      stay.replaced = true;
       const kept = new Set(next.steps.map((step) => `${step.arc} ${step.enter} ${step.leave}`));
       for (const step of stay.steps) step.kept = kept.has(`${step.arc} ${step.enter} ${step.leave}`);
     }

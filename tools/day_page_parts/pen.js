@@ -62,7 +62,8 @@ class CanvasPen {
     if (how.stroke) {
       context.strokeStyle = how.stroke;
       context.lineWidth = how.width || 1;
-      context.lineCap = context.lineJoin = "round";
+      context.lineCap = how.cap || "round";
+      context.lineJoin = "round";
       context.setLineDash(how.dash || []);
       context.stroke();
     }
@@ -142,7 +143,7 @@ class SvgPen {
 
   look(how) {
     let look = ` fill="${how.fill ? (how.hatched ? this.hatch(how.fill) : how.fill) : "none"}"`;
-    if (how.stroke) look += ` stroke="${how.stroke}" stroke-width="${how.width || 1}" stroke-linecap="round" stroke-linejoin="round"`;
+    if (how.stroke) look += ` stroke="${how.stroke}" stroke-width="${how.width || 1}" stroke-linecap="${how.cap || "round"}" stroke-linejoin="round"`;
     if (how.stroke && how.dash) look += ` stroke-dasharray="${how.dash.join(" ")}"`;
     return how.alpha === undefined ? look : `${look} opacity="${how.alpha}"`;
   }

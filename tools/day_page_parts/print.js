@@ -3,8 +3,8 @@
 const ROWS_A_SHEET = 56;
 
 class Paper {
-  constructor(view, clock, measure) {
-    Object.assign(this, { view, clock, measure });
+  constructor(view, clock, flights, measure) {
+    Object.assign(this, { view, clock, flights, measure });
     window.addEventListener("beforeprint", () => this.fill());
     window.addEventListener("afterprint", () => replaceChildren(byId("paper")));
   }
@@ -21,7 +21,7 @@ class Paper {
   }
 
   fill() {
-    const rows = timelineRows(this.view);
+    const rows = this.view.rows === "packed" ? flightRows(this.view) : timelineRows(this.view);
     const sheets = [];
     for (let at = 0; at < rows.length; at += ROWS_A_SHEET) sheets.push(this.sheet(rows.slice(at, at + ROWS_A_SHEET), sheets.length));
     const map = this.view.day.map ? [this.figure(this.mapPart(1000, 560), 1000, 560, "m")] : [];
@@ -31,7 +31,7 @@ class Paper {
   // Some rows over the seconds in which they have something.
   sheet(rows, number) {
     const height = AXIS + LANE + 16 * rows.length + 8;
-    const stays = rows.flatMap((row) => row.stays || row.items.map((item) => item.stay));
+    const stays = rows.flatMap(staysOfRow);
     const [from, to] = this.view.around(stays.flatMap((stay) => [stay.begin, stay.last]));
     return this.figure((pen) => this.timelinePart(pen, rows, { left: 100, right: 990, from, to, row: 16 }, 0), 1000, height, `p${number}`);
   }
@@ -61,8 +61,18 @@ class Paper {
     drawing.lane(top + AXIS);
     rows.forEach((one, k) => drawing.row(one, top + AXIS + LANE + k * place.row));
     pen.unclip();
+    this.cursor(pen, drawing, top, bottom);
+  }
+
+  // The time at which the picture is taken, with the map's traffic.
+  cursor(pen, drawing, top, bottom) {
+    const { place, colours } = drawing;
     const x = drawing.x(this.view.time);
-    if (x >= place.left && x <= place.right) pen.line([[x, top + AXIS], [x, bottom]], { stroke: colours.cursor, width: 1.5 });
+    if (x < place.left || x > place.right) return;
+    const text = this.clock.text(this.view.time);
+    const half = pen.width(text) / 2;
+    pen.line([[x, top + AXIS], [x, bottom]], { stroke: colours.cursor, width: 1.5 });
+    pen.text(Math.min(x, place.right - half), top + FLAG / 2, text, { fill: colours.cursor, align: "center", bold: true });
   }
 
   mapPart(width, height) {
@@ -75,7 +85,8 @@ class Paper {
 
   // Map and timeline as they stand, in one picture of so many pixels' width.
   picture(width = 1000, mapHeight = 420) {
-    const rows = timelineRows(this.view).slice(0, 80);
+    const room = { scale: (width - 110) / (this.view.to - this.view.from), width: (text) => this.measure.width(text, 10) };
+    const rows = timelineRows(this.view, room).slice(0, 80);
     const top = 30 + (this.view.day.map ? mapHeight : 0);
     const height = top + AXIS + LANE + 20 * rows.length + 34;
     const part = (pen, colours) => {
@@ -106,8 +117,8 @@ class Paper {
   table() {
     const { view, clock } = this;
     const head = ["flight", "kind", "class", "way", "begin", "end", "waits", "note"].map((text) => element("th", { scope: "col" }, text));
-    const rows = view.shownHolders().map((holder) => {
-      const stay = holder.newest;
+    const rows = this.flights.listed().map((holder) => {
+      const stay = view.stayOf(holder);
       const way = stay ? `${view.day.nodeName(stay.from)} to ${view.day.nodeName(stay.to)}` : "";
       const times = stay ? [clock.text(stay.begin), clock.text(stay.finish), stay.waited ? span(stay.waited) : ""] : ["", "", ""];
       const notes = holder.notes.map((note) => `command ${note.command} ${view.day.commands[note.command - 1].said}`);

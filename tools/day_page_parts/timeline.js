@@ -19,24 +19,46 @@ class Timeline {
     this.box.addEventListener("pointermove", (event) => this.hover(event));
     this.box.addEventListener("pointerleave", () => tip(null));
     new ResizeObserver(() => this.resize()).observe(this.box);
-    view.listen(["rows", "plan", "filter"], () => this.refill());
-    view.listen(["from", "to", "selected", "colours"], () => this.draw());
+    view.listen(["day", "rows", "plan", "filter"], () => this.refill());
+    view.listen(["from", "to"], () => this.moved());
+    view.listen(["selected", "colours", "limit"], () => this.draw());
     view.listen(["selected"], () => this.showSelected());
     view.listen(["time"], () => this.follow());
     this.refill();
   }
 
   refill() {
-    this.rows = timelineRows(this.view);
-    this.resize();
+    this.measure();
+    this.rows = timelineRows(this.view, this.room);
+    this.packedAt = this.room.scale;
+    const all = this.top + this.rows.length * ROW + 8;
+    this.spacer.style.height = `${Math.max(0, all - this.height)}px`;
+    this.draw();
+  }
+
+  measure() {
+    [this.width, this.height] = [this.box.clientWidth, this.box.clientHeight];
+    const labels = this.width < 500 ? 78 : 104;
+    this.left = this.view.rows === "packed" ? 8 : labels;
+  }
+
+  // The pixels that a second has, and the width of a text.
+  get room() {
+    const { view } = this;
+    return { scale: Math.max(1, this.width - 6 - this.left) / (view.to - view.from), width: (text) => this.base.width(text, 10) };
   }
 
   resize() {
-    [this.width, this.height] = [this.box.clientWidth, this.box.clientHeight];
-    const all = AXIS + LANE + this.rows.length * ROW + 8;
-    this.spacer.style.height = `${Math.max(0, all - this.height)}px`;
-    this.left = this.width < 500 ? 78 : 104;
+    if (this.view.rows === "packed") return this.refill();
+    this.measure();
+    this.spacer.style.height = `${Math.max(0, this.top + this.rows.length * ROW + 8 - this.height)}px`;
     this.draw();
+  }
+
+  // Other seconds are shown. Where flights share rows, they have more or less room when the scale changes.
+  moved() {
+    if (this.view.rows === "packed" && Math.abs(this.room.scale / this.packedAt - 1) > 0.001) this.refill();
+    else this.draw();
   }
 
   drawing(pen) {
@@ -87,7 +109,7 @@ class Timeline {
       drawing.row(row, y);
       return;
     }
-    if (row.holder && row.holder.name === this.view.selected) this.base.rect(0, y, this.width, ROW, { fill: colours.lit, alpha: 0.16 });
+    if (row.kind !== "packed" && row.kind !== "segment" && partOfRow(row, this.view.selected)) this.base.rect(0, y, this.width, ROW, { fill: colours.lit, alpha: 0.16 });
     this.base.line([[this.left, y + ROW - 0.5], [this.width, y + ROW - 0.5]], { stroke: colours.line, alpha: 0.5 });
     drawing.label(row, y);
   }
@@ -127,7 +149,7 @@ class Timeline {
     if (place < room / 4 || place > (7 * room) / 8) this.box.scrollTop = Math.max(0, k * ROW - room / 2);
   }
 
-  // The rows in sight that have something in the seconds in sight. Segments have no time of their own.
+  // The rows in sight that have something in the seconds in sight. Rows of other things than flights have no time of their own.
   get anythingSeen() {
     const { view } = this;
     const first = Math.floor(this.box.scrollTop / ROW);
@@ -149,12 +171,12 @@ class Timeline {
   // The row of the chosen flight is brought into sight, and so is its time.
   showSelected() {
     const { view } = this;
-    const k = this.rows.findIndex((row) => row.holder && row.holder.name === view.selected);
+    const k = this.rows.findIndex((row) => partOfRow(row, view.selected));
     if (k < 0) return;
     const [above, below] = [k * ROW, (k + 1) * ROW - (this.height - this.top)];
     if (this.box.scrollTop > above) this.box.scrollTop = above - 2 * ROW;
     else if (this.box.scrollTop < below) this.box.scrollTop = below + 2 * ROW;
-    const { begin, end } = this.rows[k];
+    const { begin, end } = partOfRow(this.rows[k], view.selected);
     if (begin > view.to || end < view.from) view.reveal(begin, end);
   }
 
@@ -180,7 +202,13 @@ class Timeline {
     if (y < this.top) return y < AXIS ? { second } : { second, note: this.noteAt(x) };
     const row = this.rows[Math.floor((y - this.top + this.box.scrollTop) / ROW)];
     if (!row) return { second };
-    return { second, row, ...(x < this.left ? {} : this.stepAt(row, second)) };
+    if (x < this.left) return { second, row };
+    return { second, row, ...(row.kind === "stand" ? this.useAt(row, second) : this.stepAt(row, second)) };
+  }
+
+  useAt(row, second) {
+    const use = row.uses.find((one) => one.from <= second && second < one.until);
+    return use && { use, stay: use.stayAt(second) };
   }
 
   noteAt(x) {
@@ -194,7 +222,14 @@ class Timeline {
     const room = (3 * (this.view.to - this.view.from)) / this.width;
     const items = row.items || row.stays.flatMap((stay) => stay.steps.map((step) => ({ stay, step })));
     const found = items.filter(({ step }) => step.enter <= second && second < step.shut);
-    return found[found.length - 1] || items.find(({ step }) => step.enter - room <= second && second < step.shut + room);
+    return found[found.length - 1] || items.find(({ step }) => step.enter - room <= second && second < step.shut + room) || this.memberAt(row, second);
+  }
+
+  // The flight whose name stands at a place of a row that several flights share.
+  memberAt(row, second) {
+    const width = (member) => (this.base.width(member.label, 10) + 8) / this.room.scale;
+    const member = row.members.find((one) => one.end <= second && second < one.end + width(one));
+    return member && member.stays.length ? { stay: member.stays[member.stays.length - 1] } : undefined;
   }
 
   click(x, y) {
@@ -208,17 +243,20 @@ class Timeline {
 
   hover(event) {
     const box = this.box.getBoundingClientRect();
-    const { note, stay, step } = this.at(event.clientX - box.left, event.clientY - box.top);
+    const { note, use, stay, step } = this.at(event.clientX - box.left, event.clientY - box.top);
     if (note) tip(`${this.clock.text(note.second)}  ${note.name} ${this.view.day.commands[note.command - 1].said}`, event);
-    else if (stay) tip(stepText(this.view.day, this.clock, stay, step), event);
+    else if (use) tip(useText(this.view.day, this.clock, use), event);
+    else if (stay && step) tip(stepText(this.view, this.clock, stay, step), event);
     else tip(null);
   }
 }
 
 // A step in words.
-function stepText(day, clock, stay, step) {
+function stepText(view, clock, stay, step) {
+  const { day } = view;
   const times = `${clock.text(step.enter)} to ${clock.text(step.leave)}`;
-  const wait = step.wait ? `, waits ${span(step.wait)}${step.holder ? ` for ${step.holder}` : ""}` : "";
+  const mark = waitMark(view, step);
+  const wait = step.wait ? `, waits ${span(step.wait)}${step.holder ? ` for ${step.holder}` : ""}${mark ? ` (${mark})` : ""}` : "";
   const shut = step.shut > step.leave ? `, shut until ${clock.text(step.shut)}` : "";
   return `${stay.name} on ${day.arcName(step.arc)}  ${times}${wait}${shut}`;
 }

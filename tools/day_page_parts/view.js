@@ -2,22 +2,42 @@
 
 // A day of more flights than this is shown in part at first, so that the bars can be seen.
 const ROWS_AT_FIRST = 40;
+// From how many seconds a wait counts as long, unless the reader says otherwise.
+const LONG_FROM = 120;
 
 class View {
   constructor(day) {
-    this.day = day;
     this.listeners = [];
     this.rows = "flights";
+    this.sort = "begin";
+    this.limit = LONG_FROM;
     this.plan = null;
     this.selected = null;
     this.command = null;
     this.playing = false;
     this.colours = null;
-    this.filter = { text: "", class: "", kinds: new Set(["arrival", "departure", "filed", "work"]), trouble: false };
-    [this.first, this.last] = this.wholeDay();
-    [this.from, this.to] = this.around(this.busySeconds());
+    this.filter = { text: "", class: "", kinds: new Set(["arrival", "departure", "filed", "work"]), mark: "all" };
+    Object.assign(this, this.frameOf(day));
     this.time = this.from;
     this.to = this.from + (this.to - this.from) * Math.min(1, ROWS_AT_FIRST / Math.max(1, day.holders.size));
+  }
+
+  // The day with its first and last second, and the seconds that are shown of it.
+  frameOf(day) {
+    this.day = day;
+    const [first, last] = this.wholeDay();
+    const [from, to] = this.around(this.busySeconds());
+    return { day, first, last, from, to };
+  }
+
+  // Another state of the day takes the place of the one that is shown. What is chosen and the seconds in sight stay.
+  replaceDay(day) {
+    const { from, to } = this;
+    const { first, last } = this.frameOf(day);
+    this.day = null;
+    const width = Math.min(to - from, last - first);
+    const begin = Math.max(first, Math.min(last - width, from));
+    this.set({ day, first, last, from: begin, to: begin + width });
   }
 
   // When something moves or is asked to.
@@ -74,6 +94,13 @@ class View {
     this.set({ from: begin, to: begin + width });
   }
 
+  // Shows the whole day. Many flights share rows then: with a row for each, few of them would be in sight.
+  showWhole() {
+    const { day, rows } = this;
+    const many = rows === "flights" && day.holders.size > ROWS_AT_FIRST;
+    this.set({ from: this.first, to: this.last, rows: many ? "packed" : rows });
+  }
+
   // Makes sure that a span of time is to be seen.
   reveal(begin, end) {
     const width = this.to - this.from;
@@ -85,18 +112,31 @@ class View {
     this.set({ selected: name, command: null });
   }
 
+  setFilter(changes) {
+    this.set({ filter: { ...this.filter, ...changes } });
+  }
+
+  // The version of a holder that counts: the newest one, or the one in force in the plan that is shown; null if there is none.
+  stayOf(holder) {
+    if (this.plan === null) return holder.newest;
+    return holder.stays.find((stay) => stay.inForceAfter(this.plan)) || null;
+  }
+
   // Whether a holder passes the filter.
   passes(holder) {
-    const { text, class: classNumber, kinds, trouble } = this.filter;
+    const { text, class: classNumber, kinds, mark } = this.filter;
     if (text && !holder.name.toLowerCase().includes(text.toLowerCase())) return false;
     if (classNumber !== "" && holder.class !== Number(classNumber)) return false;
-    if (trouble && !holder.notes.length) return false;
-    return kinds.has(holder.kind);
+    return kinds.has(holder.kind) && hasMark(this, holder, mark);
   }
 
   // Those that pass the filter, by their begin.
   shownHolders() {
     const holders = [...this.day.holders.values()].filter((holder) => this.passes(holder));
-    return holders.sort((a, b) => a.begin - b.begin || (a.name < b.name ? -1 : 1));
+    return holders.sort(byBegin);
   }
+}
+
+function byBegin(one, other) {
+  return one.begin - other.begin || (one.name < other.name ? -1 : 1);
 }

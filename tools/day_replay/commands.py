@@ -49,6 +49,11 @@ def requests_of_batch(words):
     return {request.flight: request for request in requests}
 
 
+def ends_of(words):
+    """The names of the nodes from and to which an `arrival` or a `departure` asks to go; None where it leaves the choice open."""
+    return words[3], None if words[0].endswith("-any") else words[4]
+
+
 def own_time(words):
     """The second that a command names as its own, or None. The words may be of no form."""
     try:

@@ -1,19 +1,7 @@
-"""The day as the page has it: what was replayed, as one JSON value, and the page made of it."""
-import base64
-import hashlib
-import html
-import json
-from pathlib import Path
-
+"""The day as one value that can be written as JSON: what was replayed, with all names, numbers and sentences that a page shows."""
 from day_replay.commands import names_in, own_time
 from day_replay.replay import end_of_day, told_times
 from day_replay.sentences import sentence
-
-PARTS = Path(__file__).resolve().parent.parent / "day_page_parts"
-SCRIPTS = (
-    "model.js", "clock.js", "elements.js", "pen.js", "view.js", "drag.js", "drawing.js", "timeline.js",
-    "map.js", "lists.js", "details.js", "player.js", "print.js", "main.js",
-)
 
 
 def stay_data(stay):
@@ -55,6 +43,38 @@ def commands_data(commands, replies, run, clock):
     return rows
 
 
+def note_data(note):
+    """What a command didn't get, and between which nodes."""
+    data = {"command": note.command, "name": note.flight, "tone": note.tone, "at": note.at}
+    if note.ends:
+        data["ends"] = note.ends
+    return data
+
+
+def unanswered(replies):
+    """What a reader must know first of a file whose every line was refused, or that has none; otherwise nothing."""
+    if not replies:
+        return "This command file has no command."
+    if any(reply["reply"] != "refused" for reply in replies):
+        return ""
+    count = f"all {len(replies)} are refused" if len(replies) > 1 else "the only one is refused"
+    bad = sum(reply["why"] == "bad-line" for reply in replies)
+    form = " Is it a command file? No line of it has the form of a command." if bad == len(replies) else ""
+    return f"No line of this command file is answered: {count}.{form}"
+
+
+def runway_pieces(airport):
+    """The pieces of runways, as far as the airport file tells.
+
+    They are the segments between two runway nodes, and those that have the names that the converter gives to pieces.
+    """
+    runways = {number for number, (_, kind) in enumerate(airport.nodes) if kind == "runway"}
+    names = {airport.nodes[number][0].rpartition(".")[0] for number in runways} - {""}
+    starts = tuple(start for name in names for start in (f"{name}.", f"R-{name}-"))
+    between = [{segment.tail, segment.head} <= runways for segment in airport.segments]
+    return [number for number, segment in enumerate(airport.segments) if between[number] or segment.name.startswith(starts)]
+
+
 def day_data(airport, commands, replies, run, clock):
     """All that the page shows, but for the map and the names of the files."""
     return {
@@ -67,39 +87,15 @@ def day_data(airport, commands, replies, run, clock):
         "segments": [[segment.name, segment.tail, segment.head, int(segment.one_way)] for segment in airport.segments],
         "conflicts": airport.conflicts,
         "commands": commands_data(commands, replies, run, clock),
-        "notes": [{"command": note.command, "name": note.flight, "tone": note.tone, "at": note.at} for note in run.notes],
+        "notes": [note_data(note) for note in run.notes],
+        "unanswered": unanswered(replies),
+        "runwayPieces": runway_pieces(airport),
         "stays": [stay_data(stay) for stay in run.stays],
     }
 
 
-def as_script_text(value):
-    """A value as JSON that can stand in an element of a page: nothing in it ends the element or begins another."""
-    text = json.dumps(value, separators=(",", ":"))
-    for character in "<>&":
-        text = text.replace(character, f"\\u{ord(character):04x}")
-    return text
-
-
-def digest(text):
-    """What a page's policy says of a script or a style that is allowed."""
-    return "'sha256-" + base64.b64encode(hashlib.sha256(text.encode()).digest()).decode() + "'"
-
-
-def page(data):
-    """The page: the template with its style, its scripts and the data of the day."""
-    style = (PARTS / "page.css").read_text()
-    script = '"use strict";\n' + "\n".join((PARTS / name).read_text() for name in SCRIPTS)
-    policy = f"default-src 'none'; style-src {digest(style)}; script-src {digest(script)}; img-src data: blob:"
-    text = (PARTS / "page.html").read_text()
-    pieces = {
-        "POLICY": policy,
-        "TITLE": html.escape(data["title"]),
-        "STYLE": style,
-        "SCRIPT": script,
-        "DATA": as_script_text(data),
-    }
-    before, *rest = text.split("{{")
-    for part in rest:
-        name, after = part.split("}}", 1)
-        before += pieces[name] + after
-    return before
+def add_map(data, airport_map):
+    """Gives the day a map, or none. A map with runways knows better than the airport file which segments lie on them."""
+    data["map"] = airport_map
+    if airport_map and airport_map["runwayPieces"]:
+        data["runwayPieces"] = airport_map["runwayPieces"]

@@ -7,7 +7,7 @@ from dataclasses import dataclass, field
 from typing import Optional
 
 from day_replay.airport import BadFile
-from day_replay.commands import Request, own_time, request_of, requests_of_batch
+from day_replay.commands import ASKS_ROUTE, Request, ends_of, own_time, request_of, requests_of_batch
 
 # An arrival is routed from its first step on, and waits for what is ahead; a departure from its last step back.
 AHEAD, BEHIND = "ahead", "behind"
@@ -49,6 +49,7 @@ class Note:
     flight: str
     tone: str  # refused, no-route or dropped
     at: Optional[int]
+    ends: Optional[tuple] = None  # the names of the nodes from and to which a request was, where there was one
 
 
 class Reservations:
@@ -117,11 +118,12 @@ class Replay:
         elif kind == "late":
             self.take_late(words, reply)
         elif kind in ("refused", "no-route"):
-            self.note(words[1] if len(words) > 1 else "", kind, own_time(words))
+            asks = words[0] in ASKS_ROUTE and reply.get("why") != "bad-line"
+            self.note(words[1] if len(words) > 1 else "", kind, own_time(words), ends_of(words) if asks else None)
 
-    def note(self, flight, tone, at):
+    def note(self, flight, tone, at, ends=None):
         """Keeps what the present command didn't get."""
-        self.notes.append(Note(self.command, flight, tone, at))
+        self.notes.append(Note(self.command, flight, tone, at, ends))
 
     def close(self, name, end):
         """The stay of a holder ends with the present command."""

@@ -13,8 +13,9 @@ sys.path.insert(0, str(TOOLS))
 from day_replay.airport import BadFile, read_airport
 from day_replay.civil import Clock
 from day_replay.commands import names_in, own_time, read_commands
-from day_replay.day import as_script_text, digest, page
+from day_replay.day import runway_pieces, unanswered
 from day_replay.geojson_map import read_map
+from day_replay.page import as_script_text, digest, page
 from day_replay.replay import replay, told_times
 from day_replay.sentences import sentence
 from day_replay.transcript import read_replies
@@ -168,6 +169,11 @@ class Replays(unittest.TestCase):
         run = run_of(SMALL, commands, f"{route}filed X1 400 500\ncancelled X1\n{route}cancelled F1\ndone 5\n")
         self.assertEqual(told_times(run), [100, 110, 110, 110, 500])
 
+    def test_what_was_not_got_says_between_which_nodes(self):
+        commands = "arrival F1 M R S1 100 0\ndeparture-any F2 M S1 100 0 R\ncancel F3\narrival F4\n"
+        run = run_of(SMALL, commands, "no-route 0\nno-route 0\nrefused not-in-force\nrefused bad-line\ndone 4\n")
+        self.assertEqual([note.ends for note in run.notes], [("R", "S1"), ("S1", None), None, None])
+
     def test_replies_to_other_commands_are_told_of(self):
         for commands, text in (
             ("windows A\n", "done 0\n"),
@@ -246,6 +252,24 @@ class Maps(unittest.TestCase):
         self.assertEqual(found["lines"], [[0, [-55.6, 0, -55.6, 111.2, 0.0, 0.0]]])
         self.assertEqual((found["missing"], found["other"]), (3, 0))
 
+    def test_runways_their_pieces_and_names_of_taxiways(self):
+        # The first position is the origin; two hundredths of a degree of a meridian are 2,223.9 metres.
+        runway = self.feature("A", "LineString", [[8.0, 60.0], [8.0, 60.02]])
+        runway["properties"].update(kind="runway", width=30, segments=["B", "nowhere", 7])
+        piece, taxiway = (self.feature(name, "LineString", [[8.0, 60.0], [8.0, 60.01]]) for name in "CD")
+        piece["properties"]["runway"] = "A"
+        taxiway["properties"]["taxiway"] = "T"
+        found = self.read(runway, piece, taxiway)
+        self.assertEqual(found["runways"], [{"name": "A", "width": 30, "line": [0.0, 0.0, 0.0, 2223.9]}])
+        self.assertEqual((found["runwayPieces"], found["taxiways"], found["missing"], found["other"]), ([1, 2], [(3, "T")], 2, 0))
+
+    def test_a_runway_without_a_width_has_a_usual_one(self):
+        for width in (None, "45", 0, -3, 1e9):
+            runway = self.feature("09/27", "LineString", [[8.0, 60.0], [8.0, 60.01]])
+            runway["properties"].update(kind="runway", width=width)
+            found = self.read(runway, self.feature("A", "LineString", [[8, 60], [8.001, 60]]))
+            self.assertEqual((found["runways"][0]["width"], found["runwayPieces"]), (45, []))
+
     def test_what_is_of_no_use_is_counted(self):
         line = self.feature("A", "LineString", [[8, 47], [8.001, 47]])
         others = [self.feature("Z", "LineString", [[8, 47], [8.001, 47]]), self.feature("R", "Point", ["x", 1]), {"type": "Feature"}, 7, self.feature("R", "Polygon", [[[1, 2]]])]
@@ -275,6 +299,24 @@ class Words(unittest.TestCase):
             self.assertRegex(sentence(words, reply, Clock()), r"^refused.*: .*[a-z0-9X]$")
         reply = read_replies(b"refused step 2 taken 7 X\ndone 1\n")[0]
         self.assertEqual(sentence(words, reply, Clock()), "refused at step 2 (B+): X holds it at 7")
+
+
+class Warnings(unittest.TestCase):
+    BAD, OTHER, ROUTE = {"reply": "refused", "why": "bad-line"}, {"reply": "refused", "why": "in-force"}, {"reply": "cancelled"}
+
+    def test_files_of_which_nothing_is_answered(self):
+        self.assertEqual(unanswered([]), "This command file has no command.")
+        self.assertRegex(unanswered([self.BAD] * 3), "^No line of this command file is answered: all 3 are refused. Is it a command file")
+        self.assertEqual(unanswered([self.OTHER]), "No line of this command file is answered: the only one is refused.")
+        self.assertEqual(unanswered([self.BAD, self.ROUTE]), "")
+
+    def test_segments_between_runway_nodes_and_with_names_of_pieces_are_those_of_a_runway(self):
+        self.assertEqual(runway_pieces(read_airport(SMALL)), [])
+        self.assertEqual(runway_pieces(read_airport(SMALL.replace(b"node,J,junction", b"node,J,runway"))), [0])
+        named = SMALL.replace(b"node,R,", b"node,09/27.1,").replace(b",R,J", b",09/27.1,J")
+        for old, new in ((b"B", b"09/27.12"), (b"C", b"R-09/27-3"), (b"D", b"09/27")):
+            named = named.replace(b"segment,%b," % old, b"segment,%b," % new).replace(b"seconds,%b," % old, b"seconds,%b," % new)
+        self.assertEqual(runway_pieces(read_airport(named.replace(b"conflict,A,C\n", b""))), [1, 2])
 
 
 class Pages(unittest.TestCase):
@@ -317,9 +359,9 @@ class Script(unittest.TestCase):
         path.chmod(0o755)
         return ["--program", str(path)]
 
-    def run_on(self, name, *more):
+    def run_on(self, name, *more, commands=None):
         folder = EXAMPLES / name
-        words = [sys.executable, TOOLS / "day_page", folder / "airport.csv", folder / "commands.txt", *more]
+        words = [sys.executable, TOOLS / "day_page", folder / "airport.csv", commands or folder / "commands.txt", *more]
         return subprocess.run(list(map(str, words)), capture_output=True, check=False)
 
     def data(self, output):
@@ -340,6 +382,25 @@ class Script(unittest.TestCase):
         made = self.run_on("choice", *self.program("echo airport refused at record 3: bad-name; exit 2", "exit 9"))
         self.assertEqual((made.returncode, made.stdout), (2, b""))
         self.assertIn(b"airport refused at record 3: bad-name", made.stderr)
+
+    def test_a_file_of_which_no_line_is_answered_is_said_on_the_page_and_beside_it(self):
+        made = self.run_on("choice", *self.program("echo refused bad-line; echo done 1", "echo ok 1"), "--no-check", commands=EXAMPLES / "schedule/schedule.csv")
+        self.assertEqual(made.returncode, 1)  # a reply for one line of many
+        lines = len(read_commands((EXAMPLES / "schedule/schedule.csv").read_bytes()))
+        refusals = f"for k in $(seq {lines}); do echo refused bad-line; done; echo done {lines}"
+        made = self.run_on("choice", *self.program(refusals, f"echo ok {lines}"), commands=EXAMPLES / "schedule/schedule.csv")
+        said = f"No line of this command file is answered: all {lines} are refused. Is it a command file? No line of it has the form of a command."
+        self.assertEqual((made.returncode, made.stderr.decode()), (0, f"day_page: {said}\n"))
+        self.assertEqual(self.data(made.stdout)["unanswered"], said)
+
+    def test_a_full_disk_and_a_closed_pipe_end_with_one_line_or_none(self):
+        words = [sys.executable, TOOLS / "day_page", EXAMPLES / "choice/airport.csv", EXAMPLES / "choice/commands.txt", "--no-check", "--transcript", EXAMPLES / "choice/transcript.txt"]
+        with open("/dev/full", "wb") as full:
+            made = subprocess.run(words, stdout=full, stderr=subprocess.PIPE, check=False)
+        self.assertEqual((made.returncode, made.stderr), (4, b"day_page: the page cannot be written (No space left on device)\n"))
+        with subprocess.Popen(words, stdout=subprocess.PIPE, stderr=subprocess.PIPE) as made:
+            made.stdout.close()
+            self.assertEqual((made.stderr.read(), made.wait()), (b"", 4))
 
     def test_what_cannot_be_read_is_said(self):
         for more in (["--map", "/nowhere"], ["--transcript", "/nowhere"], ["--start", "noon"], ["--program", "/nowhere"]):
