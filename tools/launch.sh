@@ -1,4 +1,5 @@
-# What the launchers `taxi` and `taxi-tools` share. Each sets `here`, `name`, `crate` and `words`, tells its help and its forms, and sources this.
+# What the launchers `taxi` and `taxi-tools` share. Each sets `here`, `name`, `crate` and `words`, tells its help and its forms, and
+# sources this.
 # Statuses of the launcher's own: 70 there is no program to run, 71 a run with --unproved was stopped.
 
 # A package has the program and no sources, a checkout has the sources and what was built of them.
@@ -42,7 +43,8 @@ trouble_of() {
   elif [ ! -e "$file" ]; then echo "$file: there is no such file"
   elif [ -d "$file" ]; then echo "$file: is a folder, not a file"
   elif [ ! -r "$file" ]; then echo "$file: may not be read"
-  elif [ -f "$file" ] && size=$(stat -Lc %s "$file") && [ "$size" -gt "$limit" ]; then echo "$file: has $size bytes, at most $limit are read"
+  elif [ -f "$file" ] && size=$(stat -Lc %s "$file") && [ "$size" -gt "$limit" ]; then
+    echo "$file: has $size bytes, at most $limit are read"
   fi
 }
 
