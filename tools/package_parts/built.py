@@ -75,7 +75,8 @@ def of_folder(folder: str, made: str, major: str) -> Built:
 
 def has_newer(top: str, made: str) -> bool:
     """Whether a file isn't there, or a source is newer than it."""
-    return not os.path.exists(made) or bool(call("sh", "-c", f'cd "$1" && find {" ".join(NEWER)} -newer "$2" -print -quit', "sh", top, made))
+    find = f'cd "$1" && find {" ".join(NEWER)} -newer "$2" -print -quit'
+    return not os.path.exists(made) or bool(call("sh", "-c", find, "sh", top, made))
 
 
 def passed(identity: Identity, made: str, is_asked: bool) -> Built:

@@ -7,7 +7,8 @@ import unittest
 
 TOP = os.path.dirname(os.path.dirname(os.path.dirname(os.path.abspath(__file__))))
 COPIED = ("taxi", "taxi-tools", "tools/launch.sh", "tools/build_program", "CHANGELOG.md", "crates/program_words/src/usage.rt")
-MADE = ("HANDLES", "crates/taxi_cli/src/main.rt", "crates/taxi_tools/src/main.rt", "crates/taxi_base/specs/Lib.antt", "airport.csv", "day.txt")
+MADE = ("HANDLES", "crates/taxi_cli/src/main.rt", "crates/taxi_tools/src/main.rt", "crates/taxi_base/specs/Lib.antt", "airport.csv",
+        "day.txt")
 CRATES = "taxi_base:\ntaxi_cli: taxi_base\ntaxi_tools: taxi_base\n"
 # The toolchain's last lines, as it writes them on standard error.
 ENDED = "checked: ended status={0}\nrun=ended status={0} runners=1 proved=no\n"
@@ -135,7 +136,8 @@ class Unproved(Checkout):
         self.ends(FAULT, 4)
         ran = self.run_it("taxi", *self.WORDS)
         self.assertEqual((ran.returncode, ran.stdout), (71, ""))
-        self.assertEqual(ran.stderr.splitlines()[-1], f"taxi: the toolchain stopped the run; its own words are in {self.top}/out/unproved.log")
+        told = f"taxi: the toolchain stopped the run; its own words are in {self.top}/out/unproved.log"
+        self.assertEqual(ran.stderr.splitlines()[-1], told)
         with open(f"{self.top}/out/unproved.log", encoding="utf-8") as it:
             self.assertEqual(it.read(), FAULT)
 
