@@ -26,9 +26,9 @@ pub struct Rusboqan {
 /// The version of the library: 10,000 for each major one, 100 for each minor one, and the patch.
 #[unsafe(no_mangle)]
 pub extern "C" fn rusboqan_version() -> u32
-    ensures { result ≡ 10202 }
+    ensures { result ≡ 10300 }
 {
-    10202
+    10300
 }
 
 /// Opens an engine over the airport of a file's bytes, and writes its handle. False where the bytes are no airport, or
