@@ -6,10 +6,16 @@
         reply = engine.answer("arrival SWR101 M RW09 G1 0 60")
         print(reply.kind, reply.second, [step.arc for step in reply.steps])
 
-The shared library `librusboqan.so` is looked for where the variable RUSBOQAN_LIBRARY says, and else where the system looks.
+The shared library `librusboqan.so` is looked for where the variable RUSBOQAN_LIBRARY says, then beside this package, and then where the
+system looks.
 """
 
-from .engine import AirportRefused, Engine, version
-from .reply import Label, Reply, Step
+from .asked import Asked
+from .engine import Engine, version
+from .errors import AirportRefused
+from .library import VERSION as __version__
+from .reply import Comment, FlightRow, Held, Label, Reply, Step, Window
 
-__all__ = ["AirportRefused", "Engine", "Label", "Reply", "Step", "version"]
+__all__ = [
+    "AirportRefused", "Asked", "Comment", "Engine", "FlightRow", "Held", "Label", "Reply", "Step", "Window", "__version__", "version",
+]

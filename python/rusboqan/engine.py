@@ -3,97 +3,144 @@
 from __future__ import annotations
 
 import ctypes
-import functools
 import os
+import threading
 from pathlib import Path
 from types import TracebackType
+from typing import Callable, NoReturn, TypeVar
 
-from .reply import Reply
+from .asked import Asked, Heads
+from .errors import AirportRefused
+from .library import bytes_at, library, version_text
+from .reply import Comment, Reply
 
 SOUND, REFUSED, TOO_LARGE, MEMORY = range(4)
-
-
-class AirportRefused(ValueError):
-    """The bytes are not an airport. `record` is the number of the first record that breaks a rule, or None if there are too many bytes."""
-
-    def __init__(self, record: int | None) -> None:
-        super().__init__("more than 4,194,304 bytes" if record is None else f"record {record} breaks a rule")
-        self.record = record
-
-
-@functools.lru_cache(maxsize=None)
-def library(path: str | None = None) -> ctypes.CDLL:
-    """The shared library with the types of its calls."""
-    calls = ctypes.CDLL(path or os.environ.get("RUSBOQAN_LIBRARY", "librusboqan.so"))
-    handle, size, text = ctypes.c_void_p, ctypes.c_size_t, ctypes.c_char_p
-    for name, given, result in (
-        ("rusboqan_version", [], ctypes.c_uint32),
-        ("rusboqan_open", [text, size, ctypes.POINTER(handle)], ctypes.c_bool),
-        ("rusboqan_why", [text, size, ctypes.POINTER(ctypes.c_uint32)], ctypes.c_uint8),
-        ("rusboqan_answer", [handle, text, size], size),
-        ("rusboqan_text", [handle, ctypes.POINTER(handle)], size),
-        ("rusboqan_close", [handle], None),
-    ):
-        call = getattr(calls, name)
-        call.argtypes, call.restype = given, result
-    return calls
+Found = TypeVar("Found")
 
 
 def version() -> str:
     """The version of the shared library, as `1.2.3`."""
-    number = library().rusboqan_version()
-    return f"{number // 10000}.{number // 100 % 100}.{number % 100}"
+    return version_text(library().rusboqan_version())
 
 
 class Engine:
-    """One engine over one airport: it answers commands in turn, as `taxi route` does. Not for two threads at once.
+    """One engine over one airport: it answers commands in turn, as `taxi route` does.
 
-    Raises AirportRefused if the bytes are not an airport, and MemoryError if memory runs out.
+    Threads may share it: one call at a time is made, and others wait. A signal handler that asks an engine while its own thread is in a
+    call of that engine gets RuntimeError. So does a process that was forked and asks an engine of its parent. An engine can't be copied
+    or pickled, which raises TypeError; `fork` makes a second one.
+
+    Raises AirportRefused if the bytes are not an airport, MemoryError if memory runs out, and OSError if there is no fitting library.
     """
 
-    def __init__(self, airport: bytes, library_path: str | None = None) -> None:
+    def __init__(self, airport: bytes, library_path: str | os.PathLike[str] | None = None, *, keep_log: bool = True) -> None:
+        self._handle: int | None = None
+        if not isinstance(airport, bytes):
+            raise TypeError(f"an airport is given as bytes, not as {type(airport).__name__}; Engine.of_file reads a file")
+        self._airport = airport
+        self._library_path = library_path
         self._calls = library(library_path)
-        self._handle = ctypes.c_void_p()
         self._text = ctypes.c_void_p()
-        if not self._calls.rusboqan_open(airport, len(airport), ctypes.byref(self._handle)):
-            self._handle = ctypes.c_void_p()
-            self._refuse(airport)
+        self._lock = threading.RLock()
+        self._is_inside = False
+        self._process = os.getpid()
+        self._log: list[bytes] | None = [] if keep_log else None
+        self._lines = self._commands = 0
+        self._heads = Heads(airport)
+        self._handle = self._opened()
 
     @classmethod
-    def of_file(cls, path: str | os.PathLike[str], library_path: str | None = None) -> Engine:
+    def of_file(cls, path: str | os.PathLike[str], library_path: str | os.PathLike[str] | None = None, *, keep_log: bool = True) -> Engine:
         """An engine over the airport of a file."""
-        return cls(Path(path).read_bytes(), library_path)
+        return cls(Path(path).read_bytes(), library_path, keep_log=keep_log)
 
-    def _refuse(self, airport: bytes) -> None:
-        """Raises what the library says of bytes that it did not take."""
-        record = ctypes.c_uint32()
-        why = self._calls.rusboqan_why(airport, len(airport), ctypes.byref(record))
+    def _opened(self) -> int | None:
+        """The handle of a new engine. Raises what the library says of bytes that it does not take."""
+        handle, record = ctypes.c_void_p(), ctypes.c_uint32()
+        if self._calls.rusboqan_open(self._airport, len(self._airport), ctypes.byref(handle)):
+            return handle.value
+        why = self._calls.rusboqan_why(self._airport, len(self._airport), ctypes.byref(record))
         if why in (REFUSED, TOO_LARGE):
             raise AirportRefused(record.value if why == REFUSED else None)
         raise MemoryError
 
-    def answer(self, command: str | bytes) -> Reply | None:
-        """The reply to one command, a line with or without its line end. None if the line is a comment or blank."""
-        text = self.answer_bytes(command.encode() if isinstance(command, str) else command)
-        return Reply(text) if text else None
+    def answer(self, command: str | bytes) -> Reply:
+        """The reply to one command, a line with or without its line end. A comment or a blank line gets a Comment, which is false."""
+        text, asked = self._alone(self._answered, line_of(command))
+        return Reply(text, asked) if text else Comment(text, asked)
 
     def answer_bytes(self, line: bytes) -> bytes:
         """The text of the reply; b"" if the line is a comment or blank. Raises ValueError if the engine is closed."""
-        if not self._handle:
-            raise ValueError("the engine is closed")
-        line = line.removesuffix(b"\n").removesuffix(b"\r")
-        if b"\n" in line:
-            raise ValueError("one line is answered at a time")
-        if not self._calls.rusboqan_answer(self._handle, line, len(line)):
-            return b""
-        # The engine lends its reply until the next call, so the bytes are taken at once.
-        length = self._calls.rusboqan_text(self._handle, ctypes.byref(self._text))
-        return ctypes.string_at(self._text, length)
+        if not isinstance(line, bytes):
+            raise TypeError(f"a line is bytes, not {type(line).__name__}")
+        return self._alone(self._answered, line_of(line))[0]
+
+    @property
+    def log(self) -> tuple[bytes, ...]:
+        """The commands that were answered, in their order, without line ends. Those that were refused for want of memory are left out."""
+        # A forked process reads what its parent had, and can't wait for the parent's threads.
+        return self._alone(self._logged) if self._process == os.getpid() else self._logged()
+
+    def _logged(self) -> tuple[bytes, ...]:
+        if self._log is None:
+            raise ValueError("the engine keeps no log, as it was opened with keep_log=False")
+        return tuple(self._log)
+
+    def fork(self) -> Engine:
+        """A second engine in the same state, made by answering the log again. What it is asked from then on does not touch this one.
+        A process that was forked makes an engine of its own by it. Raises MemoryError if memory runs out."""
+        log = self.log
+        second = Engine(self._airport, self._library_path)
+        for line in log:
+            if second.answer_bytes(line) == b"refused memory\n":
+                second.close()
+                raise MemoryError
+        return second
 
     def close(self) -> None:
-        """Gives the memory back. A second call does nothing."""
-        handle, self._handle = self._handle, ctypes.c_void_p()
-        if handle:
+        """Gives the memory back. A second call does nothing. In a process that was forked the parent's engine is let go as it is."""
+        if self._handle is not None and self._process == os.getpid():
+            self._alone(self._closed)
+        self._handle = None
+
+    def _alone(self, call: Callable[..., Found], *given: bytes) -> Found:
+        """Makes a call that nothing else may come between: no other thread, and no signal handler of this one."""
+        if self._process != os.getpid():
+            raise RuntimeError("this engine is of another process: after a fork, fork() of it makes one for this process")
+        # The lock lets its own thread in again, so that a signal handler comes as far as the test and does not wait for itself.
+        with self._lock:
+            if self._is_inside:
+                raise RuntimeError("the engine is in a call of this very thread: a signal handler can't ask it now")
+            try:
+                self._is_inside = True
+                return call(*given)
+            finally:
+                self._is_inside = False
+
+    def _answered(self, line: bytes) -> tuple[bytes, Asked]:
+        """The text of the reply, and what it answers."""
+        if self._handle is None:
+            raise ValueError("the engine is closed")
+        self._lines += 1
+        length = self._calls.rusboqan_answer(self._handle, line, len(line))
+        text = self._taken(line) if length else b""
+        return text, Asked(line, self._lines, self._commands, self._heads)
+
+    def _taken(self, line: bytes) -> bytes:
+        """A copy of the reply to this line, which the engine lends until the next call."""
+        self._commands += 1
+        # The command has had its effect, also if there is no memory for the copy.
+        if self._log is not None:
+            self._log.append(line)
+        length = self._calls.rusboqan_text(self._handle, ctypes.byref(self._text))
+        text = bytes_at(self._text.value, length)
+        if self._log is not None and text == b"refused memory\n":
+            self._log.pop()
+        return text
+
+    def _closed(self) -> None:
+        handle, self._handle = self._handle, None
+        if handle is not None:
             self._calls.rusboqan_close(handle)
 
     def __enter__(self) -> Engine:
@@ -103,5 +150,19 @@ class Engine:
         self.close()
 
     def __del__(self) -> None:
-        if getattr(self, "_handle", None):
+        if getattr(self, "_handle", None) is not None:
             self.close()
+
+    def __reduce_ex__(self, protocol: object) -> NoReturn:
+        raise TypeError("an engine can't be copied or pickled: fork() makes a second one in the same state")
+
+
+def line_of(command: str | bytes) -> bytes:
+    """The bytes of a line without its line end, as a run reads it."""
+    if not isinstance(command, (str, bytes)):
+        raise TypeError(f"a command is str or bytes, not {type(command).__name__}")
+    line = command.encode() if isinstance(command, str) else command
+    line = line.removesuffix(b"\n").removesuffix(b"\r")
+    if b"\n" in line:
+        raise ValueError("one line is answered at a time")
+    return line

@@ -1,9 +1,9 @@
-"""Tests of replies, and of engines over the shared library that RUSBOQAN_LIBRARY names. The latter are skipped where there is none."""
+"""Tests of engines over the shared library that RUSBOQAN_LIBRARY names. They are skipped where it names none."""
 
 import os
 import unittest
 
-from rusboqan import AirportRefused, Engine, Label, Reply, Step, version
+from rusboqan import AirportRefused, Engine, FlightRow, Held, Label, Step, Window, version
 
 AIRPORT = b"""taxi-airport,1
 horizon,3600
@@ -18,23 +18,6 @@ seconds,B,M,20
 """
 
 
-class TestReply(unittest.TestCase):
-    def test_batch(self):
-        reply = Reply(b"batch 2 1000050\nnext F2\nno-route 1\nlabel A+ 0 100 30\nnext F1\nroute F1 150 2 0\nstep A+ 100 130\nstep B+ 130 150\n")
-        self.assertEqual((reply.kind, reply.total, reply.flight, reply.steps, reply.labels), ("batch", 1000050, None, [], []))
-        (one, none), (other, route) = reply.entries
-        self.assertEqual((one, none.kind, none.labels), ("F2", "no-route", [Label("A+", 0, 100, 30)]))
-        self.assertEqual((other, route.second, route.steps), ("F1", 150, [Step("A+", 100, 130), Step("B+", 130, 150)]))
-
-    def test_late(self):
-        reply = Reply(b"late F1 2\nnext F1\nroute F1 320 1 0\nstep A+ 100 320\ndropped X1\n")
-        self.assertEqual((reply.kind, reply.flight, reply.total), ("late", "F1", None))
-        self.assertEqual([(flight, entry.kind, entry.flight) for flight, entry in reply.entries], [("F1", "route", "F1"), ("X1", "dropped", "X1")])
-
-    def test_no_entries(self):
-        self.assertEqual(Reply(b"windows A 1\nwindow 0 100\n").entries, [])
-
-
 @unittest.skipUnless("RUSBOQAN_LIBRARY" in os.environ, "RUSBOQAN_LIBRARY names no library")
 class TestEngine(unittest.TestCase):
     def test_route(self):
@@ -47,8 +30,27 @@ class TestEngine(unittest.TestCase):
     def test_refusal_and_comment(self):
         with Engine(AIRPORT) as engine:
             self.assertEqual(engine.answer("cancel F1").why, "not-in-force")
-            self.assertIsNone(engine.answer("# a comment"))
+            self.assertFalse(engine.answer("# a comment"))
             self.assertEqual(engine.answer_bytes(b""), b"")
+
+    def test_reports(self):
+        with Engine(AIRPORT) as engine:
+            engine.answer("file F1 M 0 A+ 30")
+            self.assertEqual(engine.answer("windows A").windows, [Window(30, 3600)])
+            self.assertEqual(engine.answer("occupancy A").held, [Held(0, 30, "F1", "A")])
+            self.assertEqual(engine.answer("timetable").flights, [FlightRow("F1", "filed", "M", 0, 30)])
+
+    def test_a_choice(self):
+        with Engine(AIRPORT) as engine:
+            self.assertEqual(engine.answer("arrival-any F1 M R 100 0 S").node, "S")
+
+    def test_a_fork(self):
+        with Engine(AIRPORT) as engine:
+            engine.answer("arrival F1 M R S 100 0")
+            with engine.fork() as second:
+                second.answer("cancel F1")
+                self.assertEqual(second.answer("timetable").flights, [])
+            self.assertEqual(engine.answer("timetable").flights, [FlightRow("F1", "arrival", "M", 100, 150)])
 
     def test_two_engines_are_apart(self):
         with Engine(AIRPORT) as one, Engine(AIRPORT) as other:
