@@ -9,6 +9,7 @@ from day_replay.airport import BadFile, read_airport
 from day_replay.statuses import Status
 from day_study.delays import read_rule
 from day_study.drawing import check_scopes, read_closures
+from day_study.finish import finish
 from day_study.problem import DayFailed, Refused
 from day_study.routing import Desk, Router, engine_class
 from day_study.study import Bench, Study
@@ -139,15 +140,17 @@ def make(told):
     with tempfile.TemporaryDirectory(prefix="many_days-") as scratch:
         study = study_of(told, scratch)
         failed = run_days(told, study, scratch)
+        if told.part == (1, 1):
+            finish(study, scratch, told)
     if failed:
         print(f"many_days: {len(failed)} of {study.days} days failed", file=sys.stderr)
     return Status.WRONG if failed else Status.DONE
 
 
-def main():
-    """Does what the words ask for, or says in one line why not."""
+def main(given=None):
+    """Does what the words ask for, or says in one line why not. The words are those of the command line if none are given."""
     words = parser()
-    told = words.parse_args()
+    told = words.parse_args(given)
     if not told.merge and not (told.airport and told.day):
         words.error("AIRPORT and DAY are due")
     try:

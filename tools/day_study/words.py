@@ -7,6 +7,7 @@ from pathlib import Path
 
 from day_replay.statuses import Status
 from day_study.drawing import ORDERS
+from day_study.sums import MOST_WORST
 
 TOP = Path(__file__).resolve().parent.parent.parent
 DESCRIPTION = """Routes many days of one plan. On each day every request is some seconds off, and segments may be closed. FOLDER
@@ -33,6 +34,14 @@ def seconds(text):
     """A number of seconds."""
     number = int(text)
     if number < 0:
+        raise ValueError
+    return number
+
+
+def worst(text):
+    """How many days count as the worst."""
+    number = int(text)
+    if not 0 <= number <= MOST_WORST:
         raise ValueError
     return number
 
@@ -80,6 +89,7 @@ def parser():
     add_study(made)
     made.add_argument("--resume", action="store_true", help="go on with a study that was stopped, or add days to it")
     made.add_argument("--map", metavar="MAP", help="a GeoJSON map for the pages of the worst days")
+    made.add_argument("--worst", type=worst, default=10, metavar="W", help="of how many of the worst days there are pages (default 10)")
     made.add_argument("--part", type=part, default=(1, 1), metavar="K/N", help="run the K-th of N parts, into FOLDER/parts")
     made.add_argument("--merge", action="store_true", help="put the parts in FOLDER together; AIRPORT and DAY are left out")
     made.add_argument("--dask", metavar="ADDRESS", help="hand the days to the workers of a Dask scheduler")

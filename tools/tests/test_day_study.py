@@ -3,6 +3,8 @@
 In the plan F1 has the segment A from 100 to 130. F2 asks for 110, is held for 20 seconds and has it from 130 to 160. G1 leaves its
 stand at 260 and is at the runway node at 300.
 """
+import contextlib
+import io
 import os
 import signal
 import subprocess
@@ -10,6 +12,8 @@ import sys
 import tempfile
 import time
 import unittest
+from collections import Counter
+from html.parser import HTMLParser
 from pathlib import Path
 
 TOOLS = Path(__file__).resolve().parent.parent
@@ -18,10 +22,13 @@ sys.path.insert(0, str(TOOLS))
 from day_replay.airport import read_airport
 from day_study.delays import read_rule, rule_for
 from day_study.drawing import Closure, day_of, text_of
+from day_study.main import main
 from day_study.plan import read_plan
+from day_study.plots import bins_of, ticks
 from day_study.problem import Refused
 from day_study.routing import Router
 from day_study.study import Study
+from day_study.sums import quantile
 from day_study.writing import cut_after, days_of
 
 STAND_IN = Path(__file__).resolve().parent / "stand_in_taxi.py"
@@ -58,6 +65,8 @@ class StudyTest(unittest.TestCase):
         place = tempfile.TemporaryDirectory()
         self.addCleanup(place.cleanup)
         self.place = Path(place.name)
+        self.addCleanup(os.chdir, os.getcwd())
+        os.chdir(self.place)
         # Python begins sooner without its site's packages.
         self.stand_in = self.place / "stand_in"
         self.stand_in.write_text(f"#!{sys.executable} -SE\n" + STAND_IN.read_text())
@@ -67,14 +76,14 @@ class StudyTest(unittest.TestCase):
 
     def words(self, *words, out="out", program=None, jobs=2, engine="no"):
         """The words of a call."""
-        given = ["--out", out, "--jobs", str(jobs), "--engine", engine]
+        given = ["--out", out, "--jobs", str(jobs), "--engine", engine, "--worst", "0"]
         return [sys.executable, str(TOOLS / "many_days"), "airport.csv", "plan.txt", *given, "--program", str(program or self.stand_in), *words]
 
     def call(self, *words, **more):
-        """The status of a call and the lines that it says on standard error, without progress."""
-        ran = subprocess.run(self.words(*words, **more), cwd=self.place, capture_output=True, text=True, check=False)
-        self.assertNotIn("Traceback", ran.stderr)
-        return ran.returncode, [line for line in ran.stderr.splitlines() if " a second, " not in line]
+        """The status of a call in this process, and the lines that it says on standard error, without progress."""
+        with contextlib.redirect_stderr(io.StringIO()) as said:
+            status = main(self.words(*words, **more)[2:])
+        return status, [line for line in said.getvalue().splitlines() if " a second, " not in line]
 
     def made(self, *words, **more):
         """A call that ends well."""
@@ -152,6 +161,76 @@ class Rows(StudyTest):
             "1,G1,departure,H,S1,R,300,0,filed,260,300,40,0,0,0,0,0",
         ])
         self.assertEqual(self.lines("days.csv")[1], "1,done,3,2,0,0,1,70,0,20,20,20,2,2,0")
+
+
+class Parts(HTMLParser):
+    """The tags of a page, and where its links lead."""
+
+    def __init__(self, text):
+        super().__init__()
+        self.open, self.tags, self.links = [], Counter(), []
+        self.feed(text)
+
+    def handle_starttag(self, tag, attrs):
+        self.tags[tag] += 1
+        self.links += [value for name, value in attrs if name in ("href", "src")]
+        if tag not in ("meta", "rect", "line", "polyline"):
+            self.open.append(tag)
+
+    def handle_startendtag(self, tag, attrs):
+        self.tags[tag] += 1
+
+    def handle_endtag(self, tag):
+        if tag != "rect":
+            assert self.open.pop() == tag, tag
+
+
+class SumsOfRows(StudyTest):
+    """What the rows come to, and the page."""
+
+    def test_sums(self):
+        self.made("--days", "2", "--delay", "uniform:10,10")
+        sums = self.lines("sums.csv")
+        self.assertEqual(sums[0], "group,name,measure,count,sum,mean,least,q05,q25,q50,q75,q95,q99,most")
+        # Taxi times are four times 30 and twice 40; delays are four times 0 and twice 20.
+        self.assertEqual(sums[1], "all,all,taxi,6,200,33.33,30,30,30,30,40,40,40,40")
+        self.assertEqual(sums[4], "all,all,delay,6,40,6.67,0,0,0,0,20,20,20,20")
+        self.assertIn("kind,departure,taxi,2,80,40.00,40,40,40,40,40,40,40,40", sums)
+        self.assertIn("class,M,delay,4,40,10.00,0,0,0,0,20,20,20,20", sums)
+        self.assertIn("stand,S1,delay,6,40,6.67,0,0,0,0,20,20,20,20", sums)
+        self.assertIn("segment,A,seconds,2,200,100.00,100,100,100,100,100,100,100,100", sums)
+        self.assertIn("day,all,delay,2,40,20.00,20,20,20,20,20,20,20,20", sums)
+        self.assertEqual(self.lines("by_flight.csv")[2], "F2,arrival,M,S1,2,2,0,0,0,2,2,0.0000,1.0000,1.0000,20.00,20")
+        self.assertEqual(self.lines("by_segment.csv")[1], "A,2,1.0000,6,200,0,40,2,20.00,20,20,20,20,20,20,20")
+
+    def test_a_flight_without_a_route(self):
+        (self.place / "close.csv").write_text("A,90,150\n")
+        self.made("--days", "3", "--close", "close.csv")
+        self.assertEqual(self.lines("by_flight.csv")[2], "F2,arrival,M,S1,3,0,3,0,0,0,0,1.0000,0.0000,0.0000,0.00,0")
+        page = (self.place / "out" / "page.html").read_text()
+        self.assertIn("<title>F2: 100 %</title>", page)
+
+    def test_quantiles(self):
+        counts = Counter({0: 90, 7: 9, 1000: 1})
+        self.assertEqual([quantile(counts, 100, share) for share in (5, 90, 91, 99, 100)], [0, 0, 7, 7, 1000])
+
+    def test_the_page(self):
+        self.made("--days", "4", "--delay", "uniform:-20,20", "--worst", "2")
+        page = (self.place / "out" / "page.html").read_text()
+        parts = Parts(page)
+        self.assertEqual((parts.open, parts.tags["script"]), ([], 0))
+        self.assertEqual(len(parts.links), 2)
+        days = [row.split(",") for row in self.lines("days.csv")[1:]]
+        worst = sorted(days, key=lambda row: (int(row[3]) - int(row[2]), -int(row[10]), int(row[0])))
+        self.assertEqual(parts.links, [f"worst/day-{row[0]}.html" for row in worst[:2]])
+        for link in parts.links:
+            self.assertIn("<title>", (self.place / "out" / link).read_text())
+        self.assertIn("default-src 'none'", page)
+
+    def test_ticks(self):
+        self.assertEqual(ticks(100), [0, 20, 40, 60, 80, 100])
+        self.assertEqual(ticks(7), [0, 2, 4, 6, 8])
+        self.assertEqual(bins_of(Counter({0: 1, 9: 2, 10: 3}))[0], [(k, {0: 1, 9: 2, 10: 3}.get(k, 0)) for k in range(11)])
 
 
 class SameBytes(StudyTest):
