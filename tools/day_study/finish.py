@@ -53,7 +53,7 @@ class Worst:
 
 
 def finish(study, scratch, told):
-    """Writes what follows from the rows in the folder."""
+    """Writes what follows from the rows in the folder. Gives the number of days that failed."""
     folder, settings = Path(told.out), study.settings()
     sums = sums_of(folder, settings["limit"])
     write_sums(folder, sums)
@@ -64,3 +64,4 @@ def finish(study, scratch, told):
     for day in days:
         if day not in links:
             print(f"many_days: the page of day {day} could not be made", file=sys.stderr)
+    return sums.failed

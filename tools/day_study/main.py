@@ -7,6 +7,7 @@ from pathlib import Path
 
 from day_replay.airport import BadFile, read_airport
 from day_replay.statuses import Status
+from day_study.dask_workers import Dask
 from day_study.delays import read_rule
 from day_study.drawing import check_scopes, read_closures
 from day_study.finish import finish
@@ -15,7 +16,7 @@ from day_study.routing import Desk, Router, engine_class
 from day_study.study import Bench, Study
 from day_study.words import TOP, parser
 from day_study.workers import Processes, chunks_of, in_order
-from day_study.writing import MOST_FAILED, Folder, days_of, part_name
+from day_study.writing import MOST_FAILED, Folder, days_of, merge, part_name
 
 INTERRUPTED = 130
 # A line of progress where nobody looks at a terminal.
@@ -55,7 +56,11 @@ def read(name):
 def router_of(told):
     """How the days are routed."""
     program = told.program or str(TOP / "taxi")
-    in_process = told.engine == "yes" or told.engine == "auto" and not told.program and engine_class() is not None
+    # What is installed here says nothing about the workers of a cluster.
+    finds = not (told.program or told.dask) and engine_class() is not None
+    in_process = told.engine == "yes" or told.engine == "auto" and finds
+    if told.dask and not told.program and not in_process:
+        raise Refused("--dask sends the program to the workers, so --program has to name the built one")
     own = str(Path(told.own).absolute()) if told.own else ""
     return Router(program, in_process, own, told.check)
 
@@ -110,11 +115,12 @@ def write_days(folder, workers, first, end, jobs):
 
 def run_days(told, study, scratch):
     """Runs the days that are not there yet. Gives the days that failed."""
-    first, end = days_of(study.days, told.part)
-    folder = Folder(Path(told.out, part_name(told.part)) if told.part != (1, 1) else told.out, first)
+    part = told.part or (1, 1)
+    first, end = days_of(study.days, part)
+    folder = Folder(Path(told.out, part_name(part)) if told.part else told.out, first)
     bench = prepared(study, scratch)
     resumes = told.resume and (folder.path / "study.json").exists()
-    first = folder.resume(study, told.part) if resumes else folder.begin(study, told.part)
+    first = folder.resume(study, part) if resumes else folder.begin(study, part)
     try:
         if first >= end:
             return []
@@ -132,6 +138,8 @@ def run_days(told, study, scratch):
 
 def workers_of(told, study, knowledge, scratch):
     """Those who run the days."""
+    if told.dask:
+        return Dask(study, knowledge, scratch, told.dask)
     return Processes(study, knowledge, scratch, told.jobs)
 
 
@@ -139,20 +147,17 @@ def make(told):
     """What the words ask for. Gives the status."""
     with tempfile.TemporaryDirectory(prefix="many_days-") as scratch:
         study = study_of(told, scratch)
-        failed = run_days(told, study, scratch)
-        if told.part == (1, 1):
-            finish(study, scratch, told)
+        failed = merge(told.out, study) if told.merge else len(run_days(told, study, scratch))
+        if not told.part:
+            failed = finish(study, scratch, told)
     if failed:
-        print(f"many_days: {len(failed)} of {study.days} days failed", file=sys.stderr)
+        print(f"many_days: {failed} of {study.days} days failed", file=sys.stderr)
     return Status.WRONG if failed else Status.DONE
 
 
 def main(given=None):
     """Does what the words ask for, or says in one line why not. The words are those of the command line if none are given."""
-    words = parser()
-    told = words.parse_args(given)
-    if not told.merge and not (told.airport and told.day):
-        words.error("AIRPORT and DAY are due")
+    told = parser().parse_args(given)
     try:
         return int(make(told))
     except Refused as refused:

@@ -83,14 +83,15 @@ def add_running(parser):
 def parser():
     """The parser of the words."""
     made = Arguments(prog="many_days", description=DESCRIPTION)
-    made.add_argument("airport", metavar="AIRPORT", nargs="?", help="the airport file")
-    made.add_argument("day", metavar="DAY", nargs="?", help="the plan: a command file or a schedule")
+    made.add_argument("airport", metavar="AIRPORT", help="the airport file")
+    made.add_argument("day", metavar="DAY", help="the plan: a command file or a schedule")
     made.add_argument("--out", required=True, metavar="FOLDER", help="where the results go")
     add_study(made)
     made.add_argument("--resume", action="store_true", help="go on with a study that was stopped, or add days to it")
     made.add_argument("--map", metavar="MAP", help="a GeoJSON map for the pages of the worst days")
     made.add_argument("--worst", type=worst, default=10, metavar="W", help="of how many of the worst days there are pages (default 10)")
-    made.add_argument("--part", type=part, default=(1, 1), metavar="K/N", help="run the K-th of N parts, into FOLDER/parts")
-    made.add_argument("--merge", action="store_true", help="put the parts in FOLDER together; AIRPORT and DAY are left out")
+    parts = made.add_mutually_exclusive_group()
+    parts.add_argument("--part", type=part, metavar="K/N", help="run the K-th of N parts, into FOLDER/parts")
+    parts.add_argument("--merge", action="store_true", help="put the parts in FOLDER together; the other words are those of the parts")
     made.add_argument("--dask", metavar="ADDRESS", help="hand the days to the workers of a Dask scheduler")
     return made

@@ -135,26 +135,32 @@ def days_of(days, part):
     return 1 + days * (number - 1) // parts, 1 + days * number // parts
 
 
-def merge(path):
-    """Puts the parts below a folder together, and gives the settings of the study."""
+def merge(path, study):
+    """Puts the parts of a study below a folder together."""
+    if Path(path, "study.json").exists():
+        raise Refused(f"{path} has a study already")
     found = sorted((read_settings(it) for it in Path(path, "parts").glob("*-of-*")), key=lambda it: it["part"])
     if not found:
         raise Refused(f"{path} has no parts", 3)
-    count, days = found[0]["part"][1], found[0]["days"]
+    count = found[0]["part"][1]
     if [it["part"] for it in found] != [[number, count] for number in range(1, count + 1)]:
-        raise Refused(f"{path} has the parts {' '.join('/'.join(map(str, it['part'])) for it in found)}, not all of {count}")
-    for it in found:
-        other = [name for name in it if name != "part" and it[name] != found[0][name]]
-        if other:
-            raise Refused(f"{path}: the part {it['part'][0]} of {count} has another {other[0]} than the first")
-    folders = [Folder(Path(path, part_name(it["part"])), days_of(days, it["part"])[0]) for it in found]
-    for folder, it in zip(folders, found):
-        if folder.last_day() + 1 != days_of(days, it["part"])[1]:
-            raise Refused(f"{folder.path} ends with day {folder.last_day()}; --resume goes on with it")
+        raise Refused(f"{path} has the parts {' '.join('{}/{}'.format(*it['part']) for it in found)}, not all of {count}")
+    folders = [part_folder(path, study, it) for it in found]
     join(path, folders)
-    settings = {**found[0], "part": [1, 1]}
-    Path(path, "study.json").write_text(json.dumps(settings, indent=1) + "\n")
-    return settings
+    Path(path, "study.json").write_text(settings_text(study, (1, 1)))
+
+
+def part_folder(path, study, settings):
+    """The folder of a part that is whole, and of this study."""
+    part = tuple(settings["part"])
+    first, end = days_of(study.days, part)
+    folder = Folder(Path(path, part_name(part)), first)
+    for name, value in study.settings().items():
+        if settings.get(name) != value:
+            raise Refused(f"{folder.path} has a study with another {name}: {settings.get(name)} and not {value}")
+    if folder.last_day() + 1 != end:
+        raise Refused(f"{folder.path} ends with day {folder.last_day()} and not {end - 1}; --resume goes on with it")
+    return folder
 
 
 def join(path, folders):

@@ -6,12 +6,14 @@ stand at 260 and is at the runway node at 300.
 import contextlib
 import io
 import os
+import pickle
 import signal
 import subprocess
 import sys
 import tempfile
 import time
 import unittest
+import zipfile
 from collections import Counter
 from html.parser import HTMLParser
 from pathlib import Path
@@ -20,6 +22,7 @@ TOOLS = Path(__file__).resolve().parent.parent
 sys.path.insert(0, str(TOOLS))
 
 from day_replay.airport import read_airport
+from day_study.dask_workers import packages, packed, unpack
 from day_study.delays import read_rule, rule_for
 from day_study.drawing import Closure, day_of, text_of
 from day_study.main import main
@@ -259,6 +262,24 @@ class SameBytes(StudyTest):
         self.made(*self.SPREAD, "--resume", out="grown")
         self.assertEqual(self.rows("grown"), self.rows())
 
+    def test_parts_that_are_merged(self):
+        self.made(*self.SPREAD)
+        for part in ("1/3", "3/3"):
+            self.made(*self.SPREAD, "--part", part, out="merged")
+        self.assertEqual(
+            self.call(*self.SPREAD, "--merge", out="merged"), (1, ["many_days: merged has the parts 1/3 3/3, not all of 3"])
+        )
+        self.made(*self.SPREAD, "--part", "2/3", out="merged")
+        row = (self.place / "merged/parts/2-of-3/days.csv").read_bytes()
+        (self.place / "merged/parts/2-of-3/days.csv").write_bytes(row[:-5])
+        said = "many_days: merged/parts/2-of-3 ends with day 7 and not 8; --resume goes on with it"
+        self.assertEqual(self.call(*self.SPREAD, "--merge", out="merged"), (1, [said]))
+        self.made(*self.SPREAD, "--part", "2/3", "--resume", out="merged")
+        self.made(*self.SPREAD, "--merge", out="merged")
+        self.assertEqual(self.rows(), self.rows("merged"))
+        for name in ("sums.csv", "by_flight.csv", "by_segment.csv", "page.html", "study.json"):
+            self.assertEqual(self.lines(name), self.lines(name, "merged"))
+
     def started(self, *words):
         """A run of slow days that has begun to write them."""
         slow = self.program("sleep 0.1\nexec TAXI \"$@\"\n")
@@ -344,6 +365,10 @@ class Failures(StudyTest):
             (["--close", "close.csv"], 1, "--close close.csv: line 1: the airport has no segment B"),
         ):
             self.assertEqual(self.call(*words), (status, [f"many_days: {said}"]))
+        said = "many_days: --dask sends the program to the workers, so --program has to name the built one"
+        with contextlib.redirect_stderr(io.StringIO()) as told:
+            self.assertEqual(main(["airport.csv", "plan.txt", "--out", "new", "--dask", "tcp://127.0.0.1:1"]), 1)
+        self.assertEqual(told.getvalue().splitlines(), [said])
         status, said = self.call(program="/no/such/program", out="other")
         self.assertEqual((status, said), (1, ["many_days: /no/such/program cannot be run (No such file or directory)"]))
 
@@ -360,6 +385,24 @@ class Failures(StudyTest):
     def test_help(self):
         ran = subprocess.run([str(TOOLS / "many_days"), "--help"], capture_output=True, text=True, check=False)
         self.assertEqual((ran.returncode, ran.stdout[:16]), (0, "usage: many_days"))
+
+
+class SentToWorkers(StudyTest):
+    """What a worker of Dask gets."""
+
+    def test_the_programs_are_written_anew(self):
+        study = study_of(router=Router(str(self.stand_in)))
+        sent = pickle.loads(packed(study, "[[], []]", "key"))
+        (self.place / "worker").mkdir()
+        there = unpack(sent, self.place / "worker")
+        self.assertEqual(there.router.program, str(self.place / "worker" / "program"))
+        ran = subprocess.run([there.router.program, "check", "A", "B"], capture_output=True, text=True, check=False)
+        self.assertEqual(ran.stdout, "ok 0\n")
+        self.assertEqual(there.day(1), study.day(1))
+
+    def test_the_modules(self):
+        with zipfile.ZipFile(packages(self.place)) as archive:
+            self.assertLess({"day_study/study.py", "day_study/page.css", "day_replay/replay.py"}, set(archive.namelist()))
 
 
 class Draws(unittest.TestCase):
