@@ -1,0 +1,1 @@
+"""What the scripts for planners share: runs of taxi-tools, tables for spreadsheets, flights, stands and orders."""
