@@ -1,5 +1,5 @@
 // What stands after the # of the address: where the page opens, and what is chosen. It follows the reader's choices, so that
-// the address can be copied and sent: t=SECOND, flight=NAME, command=K, plan=K, rows=KIND, sort=ORDER, show=MARK, limit=SECONDS,
+// the address can be copied and sent: t=SECOND, flight=NAME, command=K, stand=NAME, plan=K, rows=KIND, sort=ORDER, show=MARK, limit=SECONDS,
 // theme=dark.
 
 // The address changes this many milliseconds after the last change, since browsers bound how often it may.
@@ -10,7 +10,7 @@ class Address {
     Object.assign(this, { view, later: null });
     this.opened = { time: view.time, rows: view.rows, sort: view.sort, limit: view.limit };
     this.take(location.hash);
-    view.listen(["time", "selected", "command", "plan", "rows", "sort", "limit", "filter", "playing", "colours"], () => this.follow());
+    view.listen(["time", "selected", "command", "stand", "plan", "rows", "sort", "limit", "filter", "playing", "colours"], () => this.follow());
     window.addEventListener("hashchange", () => this.take(location.hash));
   }
 
@@ -28,7 +28,8 @@ class Address {
     if (number("plan") !== null) view.set({ plan: wholeBetween(number("plan"), 0, last) });
     if (number("t") !== null) view.moveTo(number("t"));
     if (view.day.holders.has(asked.get("flight"))) view.select(asked.get("flight"));
-    else if (number("command") >= 1 && number("command") <= last) view.set({ command: Math.floor(number("command")), selected: null });
+    else if (number("command") >= 1 && number("command") <= last) view.chooseCommand(Math.floor(number("command")));
+    else if (view.day.standNumber.has(asked.get("stand"))) view.chooseStand(view.day.standNumber.get(asked.get("stand")));
   }
 
   // Changes the address when nothing has changed for a while, and not while the day is played.
@@ -44,6 +45,7 @@ class Address {
       t: view.time === opened.time ? null : Math.floor(view.time),
       flight: view.selected,
       command: view.command,
+      stand: view.stand === null ? null : view.day.nodeName(view.stand),
       plan: view.plan,
       rows: view.rows === opened.rows ? null : view.rows,
       sort: view.sort === opened.sort ? null : view.sort,

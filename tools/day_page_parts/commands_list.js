@@ -33,7 +33,7 @@ class CommandList {
   item(command, k) {
     const button = element(
       "button",
-      { type: "button", onclick: () => this.view.set({ command: this.view.command === k ? null : k, selected: null }) },
+      { type: "button", onclick: () => this.view.chooseCommand(this.view.command === k ? null : k) },
       element("span", { class: "number" }, String(k)),
       element("code", {}, command.text),
       element("span", { class: `said ${command.reply}` }, command.said),

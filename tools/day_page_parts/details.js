@@ -25,11 +25,14 @@ const ENDS = {
 const AS_ASKED =
   "A flight is as asked if its request got a route within its HOLD or QUEUE, or if it was filed as given. Its waits don't count against it, wherever it waits.";
 
+// So many stands are named in the numbers of the day.
+const STANDS_NAMED = 12;
+
 class Details {
   constructor(view, clock) {
     Object.assign(this, { view, clock });
     this.box = byId("details");
-    view.listen(["day", "selected", "command", "limit", "plan"], () => this.draw());
+    view.listen(["day", "selected", "command", "stand", "limit", "plan"], () => this.draw());
     view.listen(["time"], () => this.markStep());
     this.draw();
   }
@@ -40,8 +43,9 @@ class Details {
     const holder = view.selected && view.day.holders.get(view.selected);
     if (holder) replaceChildren(this.box, ...this.ofHolder(holder));
     else if (view.command) replaceChildren(this.box, ...this.ofCommand(view.command));
+    else if (view.stand !== null) replaceChildren(this.box, ...this.ofStand(view.stand));
     else replaceChildren(this.box, ...this.ofNothing());
-    this.box.classList.toggle("filled", Boolean(holder || view.command));
+    this.box.classList.toggle("filled", Boolean(holder || view.command || view.stand !== null));
     this.box.scrollTop = 0;
     this.markStep();
   }
@@ -53,7 +57,8 @@ class Details {
     const counts = countMarks(view);
     const inForce = day.inForceAfter(view.plan === null ? day.commands.length : view.plan);
     const waits = inForce.reduce((sum, stay) => sum + stay.waited, 0);
-    const twice = [...standUses(view).values()].filter((uses) => overlapsOf(uses).length).length;
+    const uses = standUses(view);
+    const twice = day.stands.filter((stand) => overlapsOf(uses.get(stand) || []).length);
     return [
       element("h2", {}, "The day"),
       this.facts([
@@ -67,8 +72,9 @@ class Details {
       this.facts([
         ["as asked", `${counts.asked} of ${counts.flights}`],
         ...Object.entries(MARKS).map(([mark, text]) => [this.markTerm(mark, text), counts[mark] ? this.markLink(mark, counts[mark]) : "none"]),
-        ["stands with two at once", twice ? this.standsLink(twice) : "none"],
+        ["stands with two at once", twice.length ? this.standsLink(twice.length) : "none"],
       ]),
+      twice.length ? element("p", { class: "hint" }, ...twice.slice(0, STANDS_NAMED).flatMap((stand, k) => [k ? ", " : "", this.standLink(stand)]), twice.length > STANDS_NAMED ? " .." : "") : null,
       element("p", { class: "hint" }, AS_ASKED),
       element("p", { class: "hint" }, "Choose a flight in the list, on the timeline or on the map."),
     ];
@@ -80,12 +86,41 @@ class Details {
   }
 
   markLink(mark, count) {
-    const show = () => this.view.setFilter({ mark });
+    const show = () => {
+      this.view.setFilter({ mark });
+      this.view.showWhole();
+    };
     return element("button", { type: "button", class: "link", onclick: show, title: "Show them in the list" }, `${count} flight${count > 1 ? "s" : ""}`);
   }
 
   standsLink(count) {
     return element("button", { type: "button", class: "link", onclick: () => this.view.set({ rows: "stands" }), title: "Show the rows by stand" }, String(count));
+  }
+
+  standLink(stand) {
+    return element("button", { type: "button", class: "link", onclick: () => this.view.chooseStand(stand) }, this.view.day.nodeName(stand));
+  }
+
+  // Who stands at a stand, in words, and when two are there at once.
+  ofStand(stand) {
+    const { view, clock } = this;
+    const uses = standUses(view).get(stand) || [];
+    const close = element("button", { type: "button", class: "close", "aria-label": "Close", onclick: () => view.letGo() }, "×");
+    const overlaps = overlapsOf(uses).map(({ from, until, uses: both }) =>
+      element("li", { class: "trouble" }, `${both.map((use) => use.label).join(" and ")} at once, ${clock.text(from)} to ${clock.text(until)}`),
+    );
+    const items = uses.map((use) => {
+      const names = [...new Set(use.names)].flatMap((name, k) => [k ? " / " : "", this.link(name)]);
+      return element("li", {}, ...names, `: ${useTimes(clock, use)}`);
+    });
+    return [
+      close,
+      element("h2", {}, `Stand ${view.day.nodeName(stand)}`),
+      items.length ? element("ul", { class: "history" }, ...items) : element("p", {}, "Nobody stands here."),
+      overlaps.length ? element("h3", {}, "Two at once") : null,
+      overlaps.length ? element("ul", { class: "history" }, ...overlaps) : null,
+      view.rows === "stands" ? null : element("button", { type: "button", onclick: () => view.set({ rows: "stands" }) }, "Show the rows by stand"),
+    ];
   }
 
   facts(rows) {
@@ -97,7 +132,7 @@ class Details {
     const stay = holder.newest;
     const kind = { filed: "filed by hand", work: "work party" }[holder.kind] || holder.kind;
     const heading = element("h2", {}, element("span", { class: `dot ${holder.kind}` }), ` ${holder.name}`);
-    const close = element("button", { type: "button", class: "close", "aria-label": "Close", onclick: () => view.select(null) }, "×");
+    const close = element("button", { type: "button", class: "close", "aria-label": "Close", onclick: () => view.letGo() }, "×");
     const line = element("p", {}, [kind, view.day.className(holder.class), holder.fate].filter(Boolean).join(", "));
     const show = stay && element("button", { type: "button", onclick: () => this.goTo(stay) }, "Show it on its way");
     const versions = holder.stays.map((one, k) => this.version(one, k + 1, holder.stays.length)).reverse();
@@ -122,12 +157,18 @@ class Details {
   versionFacts(stay) {
     const { clock, view } = this;
     if (stay.kind === "work") return [["from", clock.text(stay.begin)], ["until", clock.text(stay.finish)]];
-    const facts = [["way", `${view.day.nodeName(stay.from)} to ${view.day.nodeName(stay.to)}`]];
+    const facts = [["way", element("span", {}, this.nodeText(stay.from), " to ", this.nodeText(stay.to))]];
     if (stay.asked) facts.push(["asked", this.askedText(stay)]);
     facts.push(["taxi time", span(stay.finish - stay.begin)]);
     if (stay.waited) facts.push(["waits", span(stay.waited)]);
     if (stay.held) facts.push([awayText(stay), `${span(stay.held[0])}${stay.held[1] ? ` for ${stay.held[1]}` : ""}`]);
     return facts;
+  }
+
+  // A node's name; that of a stand leads to the stand.
+  nodeText(node) {
+    const { day } = this.view;
+    return day.nodes[node][1] === "stand" ? this.standLink(node) : day.nodeName(node);
   }
 
   askedText(stay) {
@@ -176,7 +217,7 @@ class Details {
     const troubled = new Set(notes.map((note) => note.command));
     const items = numbers.map((k) => {
       const command = day.commands[k - 1];
-      const open = element("button", { type: "button", class: "link", onclick: () => this.view.set({ command: k, selected: null }) }, String(k));
+      const open = element("button", { type: "button", class: "link", onclick: () => this.view.chooseCommand(k) }, String(k));
       return element("li", { class: troubled.has(k) ? "trouble" : null }, open, " ", element("code", {}, command.text), element("br"), command.said);
     });
     return element("ul", { class: "history" }, ...items);
@@ -185,7 +226,7 @@ class Details {
   ofCommand(k) {
     const { view, clock } = this;
     const command = view.day.commands[k - 1];
-    const close = element("button", { type: "button", class: "close", "aria-label": "Close", onclick: () => view.set({ command: null }) }, "×");
+    const close = element("button", { type: "button", class: "close", "aria-label": "Close", onclick: () => view.letGo() }, "×");
     const names = [...new Set(view.day.stays.filter((stay) => stay.opened === k || stay.closed === k).map((stay) => stay.name))];
     for (const name of command.names) if (view.day.holders.has(name) && !names.includes(name)) names.push(name);
     const facts = [["line of the file", String(command.line)], ["counts as told at", clock.text(command.told)]];

@@ -57,9 +57,17 @@ class TimelineDrawing {
     const { pen, place, colours } = this;
     const chosen = row.holder && row.holder.name === this.view.selected;
     const colour = this.labelColour(row);
-    let text = row.label;
-    while (text.length > 1 && pen.width(text) > place.left - 14) text = text.slice(0, -1);
-    pen.text(place.left - 8, y + place.row / 2, text === row.label ? text : `${text.slice(0, -1)}…`, { fill: colour, align: "right", bold: chosen });
+    pen.text(place.left - 8, y + place.row / 2, this.shortened(row.label, place.left - 14), { fill: colour, align: "right", bold: chosen });
+  }
+
+  // A text cut to so many pixels in its middle, since names often differ at their ends.
+  shortened(text, room) {
+    const { pen } = this;
+    if (pen.width(text) <= room) return text;
+    const end = text.slice(-5);
+    let begin = text.slice(0, -5);
+    while (begin.length > 1 && pen.width(`${begin}…${end}`) > room) begin = begin.slice(0, -1);
+    return `${begin}…${end}`;
   }
 
   // Who is out of force is pale, and a stand that two stand at is red.

@@ -40,7 +40,7 @@ class Keys {
       s: () => view.set({ rows: ROW_KINDS[(ROW_KINDS.indexOf(view.rows) + 1) % ROW_KINDS.length] }),
       "/": () => byId("filter-text").focus(),
       "?": () => byId("help").showModal(),
-      Escape: () => view.set({ selected: null, command: null }),
+      Escape: () => view.letGo(),
     };
     return actions[key];
   }

@@ -126,6 +126,7 @@ class Day {
     this.nodes = data.nodes;
     this.kinds = new Map(data.nodes);
     this.stands = this.namedInOrder("stand");
+    this.standNumber = new Map(this.stands.map((stand) => [this.nodeName(stand), stand]));
     this.stays = data.stays.map((stay) => new Stay(stay, this));
     this.markReplaced();
     this.notes = data.notes.map((note) => ({ ...note, second: note.at === null ? this.commands[note.command - 1].told : note.at }));

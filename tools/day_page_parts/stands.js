@@ -1,14 +1,15 @@
 // Who stands where from when to when, as far as the arrivals and departures tell.
 
 // An aircraft at a stand: brought by an arrival, taken away by a departure. One of the two may be missing: then it isn't known
-// since when it is there, or until when.
+// since when it is there, or until when. `stuck` is the name of a departure that it asked for and didn't get.
 class StandUse {
   constructor(stand, arrival, departure, from, until) {
-    Object.assign(this, { stand, arrival, departure, from, until, lane: 0 });
+    Object.assign(this, { stand, arrival, departure, from, until, stuck: null, lane: 0 });
   }
 
   get names() {
-    return [this.arrival, this.departure].filter(Boolean).map((stay) => stay.name);
+    const names = [this.arrival, this.departure].filter(Boolean).map((stay) => stay.name);
+    return this.stuck ? [...names, this.stuck] : names;
   }
 
   get label() {
@@ -46,8 +47,20 @@ function standMoves(view) {
     if (until > stay.begin) add(stay, stay.from, stay.begin, false);
     if (until >= stay.finish) add(stay, stay.to, stay.finish, true);
   }
+  addStuck(view, moves);
   for (const list of moves.values()) list.sort((a, b) => a.second - b.second || a.comes - b.comes);
   return moves;
+}
+
+// Departures that asked and never got a route: who stays for them is not there for the next departure.
+function addStuck(view, moves) {
+  const { day, plan } = view;
+  for (const holder of day.holders.values()) {
+    const note = holder.notes.find(({ ends, command }) => ends && (plan === null || command <= plan));
+    if (holder.stays.length || holder.kind !== "departure" || !note) continue;
+    const list = moves.get(day.standNumber.get(note.ends[0]));
+    if (list) list.push({ stuck: holder.name, second: note.second, comes: false });
+  }
 }
 
 // A departure takes the arrival of its own name where there is one, otherwise the one that came first of those that are there.
@@ -55,15 +68,18 @@ function pairMoves(stand, moves, end) {
   const uses = [];
   let here = [];
   let empty = 0;
-  for (const { stay, second, comes } of moves) {
-    if (comes) here.push(new StandUse(stand, stay, null, second, end));
-    else {
-      const use = here.find((one) => one.arrival.name === stay.name) || here[0] || new StandUse(stand, null, stay, empty, second);
-      Object.assign(use, { departure: stay, until: second });
-      uses.push(use);
-      here = here.filter((one) => one !== use);
-      empty = second;
+  for (const { stay, stuck, second, comes } of moves) {
+    if (comes) {
+      here.push(new StandUse(stand, stay, null, second, end));
+      continue;
     }
+    const first = here.find((one) => one.arrival.name === (stuck || stay.name)) || here[0];
+    if (stuck && !first) continue;
+    const use = first || new StandUse(stand, null, stay, empty, second);
+    Object.assign(use, stuck ? { stuck } : { departure: stay, until: second });
+    uses.push(use);
+    here = here.filter((one) => one !== use);
+    if (!stuck) empty = second;
   }
   return [...uses, ...here].sort((a, b) => a.from - b.from);
 }
@@ -93,7 +109,13 @@ function overlapsOf(uses) {
 
 // A use in words.
 function useText(day, clock, use) {
+  return `${day.nodeName(use.stand)}: ${use.label}, ${useTimes(clock, use)}`;
+}
+
+function useTimes(clock, use) {
   const came = use.arrival ? `from ${clock.text(use.from)}` : "since when isn't known";
-  const left = use.departure ? `to ${clock.text(use.until)}` : "until when isn't known";
-  return `${day.nodeName(use.stand)}: ${use.label}, ${came} ${left}`;
+  if (use.stuck) return `${came}, and stays, since ${use.stuck} got no route`;
+  const left = use.departure ? `${use.arrival ? "to" : "until"} ${clock.text(use.until)}` : "until when isn't known";
+  if (use.arrival && use.departure) return `${came} ${left}`;
+  return `${came}, ${left}`;
 }

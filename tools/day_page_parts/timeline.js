@@ -21,7 +21,7 @@ class Timeline {
     new ResizeObserver(() => this.resize()).observe(this.box);
     view.listen(["day", "rows", "plan", "filter"], () => this.refill());
     view.listen(["from", "to"], () => this.moved());
-    view.listen(["selected", "colours", "limit"], () => this.draw());
+    view.listen(["selected", "stand", "colours", "limit"], () => this.draw());
     view.listen(["selected"], () => this.showSelected());
     view.listen(["time"], () => this.follow());
     this.refill();
@@ -109,9 +109,16 @@ class Timeline {
       drawing.row(row, y);
       return;
     }
-    if (row.kind !== "packed" && row.kind !== "segment" && partOfRow(row, this.view.selected)) this.base.rect(0, y, this.width, ROW, { fill: colours.lit, alpha: 0.16 });
+    if (this.isLit(row)) this.base.rect(0, y, this.width, ROW, { fill: colours.lit, alpha: 0.16 });
     this.base.line([[this.left, y + ROW - 0.5], [this.width, y + ROW - 0.5]], { stroke: colours.line, alpha: 0.5 });
     drawing.label(row, y);
+  }
+
+  // Whether a row is lit as a whole: that of what is chosen.
+  isLit(row) {
+    const { selected, stand } = this.view;
+    if (row.kind === "stand" && row.stand === stand) return true;
+    return (row.kind === "flight" || row.kind === "stand") && Boolean(partOfRow(row, selected));
   }
 
   // The cursor is moved as a whole, so that nothing is drawn anew while the day is played.
@@ -235,9 +242,10 @@ class Timeline {
   click(x, y) {
     const { second, note, row, stay } = this.at(x, y);
     this.box.focus({ preventScroll: true });
-    if (note) this.view.set({ command: note.command, selected: null });
+    if (note) this.view.chooseCommand(note.command);
     else if (stay) this.view.select(stay.name);
     else if (row && row.holder && x < this.left) this.view.select(row.holder.name);
+    else if (row && row.kind === "stand" && x < this.left) this.view.chooseStand(row.stand);
     else if (x >= this.left) this.view.moveTo(second);
   }
 

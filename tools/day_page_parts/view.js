@@ -14,6 +14,7 @@ class View {
     this.plan = null;
     this.selected = null;
     this.command = null;
+    this.stand = null;
     this.playing = false;
     this.colours = null;
     this.filter = { text: "", class: "", kinds: new Set(["arrival", "departure", "filed", "work"]), mark: "all" };
@@ -96,8 +97,8 @@ class View {
 
   // Shows the whole day. Many flights share rows then: with a row for each, few of them would be in sight.
   showWhole() {
-    const { day, rows } = this;
-    const many = rows === "flights" && day.holders.size > ROWS_AT_FIRST;
+    const { rows } = this;
+    const many = rows === "flights" && this.shownHolders().length > ROWS_AT_FIRST;
     this.set({ from: this.first, to: this.last, rows: many ? "packed" : rows });
   }
 
@@ -109,7 +110,19 @@ class View {
   }
 
   select(name) {
-    this.set({ selected: name, command: null });
+    this.set({ selected: name, command: null, stand: null });
+  }
+
+  chooseCommand(number) {
+    this.set({ selected: null, command: number, stand: null });
+  }
+
+  chooseStand(node) {
+    this.set({ selected: null, command: null, stand: node });
+  }
+
+  letGo() {
+    this.set({ selected: null, command: null, stand: null });
   }
 
   setFilter(changes) {
