@@ -48,8 +48,7 @@ class TimelineDrawing {
 
   note(x, y, note) {
     const colour = noteColour(this.colours, note.tone);
-    const points = note.tone === "refused" ? [[x - 5, y - 4], [x + 5, y - 4], [x, y + 5]] : [[x, y - 6], [x + 5, y], [x, y + 6], [x - 5, y]];
-    this.pen.line(points, { fill: colour, stroke: this.colours.paper, closed: true });
+    this.pen.line(noteShape(note.tone, x, y), { fill: colour, stroke: this.colours.paper, closed: true });
   }
 
   // The label of a row, cut to the room that it has.
@@ -107,7 +106,7 @@ class TimelineDrawing {
   // Who stands at a stand, how each comes there and leaves, and where two are there at once.
   standRow(row, y) {
     for (const use of row.uses) this.standUse(use, y);
-    for (const { from, until } of row.overlaps) {
+    for (const { from, until } of row.twice) {
       const seen = this.part(from, until);
       if (seen) this.pen.rect(seen[0], y + 1, Math.max(2, seen[1]), this.place.row - 3, { fill: this.colours.refused, hatched: true, alpha: 0.55 });
     }
@@ -256,4 +255,10 @@ class TimelineDrawing {
     this.pen.circle(x, middle, 6, { fill: this.colours.paper, stroke: colour });
     this.pen.text(x, middle, letter, { fill: colour, size: 9, align: "center", bold: true });
   }
+}
+
+// A triangle for what was refused, and a diamond for what found no route.
+function noteShape(tone, x, y) {
+  if (tone === "refused") return [[x - 5, y - 4], [x + 5, y - 4], [x, y + 5]];
+  return [[x, y - 6], [x + 5, y], [x, y + 6], [x - 5, y]];
 }

@@ -79,7 +79,7 @@ class FlightList {
     const button = element(
       "button",
       { type: "button", class: holder.fate ? "gone" : null, onclick: () => view.select(view.selected === holder.name ? null : holder.name) },
-      element("span", { class: `dot ${holder.kind}` }),
+      element("span", { class: `dot ${holder.kind}`, role: "img", "aria-label": holder.kind }),
       element("span", { class: "name" }, holder.name),
       element("span", { class: "class" }, view.day.className(holder.class)),
       element("span", { class: "times" }, stay ? `${this.clock.text(stay.begin)} – ${this.clock.text(stay.finish)}` : ""),

@@ -29,7 +29,7 @@ class MapDrawing {
     for (const kind of ["runway", "stand"]) {
       for (const [node, point] of day.map.points) if (day.nodes[node][1] === kind) this.node(node, kind, this.place(point), pixels);
     }
-    this.nameTaxiways();
+    this.nameTaxiways(pixels > 60 ? 0.2 : 0.5);
     if (pixels > 60) for (const segment of day.map.lines.keys()) this.nameSegment(segment);
     this.north();
   }
@@ -53,13 +53,13 @@ class MapDrawing {
     this.write(last[0] + 16 * x, last[1] + 12 * y, halves[1], this.colours.ink, 0, how);
   }
 
-  // Each taxiway has its name once, on its longest segment, and again where there is much room.
-  nameTaxiways() {
+  // Each taxiway has its name once, on its longest segment, and again where there is much room. The share says where on a segment.
+  nameTaxiways(share) {
     const named = new Set();
     for (const { segment, name } of this.day.map.taxiways) {
       const line = this.line(segment);
       if (!line.length) continue;
-      const { point } = along(line, 0.5);
+      const { point } = along(line, share);
       this.write(point[0], point[1], name, this.colours.ink, named.has(name) ? 50 : 4, { size: 11 });
       named.add(name);
     }

@@ -94,7 +94,7 @@ class Paper {
       pen.text(width - 12, 17, this.clock.civil ? this.clock.text(this.view.time) : `at second ${this.clock.text(this.view.time)}`, { fill: colours.cursor, size: 13, bold: true, align: "right" });
       if (this.view.day.map) this.placed(pen, colours, width, mapHeight);
       this.timelinePart(pen, rows, { left: 100, right: width - 10, from: this.view.from, to: this.view.to, row: 20 }, top);
-      this.legend(pen, colours, height - 15);
+      this.legend(pen, colours, height - 15, width);
     };
     return this.svg(part, width, height, "d");
   }
@@ -105,12 +105,15 @@ class Paper {
     pen.parts.push("</g>");
   }
 
-  legend(pen, colours, y) {
-    let x = 100;
-    for (const [name, text] of [["arrival", "arrival"], ["departure", "departure"], ["filed", "filed by hand"], ["work", "work party"], ["wait", "waits"], ["refused", "refused"], ["no-route", "no route"]]) {
-      pen.rect(x, y - 5, 14, 10, { fill: colours[name], hatched: name === "work" });
+  legend(pen, colours, y, width) {
+    let x = 12;
+    for (const { paint, text } of legendOf(this.view)) {
+      const wide = 36 + pen.width(text);
+      if (x + wide > width) return;
+      if (paint.sign) pen.line(noteShape(paint.sign, x + 7, y), { fill: colours[paint.sign], closed: true });
+      else pen.rect(x, y - 5, 14, 10, { ...paint, fill: colours[paint.fill], stroke: colours[paint.stroke] });
       pen.text(x + 19, y, text, { fill: colours.ink });
-      x += 36 + pen.width(text);
+      x += wide;
     }
   }
 

@@ -55,7 +55,9 @@ function standRows(view) {
     const lanes = Math.max(1, ...shown.map((use) => use.lane + 1));
     for (let lane = 0; lane < lanes; lane += 1) {
       const label = lane ? `${day.nodeName(stand)} (${lane + 1})` : day.nodeName(stand);
-      rows.push({ kind: "stand", label, stand, uses: shown.filter((use) => use.lane === lane), overlaps, members: [], begin: 0, end: day.horizon });
+      const here = shown.filter((use) => use.lane === lane);
+      const twice = joined(overlaps.filter((overlap) => here.some((use) => overlap.uses.includes(use))));
+      rows.push({ kind: "stand", label, stand, uses: here, overlaps, twice, members: [], begin: 0, end: day.horizon });
     }
   }
   return rows;

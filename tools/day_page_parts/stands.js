@@ -107,6 +107,17 @@ function overlapsOf(uses) {
   return overlaps;
 }
 
+// Times that touch or lie over each other as one.
+function joined(times) {
+  const whole = [];
+  for (const { from, until } of [...times].sort((a, b) => a.from - b.from)) {
+    const last = whole[whole.length - 1];
+    if (last && from <= last.until) last.until = Math.max(last.until, until);
+    else whole.push({ from, until });
+  }
+  return whole;
+}
+
 // A use in words.
 function useText(day, clock, use) {
   return `${day.nodeName(use.stand)}: ${use.label}, ${useTimes(clock, use)}`;
