@@ -103,7 +103,7 @@ class FlightList {
     if (stay.kind === "work") return null;
     const reasons = [];
     const longest = Math.max(...stay.steps.map((step) => step.wait));
-    if (longest > 0 && longest >= view.limit) reasons.push(`longest ${span(longest)}`);
+    if (longest > 0 && longest >= view.limit) reasons.push(longest === stay.waited ? "at one place" : `longest ${span(longest)}`);
     if (stay.steps.some((step) => step.wait && view.day.onRunway(step.segment))) reasons.push("on a runway");
     if (secondsAway(stay) >= Math.max(1, view.limit)) reasons.push(`${span(secondsAway(stay))} ${awayText(stay)}`);
     const text = [stay.waited ? `waits ${span(stay.waited)}` : "", ...reasons].filter(Boolean).join(", ");
