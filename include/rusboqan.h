@@ -20,7 +20,10 @@ extern "C" {
 /* An engine. It is read and written by these calls alone. */
 struct rusboqan;
 
-/* The version of the library: 10000 * major + 100 * minor + patch. */
+/* The version of this header: 10000 * major + 100 * minor + patch. */
+#define RUSBOQAN_VERSION 10300
+
+/* The version of the library, in the same form. */
 uint32_t rusboqan_version(void);
 
 /* Opens an engine over the bytes of an airport file, and writes its handle to *engine. Gives false, and opens nothing, if the

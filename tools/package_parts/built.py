@@ -17,6 +17,8 @@ PROGRAMS = ("taxi", "taxi-tools")
 ARCHIVE = "crates/taxi_library/out/libtaxi_library.a"
 NOT_PASSED = """rt ci has not passed these sources here, or the library is not built: --build does both.
 package: That takes an hour and a half from nothing, by estimate, on four processors of 2.5 GHz, and 4.2 GB for the largest proof."""
+PROVED = "Every function of the programs is proved correct. PROOF.txt beside the package says what shows that."
+UNPROVED = "This package was made of programs given by hand. Nothing shows that they are proved."
 NEWER = ("crates.txt", "crates/*/src", "crates/*/specs")
 
 
@@ -31,6 +33,11 @@ class Built:
     def path(self, name: str) -> str:
         """Where a file of the folder is."""
         return f"{self.folder}/{name}"
+
+    @property
+    def claim(self) -> str:
+        """What the description of a package may say of proofs."""
+        return PROVED if self.gate else UNPROVED
 
 
 def call(*words: str, given: str | None = None) -> str:

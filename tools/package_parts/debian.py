@@ -32,8 +32,9 @@ Multi-Arch: no
 Description: verified airport taxi router
  Rusboqan finds routes for aircraft on the ground of an airport. It answers
  commands one by one, each by the best route among the flights in force.
- Every function of it is proved correct. A checker confirms a transcript
- without searching.
+ A checker confirms a transcript without searching.
+ .
+{claim}
  .
  This package has the programs taxi and taxi-tools, the library for C and
  C++, the Python module rusboqan, and scripts that make pages of a day.
@@ -59,16 +60,25 @@ CHANGELOG = """rusboqan ({version}) unstable; urgency=medium
  -- {maintainer}  {when}
 """
 # The programs and the library are as the toolchain made them, so that their checksums can be compared.
+# Python keeps compiled files beside the module. They come and go with the package.
+INSTALLED = """#!/bin/sh
+set -e
+if [ "$1" = configure ] && command -v py3compile >/dev/null; then
+  py3compile -p rusboqan
+fi
+"""
+REMOVING = """#!/bin/sh
+set -e
+if command -v py3clean >/dev/null; then
+  py3clean -p rusboqan
+fi
+"""
 OVERRIDES = """# The programs and the library are as the toolchain built them, so that their checksums can be compared.
 rusboqan: unstripped-binary-or-object
 rusboqan: unstripped-static-library
-rusboqan: hardening-no-fortify-functions
 # One package has all: programs, library, headers and module.
 rusboqan: package-name-doesnt-match-sonames
-rusboqan: non-dev-pkg-with-shlib-symlink
 rusboqan: link-to-shared-library-in-wrong-package
-# No other package is built over it.
-rusboqan: no-symbols-control-file
 """
 
 
@@ -135,13 +145,16 @@ def controls(identity: Identity, built: Built, tree: Tree) -> Tree:
     """The files that tell of the package."""
     size = sum(len(it.data) for it in tree.values()) // 1024
     major = identity.version.split(".")[0]
-    words = {"maintainer": maintainer(), "size": size, "depends": depends_on(built), "version": identity.version}
+    claim = textwrap.fill(built.claim, 76, initial_indent=" ", subsequent_indent=" ")
+    words = {"maintainer": maintainer(), "size": size, "depends": depends_on(built), "version": identity.version, "claim": claim}
     listed = [f"{hashlib.md5(it.data).hexdigest()}  {place}\n" for place, it in sorted(tree.items()) if not it.link]
     told = Tree()
     told.add("DEBIAN/control", CONTROL.format(**words))
     told.add("DEBIAN/md5sums", "".join(listed))
     told.add("DEBIAN/shlibs", f"librusboqan {major} rusboqan (>= {identity.version})\n")
     told.add("DEBIAN/triggers", "activate-noawait ldconfig\n")
+    told.add("DEBIAN/postinst", INSTALLED, is_program=True)
+    told.add("DEBIAN/prerm", REMOVING, is_program=True)
     return told
 
 

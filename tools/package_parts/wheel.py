@@ -26,6 +26,8 @@ Description-Content-Type: text/markdown
 
 `from rusboqan import Engine` opens an engine over an airport file. The commands `taxi` and `taxi-tools` are installed too; both tell
 their forms with `--help`. `rusboqan/SOURCES.txt` says what this package is made of.
+
+{claim}
 """
 WHEEL = "Wheel-Version: 1.0\nGenerator: rusboqan\nRoot-Is-Purelib: false\nTag: {tag}\n"
 # The commands that pip makes call these, and they become the programs at once.
@@ -76,7 +78,7 @@ def wheel_tree(identity: Identity, built: Built, sources: str) -> Tree:
     tree.add("rusboqan/SOURCES.txt", sources)
     for name in ("LICENSE-APACHE", "LICENSE-MIT"):
         tree.add_file(f"{about}/{name}", f"{identity.top}/{name}")
-    tree.add(f"{about}/METADATA", METADATA.format(version=identity.version))
+    tree.add(f"{about}/METADATA", METADATA.format(version=identity.version, claim=built.claim))
     tree.add(f"{about}/WHEEL", WHEEL.format(tag=tag(built)))
     tree.add(f"{about}/entry_points.txt", "[console_scripts]\ntaxi = rusboqan.programs:taxi\ntaxi-tools = rusboqan.programs:taxi_tools\n")
     return tree
