@@ -40,10 +40,10 @@ class Built:
         return PROVED if self.gate else UNPROVED
 
 
-def call(*words: str, given: str | None = None) -> str:
-    """What a command of the machine writes. Its failure is a problem of one line."""
+def call(*words: str, given: str | None = None, more: dict[str, str] | None = None) -> str:
+    """What a command of the machine writes, with more variables if need be. Its failure is a problem of one line."""
     try:
-        ran = subprocess.run(words, input=given, capture_output=True, text=True, check=False)
+        ran = subprocess.run(words, input=given, capture_output=True, text=True, check=False, env={**os.environ, **(more or {})})
     except OSError as error:
         raise Problem(f"{words[0]} cannot be run ({error.strerror})") from None
     if ran.returncode:

@@ -166,6 +166,6 @@ def write_debian(identity: Identity, built: Built, sources: str, out: str) -> st
     with tempfile.TemporaryDirectory(prefix="rusboqan-deb-") as folder:
         os.chmod(folder, 0o755)
         tree.write(folder, identity.epoch)
-        words = ("env", f"SOURCE_DATE_EPOCH={identity.epoch}", "dpkg-deb", "--root-owner-group", "--threads-max=1", "-Zxz", "--build")
-        call(*words, folder, os.path.join(out, name))
+        words = ("dpkg-deb", "--root-owner-group", "--threads-max=1", "-Zxz", "--build", folder, os.path.join(out, name))
+        call(*words, more={"SOURCE_DATE_EPOCH": str(identity.epoch)})
     return name

@@ -82,6 +82,7 @@ class Packages(PackageTest):
         """The bytes of each file that a call writes."""
         ran = self.call("package", *words, self.out, **how)
         self.assertEqual((ran.returncode, ran.stderr), (0, ""))
+        self.assertRegex(ran.stdout, r"(?m)^taxi needs libc\.so\.6; its highest symbol version is GLIBC_2\.\d+$")
         found = {}
         for name in sorted(os.listdir(self.out)):
             with open(f"{self.out}/{name}", "rb") as file:
@@ -195,6 +196,14 @@ class Packages(PackageTest):
         ran = self.call("package", "--build", self.out, path=f"{self.path}:")
         self.assertEqual((ran.returncode, os.listdir(self.out)), (1, []))
         self.assertIn("rt ci ended with status 1; the end of out/rt-ci.log says why", ran.stderr)
+
+    def test_what_was_there_stays_where_a_package_fails(self):
+        self.write(f"{self.out}/SHA256SUMS", "as it was")
+        self.write(f"{self.path}/dpkg-deb", "#!/bin/sh\necho no room left >&2\nexit 2\n", 0o755)
+        self.addCleanup(os.remove, f"{self.path}/dpkg-deb")
+        ran = self.call("package", "--programs", self.programs, self.out, path=f"{self.path}:")
+        self.assertEqual((ran.returncode, ran.stdout, os.listdir(self.out)), (1, "", ["SHA256SUMS"]))
+        self.assertEqual(ran.stderr, "package: dpkg-deb ended with status 2: no room left\n")
 
     def test_what_is_missing_is_told_in_a_line(self):
         ran = self.call("package", "--programs", "/nowhere", self.out)
