@@ -7,9 +7,10 @@ import subprocess
 import sys
 from dataclasses import dataclass
 
+from endings import Stopped
+
 from .gate import BUILT, NOT_BUILT, Gate, passed_gate, run_gate, toolchain
 from .identity import Identity
-from .problem import Problem
 
 # The calls of the library are all that its shared form shows.
 SHOWN = "RUSBOQAN_%s {\n  global: rusboqan_*;\n  local: *;\n};\n"
@@ -45,10 +46,10 @@ def call(*words: str, given: str | None = None, more: dict[str, str] | None = No
     try:
         ran = subprocess.run(words, input=given, capture_output=True, text=True, check=False, env={**os.environ, **(more or {})})
     except OSError as error:
-        raise Problem(f"{words[0]} cannot be run ({error.strerror})") from None
+        raise Stopped(f"{words[0]} cannot be run ({error.strerror})") from None
     if ran.returncode:
         last = (ran.stderr or ran.stdout).strip().splitlines()
-        raise Problem(f"{words[0]} ended with status {ran.returncode}: {last[-1] if last else 'it says nothing'}")
+        raise Stopped(f"{words[0]} ended with status {ran.returncode}: {last[-1] if last else 'it says nothing'}")
     return ran.stdout
 
 
@@ -74,7 +75,7 @@ def of_folder(folder: str, made: str, major: str) -> Built:
     """What a folder holds, with nothing known of it."""
     for name in (*PROGRAMS, "librusboqan.a"):
         if not os.path.isfile(f"{folder}/{name}"):
-            raise Problem(f"{folder}/{name}: there is no such file; the folder of --programs holds taxi, taxi-tools and librusboqan.a")
+            raise Stopped(f"{folder}/{name}: there is no such file; the folder of --programs holds taxi, taxi-tools and librusboqan.a")
         shutil.copyfile(f"{folder}/{name}", f"{made}/{name}")
     share(f"{made}/librusboqan.a", f"{made}/librusboqan.so", major)
     return Built(made, "files given by hand: nothing here shows that they were built of these sources, or that they are proved")
@@ -91,7 +92,7 @@ def passed(identity: Identity, made: str, is_asked: bool) -> Built:
     top, gate = identity.top, passed_gate(identity)
     archive = f"{top}/{ARCHIVE}"
     if not is_asked and (not gate or has_newer(top, archive)):
-        raise Problem(NOT_PASSED, NOT_BUILT)
+        raise Stopped(NOT_PASSED, NOT_BUILT)
     gate = gate or run_gate(identity)
     build(top, ["taxi_library"] if has_newer(top, archive) else [])
     collect(identity, made)
@@ -104,7 +105,7 @@ def compiled(identity: Identity, made: str, is_asked: bool) -> Built:
     missing = [crate for crate, path in files.items() if has_newer(identity.top, f"{identity.top}/{path}")]
     if missing and not is_asked:
         subprocess.run([f"{identity.top}/tools/build_program", "--tell", *missing], check=False)
-        raise Problem(f"{', '.join(missing)}: not built; add --build to do so", NOT_BUILT)
+        raise Stopped(f"{', '.join(missing)}: not built; add --build to do so", NOT_BUILT)
     build(identity.top, missing)
     collect(identity, made)
     return Built(made, "built of these sources by the toolchain, crate by crate")
@@ -115,7 +116,7 @@ def build(top: str, crates: list[str]) -> None:
     if crates:
         toolchain()
     if crates and subprocess.run([f"{top}/tools/build_program", *crates], check=False).returncode:
-        raise Problem(f"{', '.join(crates)}: could not be built", NOT_BUILT)
+        raise Stopped(f"{', '.join(crates)}: could not be built", NOT_BUILT)
 
 
 def collect(identity: Identity, made: str) -> None:

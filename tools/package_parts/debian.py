@@ -9,10 +9,11 @@ import textwrap
 from datetime import datetime, timezone
 from email.utils import format_datetime
 
+from endings import Stopped
+
 from . import layout
 from .built import Built, call
 from .identity import Identity
-from .problem import Problem
 from .proof import ELF_FILES, highest
 from .symbols import libraries_of
 from .tree import Tree, set_times
@@ -92,7 +93,7 @@ def depends_on(built: Built) -> str:
     names = {it for name in ELF_FILES for it in libraries_of(built.path(name))}
     unknown = sorted(names - set(PACKAGES))
     if unknown:
-        raise Problem(f"no Debian package is known that has {', '.join(unknown)}")
+        raise Stopped(f"no Debian package is known that has {', '.join(unknown)}")
     version = ".".join(map(str, highest(built)))
     needs = {f"libc6 (>= {version})" if PACKAGES[it] == "libc6" else PACKAGES[it] for it in names}
     return ", ".join(sorted({*needs, f"libc6 (>= {version})", "python3 (>= 3.9)"}))

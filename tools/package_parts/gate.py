@@ -9,8 +9,9 @@ import sys
 from dataclasses import asdict, dataclass
 from datetime import datetime, timezone
 
+from endings import Stopped
+
 from .identity import Identity, checksum
-from .problem import Problem
 
 # The programs as `rt ci` builds them, each by its name.
 BUILT = {"taxi": "crates/taxi_cli/out/taxi_cli", "taxi-tools": "crates/taxi_tools/out/taxi_tools"}
@@ -33,7 +34,7 @@ def toolchain() -> str:
     try:
         ran = subprocess.run(["rt", "version"], capture_output=True, text=True, check=False)
     except OSError:
-        raise Problem("the toolchain's command rt is not on the PATH", NOT_BUILT) from None
+        raise Stopped("the toolchain's command rt is not on the PATH", NOT_BUILT) from None
     return ran.stdout.strip()
 
 
@@ -76,7 +77,7 @@ def run_gate(identity: Identity) -> Gate:
     with open(log, encoding="utf-8", errors="replace") as file:
         said = [it.rstrip() for it in file if re.search(r"\d+ passed, \d+ failed|^rt: ok", it)]
     if status or not said:
-        raise Problem(f"rt ci ended with status {status}; the end of out/rt-ci.log says why")
+        raise Stopped(f"rt ci ended with status {status}; the end of out/rt-ci.log says why")
     ended = datetime.now(timezone.utc).isoformat(timespec="seconds")
     gate = Gate(proved_digest(identity), line, ended, said, built_now(identity.top))
     with open(f"{identity.top}/out/rt-ci.json", "w", encoding="utf-8") as out:

@@ -8,7 +8,7 @@ import subprocess
 from dataclasses import dataclass, field
 from datetime import datetime, timezone
 
-from .problem import Problem
+from endings import Stopped
 
 # Folders that hold no source.
 MADE = {"out", "__pycache__", ".git", "build"}
@@ -56,7 +56,7 @@ def version_of(top: str) -> str:
     with open(f"{top}/CHANGELOG.md", encoding="utf-8") as file:
         found = re.search(r"^## (\d+\.\d+\.\d+)\b", file.read(), re.M)
     if not found:
-        raise Problem("CHANGELOG.md has no heading with a version")
+        raise Stopped("CHANGELOG.md has no heading with a version")
     return found[1]
 
 

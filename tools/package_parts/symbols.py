@@ -5,7 +5,7 @@ import os
 import re
 import subprocess
 
-from .problem import Problem
+from endings import Stopped
 
 
 def read_elf(path: str, *flags: str) -> str:
@@ -14,9 +14,9 @@ def read_elf(path: str, *flags: str) -> str:
         plain = {**os.environ, "LC_ALL": "C"}
         ran = subprocess.run(["readelf", "--wide", *flags, path], capture_output=True, text=True, check=False, env=plain)
     except OSError:
-        raise Problem("readelf is needed, of the package binutils") from None
+        raise Stopped("readelf is needed, of the package binutils") from None
     if ran.returncode:
-        raise Problem(f"{path} is no program and no library that readelf can read")
+        raise Stopped(f"{path} is no program and no library that readelf can read")
     return ran.stdout
 
 

@@ -14,8 +14,9 @@ import unittest
 import zipfile
 
 TOP = os.path.dirname(os.path.dirname(os.path.dirname(os.path.abspath(__file__))))
-COPIED = ("package", "install", "taxi", "taxi-tools", "tools/launch.sh", "tools/build_program", "tools/day_page", "tools/package_parts",
-          "include", "python/rusboqan", "examples/choice", "README.md", "CHANGELOG.md", "LICENSE-APACHE", "LICENSE-MIT", "docs/INSTALL.md")
+COPIED = ("package", "install", "taxi", "taxi-tools", "tools/launch.sh", "tools/build_program", "tools/endings.py", "tools/package_parts",
+          "tools/day_replay", "tools/day_page", "include", "python/rusboqan", "examples/choice", "README.md", "CHANGELOG.md",
+          "LICENSE-APACHE", "LICENSE-MIT", "docs/INSTALL.md")
 with open(f"{TOP}/CHANGELOG.md", encoding="utf-8") as file:
     VERSION = re.search(r"^## (\d+\.\d+\.\d+)", file.read(), re.M)[1]
 # 2026-12-02T00:00:00 in UTC.
