@@ -151,12 +151,12 @@ build_or_tell() {
     else
       say "the program is older than ${cause#"$here/"}"
     fi
-    "$here/tools/build_program" --tell $crate
+    "$here/tools/build_program" $crate
     say "add --build before the words to do so, or --unproved to run with nothing proved"
     exit 70
   fi
   need_toolchain
-  "$here/tools/build_program" $crate || exit 70
+  "$here/tools/build_program" --build $crate || exit 70
 }
 
 case "${1-}" in

@@ -104,7 +104,7 @@ def compiled(identity: Identity, made: str, is_asked: bool) -> Built:
     files = {os.path.basename(os.path.dirname(os.path.dirname(it))): it for it in (*BUILT.values(), ARCHIVE)}
     missing = [crate for crate, path in files.items() if has_newer(identity.top, f"{identity.top}/{path}")]
     if missing and not is_asked:
-        subprocess.run([f"{identity.top}/tools/build_program", "--tell", *missing], check=False)
+        subprocess.run([f"{identity.top}/tools/build_program", *missing], check=False)
         raise Stopped(f"{', '.join(missing)}: not built; add --build to do so", NOT_BUILT)
     build(identity.top, missing)
     collect(identity, made)
@@ -115,7 +115,7 @@ def build(top: str, crates: list[str]) -> None:
     """Proves and builds crates."""
     if crates:
         toolchain()
-    if crates and subprocess.run([f"{top}/tools/build_program", *crates], check=False).returncode:
+    if crates and subprocess.run([f"{top}/tools/build_program", "--build", *crates], check=False).returncode:
         raise Stopped(f"{', '.join(crates)}: could not be built", NOT_BUILT)
 
 

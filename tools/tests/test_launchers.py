@@ -74,7 +74,7 @@ class Building(Checkout):
         ran = self.run_it("taxi", "route", "airport.csv", "day.txt")
         self.assertEqual((ran.returncode, ran.stdout, self.asked()), (70, "", ""))
         self.assertIn("taxi: the program is not built yet\n", ran.stderr)
-        self.assertRegex(ran.stderr, r"2 crates\. From nothing that takes some \d+ minutes")
+        self.assertRegex(ran.stderr, r"of 2 crates\. From nothing .*\n.* some \d+ minutes")
         self.assertIn("add --build before the words", ran.stderr)
 
     def test_an_old_program_is_told_of(self):
