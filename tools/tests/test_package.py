@@ -226,6 +226,18 @@ class Install(PackageTest):
             self.assertEqual(run(f"{self.out}/caller", env={}).returncode, 0)
 
 
+    def test_removing_takes_out_what_was_installed_and_no_more(self):
+        self.write(f"{self.out}/bin/other", "")
+        for _ in range(2):
+            self.assertEqual(self.call("install", "--programs", self.programs, self.out).returncode, 0)
+        self.write(f"{self.out}/lib/rusboqan/examples/mine.txt", "")
+        self.assertEqual(self.call("install", "--remove", self.out).returncode, 0)
+        left = sorted(f"{at}/{it}".removeprefix(f"{self.out}/") for at, _, files in os.walk(self.out) for it in files)
+        self.assertEqual((left, sorted(os.listdir(self.out))), (["bin/other", "lib/rusboqan/examples/mine.txt"], ["bin", "lib"]))
+        again = self.call("install", "--remove", self.out)
+        self.assertEqual((again.returncode, again.stderr.count("\n")), (1, 1))
+
+
 class Helps(unittest.TestCase):
     """Man pages and completions have the verbs that --help tells."""
 
