@@ -4,10 +4,12 @@
 
 #include "rusboqan.h"
 
+#include <cassert>
 #include <memory>
 #include <optional>
 #include <string>
 #include <string_view>
+#include <utility>
 
 namespace rusboqan_detail {
 struct Closes {
@@ -20,29 +22,70 @@ inline const uint8_t *bytes_of(std::string_view text) {
 }
 }
 
+class RusboqanOpened;
+
+// An engine of which this value is the only owner. One that was moved from owns none: it may be destroyed or given another
+// engine, and it may not be asked, which an assertion says.
 class RusboqanEngine {
     std::unique_ptr<struct ::rusboqan, rusboqan_detail::Closes> engine;
 
     explicit RusboqanEngine(struct ::rusboqan *opened) : engine(opened) {}
 
-public:
-    // None if the bytes are not an airport, or memory runs out; rusboqan_why says which.
-    static std::optional<RusboqanEngine> open(std::string_view airport) {
-        struct ::rusboqan *opened = nullptr;
-        if (!rusboqan_open(rusboqan_detail::bytes_of(airport), airport.size(), &opened)) return std::nullopt;
-        return RusboqanEngine(opened);
+    struct ::rusboqan *asked() const {
+        assert(engine && "this RusboqanEngine was moved from");
+        return engine.get();
     }
 
-    // The reply to one command; empty if the line is a comment or blank.
+public:
+    // An engine over the bytes of an airport file, or why there is none.
+    static RusboqanOpened open(std::string_view airport);
+
+    // The reply to one command; empty if the line is a comment or blank. The line comes without its line feed, and without a
+    // carriage return before that.
     std::string answer(std::string_view line) { return std::string(answer_view(line)); }
 
     // The same where it lies in the engine: it can be read until the next call for this engine, or until its owner ends.
     std::string_view answer_view(std::string_view line) & {
         const uint8_t *text = nullptr;
-        const std::size_t length = rusboqan_answer(engine.get(), rusboqan_detail::bytes_of(line), line.size());
-        if (length) rusboqan_text(engine.get(), &text);
+        const std::size_t length = rusboqan_answer(asked(), rusboqan_detail::bytes_of(line), line.size());
+        if (length) rusboqan_text(asked(), &text);
         return {reinterpret_cast<const char *>(text), length};
     }
 };
+
+// Why no engine was opened.
+struct RusboqanRefusal {
+    uint8_t why = RUSBOQAN_SOUND; // what rusboqan_why gives; RUSBOQAN_SOUND and RUSBOQAN_MEMORY mean that memory ran out
+    uint32_t record = 0;          // with RUSBOQAN_REFUSED, the number of the first record that breaks a rule
+
+    std::string text() const {
+        if (why == RUSBOQAN_REFUSED) return "record " + std::to_string(record) + " breaks a rule";
+        return why == RUSBOQAN_TOO_LARGE ? "more than 4,194,304 bytes" : "memory ran out";
+    }
+};
+
+// An engine, or why there is none. It is used as the std::optional that it is, and error() tells the reason.
+class RusboqanOpened : public std::optional<RusboqanEngine> {
+    RusboqanRefusal refusal;
+
+public:
+    RusboqanOpened(RusboqanEngine &&engine) : std::optional<RusboqanEngine>(std::move(engine)) {}
+    RusboqanOpened(RusboqanRefusal why) : refusal(std::move(why)) {}
+
+    // Why there is no engine. To be asked only where there was none from the beginning.
+    const RusboqanRefusal &error() const {
+        assert(!has_value() && "there is an engine, and so no error");
+        return refusal;
+    }
+};
+
+inline RusboqanOpened RusboqanEngine::open(std::string_view airport) {
+    const uint8_t *bytes = rusboqan_detail::bytes_of(airport);
+    struct ::rusboqan *opened = nullptr;
+    if (rusboqan_open(bytes, airport.size(), &opened)) return RusboqanEngine(opened);
+    RusboqanRefusal refusal;
+    refusal.why = rusboqan_why(bytes, airport.size(), &refusal.record);
+    return refusal;
+}
 
 #endif
