@@ -15,7 +15,9 @@ from .engine import Engine, version
 from .errors import AirportRefused
 from .library import VERSION as __version__
 from .reply import Comment, FlightRow, Held, Label, Reply, Step, Window
+from .tables import Explanation, PlanRow, Wait
 
 __all__ = [
-    "AirportRefused", "Asked", "Comment", "Engine", "FlightRow", "Held", "Label", "Reply", "Step", "Window", "__version__", "version",
+    "AirportRefused", "Asked", "Comment", "Engine", "Explanation", "FlightRow", "Held", "Label", "PlanRow", "Reply", "Step", "Wait",
+    "Window", "__version__", "version",
 ]

@@ -11,10 +11,13 @@ from typing import Callable, NoReturn, TypeVar
 
 from .asked import Asked, Heads
 from .errors import AirportRefused
-from .library import bytes_at, library, version_text
+from .library import NO_MEMORY, NO_START, bytes_at, later_call, library, version_text
 from .reply import Comment, Reply
+from .tables import Explanation, PlanRow, plan_rows
 
 SOUND, REFUSED, TOO_LARGE, MEMORY = range(4)
+# The word of a rule has at most so many bytes.
+LONGEST_RULE = 64
 Found = TypeVar("Found")
 
 
@@ -45,7 +48,7 @@ class Engine:
         self._is_inside = False
         self._process = os.getpid()
         self._log: list[bytes] | None = [] if keep_log else None
-        self._lines = self._commands = 0
+        self._lines = self._commands = self._line_of_command = 0
         self._heads = Heads(airport)
         self._handle = self._opened()
 
@@ -60,9 +63,19 @@ class Engine:
         if self._calls.rusboqan_open(self._airport, len(self._airport), ctypes.byref(handle)):
             return handle.value
         why = self._calls.rusboqan_why(self._airport, len(self._airport), ctypes.byref(record))
-        if why in (REFUSED, TOO_LARGE):
-            raise AirportRefused(record.value if why == REFUSED else None)
+        if why == REFUSED:
+            raise AirportRefused(record.value, self._rule())
+        if why == TOO_LARGE:
+            raise AirportRefused(None)
         raise MemoryError
+
+    def _rule(self) -> str | None:
+        """The word of the rule that the airport breaks, as far as the library tells it."""
+        if not hasattr(self._calls, "rusboqan_rule"):
+            return None
+        room = ctypes.create_string_buffer(LONGEST_RULE)
+        length = self._calls.rusboqan_rule(self._airport, len(self._airport), room, len(room))
+        return room.raw[:length].decode() or None
 
     def answer(self, command: str | bytes) -> Reply:
         """The reply to one command, a line with or without its line end. A comment or a blank line gets a Comment, which is false."""
@@ -97,13 +110,42 @@ class Engine:
                 raise MemoryError
         return second
 
+    def json(self, line: int | None = None) -> str:
+        """The last command and its reply as `taxi-tools json` writes it, with its line feed. `line` is the number of the command's line in
+        a file; without it, lines are counted from the opening of the engine. An empty text if there was no command yet."""
+        return self._alone(self._told, "rusboqan_json", self._line_of_command if line is None else line).decode()
+
+    def plan(self) -> list[PlanRow]:
+        """What is in force: a row for each step of each flight, and for each work party. Times are seconds."""
+        return plan_rows(self.plan_csv())
+
+    def plan_csv(self, start: str = "") -> bytes:
+        """The same as the table that `taxi-tools plan` writes. With `start`, the civil time of second 0, its times are civil times. Raises
+        ValueError if `start` is no civil time."""
+        words = start.encode()
+        return self._alone(self._told, "rusboqan_plan", words, len(words))
+
+    def figures(self) -> dict[str, int]:
+        """The numbers that `taxi-tools figures` writes, by the words before them, as `reply filed`."""
+        lines = self._alone(self._told, "rusboqan_figures").decode().splitlines()
+        return {words: int(number) for words, _, number in (line.rpartition(" ") for line in lines)}
+
+    def checkpoint(self) -> bytes:
+        """What is in force as a command file, as `taxi-tools checkpoint` writes it."""
+        return self._alone(self._told, "rusboqan_checkpoint")
+
+    def explain(self, command: str | bytes) -> Explanation:
+        """Why this line would be answered as it would if it came next. It is not answered. This takes as long as all commands before."""
+        line = line_of(command)
+        return Explanation(self._alone(self._told, "rusboqan_explain", line, len(line)))
+
     def close(self) -> None:
         """Gives the memory back. A second call does nothing. In a process that was forked the parent's engine is let go as it is."""
         if self._handle is not None and self._process == os.getpid():
             self._alone(self._closed)
         self._handle = None
 
-    def _alone(self, call: Callable[..., Found], *given: bytes) -> Found:
+    def _alone(self, call: Callable[..., Found], *given: object) -> Found:
         """Makes a call that nothing else may come between: no other thread, and no signal handler of this one."""
         if self._process != os.getpid():
             raise RuntimeError("this engine is of another process: after a fork, fork() of it makes one for this process")
@@ -129,6 +171,7 @@ class Engine:
     def _taken(self, line: bytes) -> bytes:
         """A copy of the reply to this line, which the engine lends until the next call."""
         self._commands += 1
+        self._line_of_command = self._lines
         # The command has had its effect, also if there is no memory for the copy.
         if self._log is not None:
             self._log.append(line)
@@ -137,6 +180,18 @@ class Engine:
         if self._log is not None and text == b"refused memory\n":
             self._log.pop()
         return text
+
+    def _told(self, name: str, *given: object) -> bytes:
+        """A copy of the text that a call makes."""
+        if self._handle is None:
+            raise ValueError("the engine is closed")
+        length = later_call(self._calls, name)(self._handle, *given)
+        if length == NO_MEMORY:
+            raise MemoryError("memory ran out, for this text or for a command before")
+        if length == NO_START:
+            raise ValueError("the start is no civil time of a year before 2999")
+        length = self._calls.rusboqan_told(self._handle, ctypes.byref(self._text))
+        return bytes_at(self._text.value, length)
 
     def _closed(self) -> None:
         handle, self._handle = self._handle, None

@@ -24,6 +24,21 @@ CALLS: dict[str, tuple[list[Any], Any]] = {
     "rusboqan_close": ([_handle], None),
 }
 
+# Those that came with 1.3.0. An older library works without them.
+LATER_CALLS: dict[str, tuple[list[Any], Any]] = {
+    "rusboqan_rule": ([_bytes, _size, _bytes, _size], _size),
+    "rusboqan_json": ([_handle, ctypes.c_uint64], _size),
+    "rusboqan_plan": ([_handle, _bytes, _size], _size),
+    "rusboqan_figures": ([_handle], _size),
+    "rusboqan_checkpoint": ([_handle], _size),
+    "rusboqan_explain": ([_handle, _bytes, _size], _size),
+    "rusboqan_told": ([_handle, _out], _size),
+}
+
+# What a call that makes a text gives in place of a length, if it makes none.
+NO_MEMORY = ctypes.c_size_t(-1).value
+NO_START = ctypes.c_size_t(-2).value
+
 # From this many bytes on, a length is no C int, and `ctypes.string_at` of many a Python loses its higher part.
 TOO_LONG_FOR_AN_INT = 1 << 31
 
@@ -48,6 +63,9 @@ def _loaded(name: str) -> ctypes.CDLL:
         raise OSError(f"{error}; RUSBOQAN_LIBRARY may say where the library is") from None
     for call, (given, result) in CALLS.items():
         declare(calls, call, given, result)
+    for call, (given, result) in LATER_CALLS.items():
+        if hasattr(calls, call):
+            declare(calls, call, given, result)
     number = calls.rusboqan_version()
     if version_text(number).split(".")[0] != VERSION.split(".")[0]:
         raise OSError(f"{name} is of version {version_text(number)}, and this package is of version {VERSION}: their first numbers differ")
@@ -61,6 +79,13 @@ def declare(calls: ctypes.CDLL, name: str, given: list[Any], result: Any) -> Non
     except AttributeError:
         raise OSError(f"{calls._name} is no library of Rusboqan: it has no call {name}") from None
     call.argtypes, call.restype = given, result
+
+
+def later_call(calls: ctypes.CDLL, name: str) -> Any:
+    """A call that an older library lacks. Raises NotImplementedError if this one does."""
+    if not hasattr(calls, name):
+        raise NotImplementedError(f"the library is of version {version_text(calls.rusboqan_version())}, which has no call {name}")
+    return getattr(calls, name)
 
 
 def bytes_at(address: int | None, length: int) -> bytes:

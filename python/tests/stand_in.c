@@ -17,6 +17,11 @@
 #define MOST_FLIGHTS 64
 #define IN_FORCE "flight %s filed M 0 30\n"
 
+#ifndef RUSBOQAN_NO_MEMORY
+#define RUSBOQAN_NO_MEMORY SIZE_MAX
+#define RUSBOQAN_NO_START (SIZE_MAX - 1)
+#endif
+
 static const size_t HUGE_REPLY = ((size_t)1 << 31) + 5;
 static atomic_long faults, engines;
 
@@ -27,6 +32,9 @@ struct rusboqan {
     uint8_t *text;
     size_t length;
     int is_mapped;
+    int ran_out;
+    int commands;
+    char told[1024];
 };
 
 long stand_in_faults(void) { return faults; }
@@ -131,6 +139,8 @@ size_t rusboqan_answer(struct rusboqan *engine, const uint8_t *line, size_t leng
     if (sscanf(words, "%31s %16s", word, name) < 1 || word[0] == '#') return 0;
     enter(engine);
     forget(engine);
+    engine->commands++;
+    engine->ran_out |= !strcmp(word, "memory");
     if (!strcmp(word, "file")) file(engine, name);
     else if (!strcmp(word, "cancel")) cancel(engine, name);
     else if (!strcmp(word, "timetable")) timetable(engine);
@@ -154,6 +164,64 @@ size_t rusboqan_reply(struct rusboqan *engine, uint8_t *room, size_t size) {
     if (engine->length <= size) memcpy(room, engine->text, engine->length);
     return engine->length;
 }
+
+#ifndef STAND_IN_IS_OLD
+size_t rusboqan_rule(const uint8_t *airport, size_t length, uint8_t *room, size_t size) {
+    (void)airport, (void)length;
+    if (size < 10) return 10;
+    memcpy(room, "no-horizon", 10);
+    return 10;
+}
+
+static size_t tell(struct rusboqan *engine, const char *text) {
+    enter(engine);
+    snprintf(engine->told, sizeof engine->told, "%s", text);
+    leave(engine);
+    return strlen(text);
+}
+
+size_t rusboqan_json(struct rusboqan *engine, uint64_t line) {
+    char text[80];
+    if (engine->ran_out) return RUSBOQAN_NO_MEMORY;
+    if (!engine->commands) return tell(engine, "");
+    snprintf(text, sizeof text, "{\"command\":%d,\"line\":%llu}\n", engine->commands, (unsigned long long)line);
+    return tell(engine, text);
+}
+
+/* Two rows of a plan, of a flight and of a work party. The civil time of second 0 is taken if it begins with 2. */
+size_t rusboqan_plan(struct rusboqan *engine, const uint8_t *start, size_t length) {
+    const char *first = "name,kind,class,from,to,step,segment,direction,tail,head,enter,leave,until,least,wait,slack\n";
+    const char *seconds = "F2,arrival,M,R,S1,1,A,forward,R,J,130,160,160,30,0,340\nW1,work,,J,K,1,C,,J,K,500,560,560,60,0,3040\n";
+    const char *civil = "X1,filed,M,R,J,1,A,forward,R,J,2024-02-29T00:00:10Z,2024-02-29T00:01:10Z,2024-02-29T00:01:10Z,30,30,3440\n";
+    char text[512];
+    if (length && *start != '2') return RUSBOQAN_NO_START;
+    snprintf(text, sizeof text, "%s%s", first, length ? civil : seconds);
+    return tell(engine, text);
+}
+
+size_t rusboqan_figures(struct rusboqan *engine) {
+    return engine->ran_out ? RUSBOQAN_NO_MEMORY : tell(engine, "commands 3\nreply no-route 0\nflights arrival M 2\n");
+}
+
+size_t rusboqan_checkpoint(struct rusboqan *engine) {
+    return tell(engine, engine->count ? "# arrival F1 M R S1 100 0\nfile F1 M 100 A+ 130 B+ 150\n" : "");
+}
+
+size_t rusboqan_explain(struct rusboqan *engine, const uint8_t *line, size_t length) {
+    if (engine->ran_out) return RUSBOQAN_NO_MEMORY;
+    if (length >= 4 && !memcmp(line, "file", 4)) return tell(engine, "refused step 1 taken 150 W1\nheld 150 160 W1 C\n");
+    if (length < 7 || memcmp(line, "arrival", 7)) return tell(engine, "nothing to explain\n");
+    if (memcmp(line, "arrival F1", 10)) return tell(engine, "answer none\nalone 150\nwithout F1 150\nlater 130 180\n");
+    return tell(engine, "answer 320\nalone 150\nwithout X2 150\nhold 130 X1\nwait 1 A+ 40 X2\nwait 2 C+ 15\n");
+}
+
+size_t rusboqan_told(struct rusboqan *engine, const uint8_t **text) {
+    enter(engine);
+    *text = (const uint8_t *)engine->told;
+    leave(engine);
+    return strlen(engine->told);
+}
+#endif
 
 void rusboqan_close(struct rusboqan *engine) {
     enter(engine);

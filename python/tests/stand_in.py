@@ -1,5 +1,6 @@
 """The library that stand_in.c is, compiled for these tests. STAND_IN_FLAGS has further words for the C compiler."""
 
+import atexit
 import ctypes
 import os
 import shlex
@@ -25,7 +26,8 @@ seconds,A,M,30
 seconds,B,M,20
 """
 
-_folder = tempfile.TemporaryDirectory() if COMPILER else None
+_folder = tempfile.TemporaryDirectory()
+atexit.register(_folder.cleanup)
 
 
 def library(name="stand_in", *flags):

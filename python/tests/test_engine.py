@@ -110,7 +110,7 @@ class TestOpening(StandInCase):
     def test_refused_airports(self):
         with self.assertRaises(AirportRefused) as caught:
             Engine(b"no airport", self.library)
-        self.assertEqual(caught.exception.record, 2)
+        self.assertEqual((caught.exception.record, caught.exception.rule), (2, "no-horizon"))
         with self.assertRaises(AirportRefused) as caught:
             Engine(b"\n" * 4_194_305, self.library)
         self.assertIsNone(caught.exception.record)

@@ -1,5 +1,6 @@
-"""Tests of the examples in Python of docs/EMBEDDING.md, one after the other: a type checker takes them, and they print what the page says."""
+"""Tests of the examples in Python of docs/EMBEDDING.md: a type checker takes them, and they print what the page says."""
 
+import asyncio
 import contextlib
 import importlib.util
 import io
@@ -11,7 +12,13 @@ import tempfile
 import unittest
 from pathlib import Path
 
+from rusboqan import Engine
+from rusboqan.library import library as loaded
+
+from stand_in import AIRPORT, StandInCase
+
 TOP = Path(__file__).parents[2]
+PAGE = TOP / "docs" / "EMBEDDING.md"
 MYPY = shutil.which("mypy")
 # What the examples print, as the page shows it, but for the replies of which the page shows the first alone.
 PRINTED = """route 120 ['E1+', 'A12+', 'L2+', 'K1+']
@@ -22,6 +29,8 @@ timetable None []
 2
 150
 ['SWR101']
+190 180 {'SWR101': 180} [Wait(kind='hold', seconds=10, holder='SWR101', step=None, arc=None)]
+[('E1', 40, 7160), ('A12', 75, 7125)]
 """
 TABLE = """    arc  enter  leave
 0   E1+      0     40
@@ -33,7 +42,7 @@ TABLE = """    arc  enter  leave
 
 def examples():
     """The examples of the page in their order: that of pandas alone, and the others."""
-    blocks = re.findall(r"^```python\n(.*?)^```", (TOP / "docs" / "EMBEDDING.md").read_text(encoding="utf-8"), re.M | re.S)
+    blocks = re.findall(r"^```python\n(.*?)^```", PAGE.read_text(encoding="utf-8"), re.M | re.S)
     table = [block for block in blocks if "import pandas" in block]
     return "".join(table), "".join(block for block in blocks if block not in table)
 
@@ -50,7 +59,37 @@ class TestTypes(unittest.TestCase):
         self.assertEqual(ran.returncode, 0, ran.stdout + ran.stderr)
 
 
-@unittest.skipUnless("RUSBOQAN_LIBRARY" in os.environ, "RUSBOQAN_LIBRARY names no library")
+class TestServer(StandInCase):
+    def test_two_ask_the_server(self):
+        block = next(it for it in re.findall(r"^```python\n(.*?)^```", PAGE.read_text(encoding="utf-8"), re.M | re.S) if "asyncio" in it)
+        names = {"Engine": Engine}
+        exec(compile(block, "EMBEDDING.md", "exec"), names)
+        with tempfile.TemporaryDirectory() as folder, Engine(AIRPORT, self.library) as engine:
+            told = asyncio.run(asked_by_two(names["serve"], engine, f"{folder}/socket"))
+        self.assertEqual(told, [b"filed F1 0 30\n", b"cancelled F1\n"])
+
+
+async def asked_by_two(serve, engine, socket):
+    """What two who ask a server of the engine, one after the other, are told."""
+    server = asyncio.ensure_future(serve(engine, socket))
+    while not os.path.exists(socket):
+        await asyncio.sleep(0.01)
+    told = []
+    for line in (b"file F1 M 0 A+ 30\n", b"cancel F1\n"):
+        reader, writer = await asyncio.open_unix_connection(socket)
+        writer.write(line)
+        told.append(await reader.readline())
+        writer.close()
+        await writer.wait_closed()
+    await asyncio.sleep(0.05)
+    server.cancel()
+    await asyncio.wait([server])
+    return told
+
+
+@unittest.skipUnless(
+    "RUSBOQAN_LIBRARY" in os.environ and hasattr(loaded(), "rusboqan_plan"), "RUSBOQAN_LIBRARY names no library that has all calls"
+)
 class TestExamples(unittest.TestCase):
     def run_them(self, text):
         """What the examples print."""

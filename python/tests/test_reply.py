@@ -151,9 +151,13 @@ class TestNodesAndCopies(unittest.TestCase):
         self.assertFalse(pickle.loads(pickle.dumps(Comment(b"", self.reply.asked))))
 
     def test_errors_are_pickled(self):
-        for error, text in ((AirportRefused(2), "record 2 breaks a rule"), (AirportRefused(None), "more than 4,194,304 bytes")):
+        for error, text in (
+            (AirportRefused(2), "record 2 breaks a rule"),
+            (AirportRefused(16, "no-horizon"), "record 16 breaks a rule: no-horizon"),
+            (AirportRefused(None), "more than 4,194,304 bytes"),
+        ):
             again = pickle.loads(pickle.dumps(error))
-            self.assertEqual((type(again), again.record, str(again)), (AirportRefused, error.record, text))
+            self.assertEqual((type(again), again.record, again.rule, str(again)), (AirportRefused, error.record, error.rule, text))
 
 
 if __name__ == "__main__":

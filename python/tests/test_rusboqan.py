@@ -1,9 +1,11 @@
 """Tests of engines over the shared library that RUSBOQAN_LIBRARY names. They are skipped where it names none."""
 
+import json
 import os
 import unittest
 
-from rusboqan import AirportRefused, Engine, FlightRow, Held, Label, Step, Window, version
+from rusboqan import AirportRefused, Engine, FlightRow, Held, Label, PlanRow, Step, Wait, Window, version
+from rusboqan.library import library
 
 AIRPORT = b"""taxi-airport,1
 horizon,3600
@@ -16,6 +18,11 @@ segment,B,J,S,both
 seconds,A,M,30
 seconds,B,M,20
 """
+
+
+def has_all_calls():
+    """Whether the library has the calls that came with 1.3.0."""
+    return "RUSBOQAN_LIBRARY" in os.environ and hasattr(library(), "rusboqan_plan")
 
 
 @unittest.skipUnless("RUSBOQAN_LIBRARY" in os.environ, "RUSBOQAN_LIBRARY names no library")
@@ -52,6 +59,28 @@ class TestEngine(unittest.TestCase):
                 self.assertEqual(second.answer("timetable").flights, [])
             self.assertEqual(engine.answer("timetable").flights, [FlightRow("F1", "arrival", "M", 100, 150)])
 
+    @unittest.skipUnless(has_all_calls(), "the library has not got the calls")
+    def test_what_follows_from_a_run(self):
+        with Engine(AIRPORT) as engine:
+            engine.answer("arrival F1 M R S 100 0")
+            first = PlanRow("F1", "arrival", "M", "R", "S", 1, "A", "forward", "R", "J", 100, 130, 130, 30, 0, 3470)
+            second = PlanRow("F1", "arrival", "M", "R", "S", 2, "B", "forward", "J", "S", 130, 150, 150, 20, 0, 3450)
+            self.assertEqual(engine.plan(), [first, second])
+            self.assertIn(b",2024-02-29T00:00:10-00:30,", engine.plan_csv("2024-02-28T23:58:30-00:30"))
+            self.assertEqual((engine.figures()["reply route"], engine.figures()["taxied arrival M"]), (1, 50))
+            self.assertEqual(engine.checkpoint(), b"# arrival F1 M R S 100 0\nfile F1 M 100 A+ 130 B+ 150\n")
+            found = engine.explain("arrival F2 M R S 100 60")
+            self.assertEqual((found.answer, found.alone, found.without, found.waits), (180, 150, {"F1": 150}, [Wait("hold", 30, "F1")]))
+            self.assertEqual(engine.answer("timetable").flights, [FlightRow("F1", "arrival", "M", 100, 150)])
+
+    @unittest.skipUnless(has_all_calls(), "the library has not got the calls")
+    def test_objects(self):
+        with Engine(AIRPORT) as engine:
+            for line in ("arrival F1 M R S 100 0", "# a comment", "arrival-any F1 M R 0 0 S", "occupancy A", "file X1 M 100 A+ 140"):
+                reply = engine.answer(line)
+                if reply:
+                    self.assertEqual(json.dumps(reply.as_dict(), separators=(",", ":")) + "\n", engine.json())
+
     def test_two_engines_are_apart(self):
         with Engine(AIRPORT) as one, Engine(AIRPORT) as other:
             one.answer("file F1 M 0 A+ 30")
@@ -60,7 +89,7 @@ class TestEngine(unittest.TestCase):
     def test_refused_airport(self):
         with self.assertRaises(AirportRefused) as caught:
             Engine(b"taxi-airport,1\nhorizon,0\n")
-        self.assertEqual(caught.exception.record, 2)
+        self.assertEqual((caught.exception.record, caught.exception.rule), (2, "bad-number" if has_all_calls() else None))
         with self.assertRaises(AirportRefused) as caught:
             Engine(b"\n" * 4_194_305)
         self.assertIsNone(caught.exception.record)

@@ -77,7 +77,8 @@ class TestSanitizer(unittest.TestCase):
         # What the interpreter itself never frees is no fault of the package.
         given = {"STAND_IN_FLAGS": "-fsanitize=address", "LD_PRELOAD": found}
         given.update(ASAN_OPTIONS="detect_leaks=0", RUSBOQAN_TEST_REPLIES="8000")
-        words = [sys.executable, "-X", "dev", "-W", "error", "-m", "unittest", "-q", "test_threads", "test_engine.TestAnswers"]
+        tests = ["test_threads", "test_tables", "test_engine.TestAnswers"]
+        words = [sys.executable, "-X", "dev", "-W", "error", "-m", "unittest", "-q", *tests]
         environment = {**os.environ, **given, "PYTHONPATH": os.pathsep.join(sys.path)}
         ran = subprocess.run(words, cwd=Path(__file__).parent, env=environment, capture_output=True, text=True, timeout=300, check=False)
         self.assertEqual(ran.returncode, 0, ran.stdout + ran.stderr)
