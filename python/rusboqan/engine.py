@@ -5,6 +5,7 @@ from __future__ import annotations
 import ctypes
 import os
 import threading
+from operator import index
 from pathlib import Path
 from types import TracebackType
 from typing import Callable, NoReturn, TypeVar
@@ -113,7 +114,7 @@ class Engine:
     def json(self, line: int | None = None) -> str:
         """The last command and its reply as `taxi-tools json` writes it, with its line feed. `line` is the number of the command's line in
         a file; without it, lines are counted from the opening of the engine. An empty text if there was no command yet."""
-        return self._alone(self._told, "rusboqan_json", self._line_of_command if line is None else line).decode()
+        return self._alone(self._told, "rusboqan_json", self._line_of_command if line is None else index(line)).decode()
 
     def plan(self) -> list[PlanRow]:
         """What is in force: a row for each step of each flight, and for each work party. Times are seconds."""
@@ -122,6 +123,8 @@ class Engine:
     def plan_csv(self, start: str = "") -> bytes:
         """The same as the table that `taxi-tools plan` writes. With `start`, the civil time of second 0, its times are civil times. Raises
         ValueError if `start` is no civil time."""
+        if not isinstance(start, str):
+            raise TypeError(f"a start is str, not {type(start).__name__}")
         words = start.encode()
         return self._alone(self._told, "rusboqan_plan", words, len(words))
 
@@ -163,23 +166,24 @@ class Engine:
         """The text of the reply, and what it answers."""
         if self._handle is None:
             raise ValueError("the engine is closed")
-        self._lines += 1
-        length = self._calls.rusboqan_answer(self._handle, line, len(line))
-        text = self._taken(line) if length else b""
+        self._note(line)
+        text = b""
+        if self._calls.rusboqan_answer(self._handle, line, len(line)):
+            # The engine lends its reply until the next call, so the bytes are taken at once.
+            length = self._calls.rusboqan_text(self._handle, ctypes.byref(self._text))
+            text = bytes_at(self._text.value, length)
+            if self._log is not None and text == b"refused memory\n":
+                self._log.pop()
         return text, Asked(line, self._lines, self._commands, self._heads)
 
-    def _taken(self, line: bytes) -> bytes:
-        """A copy of the reply to this line, which the engine lends until the next call."""
-        self._commands += 1
-        self._line_of_command = self._lines
-        # The command has had its effect, also if there is no memory for the copy.
-        if self._log is not None:
-            self._log.append(line)
-        length = self._calls.rusboqan_text(self._handle, ctypes.byref(self._text))
-        text = bytes_at(self._text.value, length)
-        if self._log is not None and text == b"refused memory\n":
-            self._log.pop()
-        return text
+    def _note(self, line: bytes) -> None:
+        """Counts and logs a line. This comes before the call, for what a signal handler raises comes when the call has had its effect."""
+        self._lines += 1
+        if is_command(line):
+            self._commands += 1
+            self._line_of_command = self._lines
+            if self._log is not None:
+                self._log.append(line)
 
     def _told(self, name: str, *given: object) -> bytes:
         """A copy of the text that a call makes."""
@@ -221,3 +225,8 @@ def line_of(command: str | bytes) -> bytes:
     if b"\n" in line:
         raise ValueError("one line is answered at a time")
     return line
+
+
+def is_command(line: bytes) -> bool:
+    """Whether a line is answered: it is neither a comment nor blank."""
+    return not line.startswith(b"#") and line.strip(b" \t") != b""

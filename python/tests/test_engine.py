@@ -5,6 +5,7 @@ import multiprocessing
 import os
 import pickle
 import re
+import signal
 import threading
 import time
 import unittest
@@ -79,6 +80,20 @@ class TestAnswers(StandInCase):
             self.assertEqual(second.answer("timetable").text, b"timetable 2\nflight F1 filed M 0 30\nflight F2 filed M 0 30\n")
             second.answer("cancel F1")
         self.assertEqual(self.engine.answer("timetable").text, b"timetable 2\nflight F1 filed M 0 30\nflight F2 filed M 0 30\n")
+
+    @unittest.skipUnless(hasattr(signal, "setitimer"), "the system has no timer")
+    def test_a_signal_handler_that_raises(self):
+        def interrupts(_number, _frame):
+            raise KeyboardInterrupt
+
+        before = signal.signal(signal.SIGALRM, interrupts)
+        self.addCleanup(signal.signal, signal.SIGALRM, before)
+        signal.setitimer(signal.ITIMER_REAL, 0.05)
+        with self.assertRaises(KeyboardInterrupt):
+            self.engine.answer("slow")
+        # The library had the command, and the engine can be asked again.
+        self.assertEqual(self.engine.log, (b"slow",))
+        self.assertEqual(self.engine.answer("cancel F1").as_dict()["command"], 2)
 
     def test_no_log(self):
         with Engine(AIRPORT, self.library, keep_log=False) as engine:

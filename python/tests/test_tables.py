@@ -24,6 +24,8 @@ class TestTexts(StandInCase):
         self.assertIn(b",2024-02-29T00:00:10Z,", self.engine.plan_csv("2024-02-28T23:58:30Z"))
         with self.assertRaisesRegex(ValueError, "no civil time"):
             self.engine.plan_csv("now")
+        with self.assertRaisesRegex(TypeError, "a start is str, not NoneType"):
+            self.engine.plan_csv(None)
 
     def test_figures(self):
         self.assertEqual(list(self.engine.figures().items()), [("commands", 3), ("reply no-route", 0), ("flights arrival M", 2)])
@@ -38,6 +40,9 @@ class TestTexts(StandInCase):
         for line in ("# a comment", "cancel F9", "# a comment"):
             self.engine.answer(line)
         self.assertEqual((self.engine.json(), self.engine.json(70)), ('{"command":1,"line":2}\n', '{"command":1,"line":70}\n'))
+
+        with self.assertRaises(TypeError):
+            self.engine.json("70")
 
     def test_explanations(self):
         late = self.engine.explain("arrival F1 M R S1 100 200\n")
