@@ -1,6 +1,7 @@
 """Where each file lies: in an unpacked tar, and below the folder of a system such as /usr or a PREFIX."""
 from __future__ import annotations
 
+import re
 from dataclasses import dataclass
 
 from .built import PROGRAMS, Built
@@ -72,12 +73,20 @@ def library(identity: Identity, built: Built, place: Place) -> Tree:
     return tree
 
 
+def calls_of(top: str) -> str:
+    """The declarations of the header, one a line."""
+    with open(f"{top}/include/rusboqan.h", encoding="utf-8") as file:
+        text = re.sub(r"/\*.*?\*/", "", file.read(), flags=re.S)
+    return "\n".join(re.sub(r"\s+", " ", it) for it in re.findall(r"^\w[\w ]* \**rusboqan_\w+\([^)]*\);", text, re.M))
+
+
 def helps(identity: Identity) -> Tree:
     """The man pages and the completions of shells."""
     tree, top = Tree(), f"{identity.top}/tools/package_parts/pages"
+    words = {"@VERSION@": identity.version, "@DAY@": identity.day, "@CALLS@": calls_of(identity.top)}
     for page, section in PAGES.items():
         with open(f"{top}/{page}", encoding="utf-8") as file:
-            text = file.read().replace("@VERSION@", identity.version).replace("@DAY@", identity.day)
+            text = re.sub(r"@[A-Z]+@", lambda found: words[found[0]], file.read())
         tree.add(f"share/man/man{section}/{page}", text)
     for folder, end in COMPLETIONS.items():
         for name in PROGRAMS:

@@ -120,6 +120,10 @@ class Packages(PackageTest):
         self.assertEqual({members[it].mode for it in programs}, {0o755})
         others = {"README.md", "docs/INSTALL.md", "examples/choice/airport.csv", "share/man/man3/rusboqan.3", "SOURCES.txt"}
         self.assertEqual(others - set(members), set())
+        with tarfile.open(f"{self.out}/{top}.tar.gz") as file:
+            page = file.extractfile(members["share/man/man3/rusboqan.3"]).read().decode()
+        self.assertIn("\nuint8_t rusboqan_why(const uint8_t *airport, size_t length, uint32_t *record);\n", page)
+        self.assertNotIn("@", page)
         self.assertFalse([it for it in members if it.startswith(("crates", "tools/package_parts", "install", "package"))])
 
     def look_at_wheel(self, name):
