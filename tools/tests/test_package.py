@@ -150,9 +150,9 @@ class Packages(PackageTest):
 
     def test_the_library_shows_its_calls_alone(self):
         self.made("--programs", self.programs)
-        with tarfile.open(next(f"{self.out}/{it}" for it in os.listdir(self.out) if it.endswith(".gz"))) as file:
-            file.extract(next(it for it in file.getnames() if it.endswith(f"librusboqan.so.{VERSION}")), self.out)
-        shared = run("find", self.out, "-name", f"librusboqan.so.{VERSION}").stdout.strip()
+        shared = f"{self.out}/shared"
+        with tarfile.open(next(f"{self.out}/{it}" for it in os.listdir(self.out) if it.endswith(".gz"))) as file, open(shared, "wb") as out:
+            out.write(file.extractfile(next(it for it in file.getnames() if it.endswith(f"librusboqan.so.{VERSION}"))).read())
         self.assertRegex(run("readelf", "-d", shared).stdout, r"soname: \[librusboqan\.so\.1\]")
         shown = run("readelf", "--wide", "--dyn-syms", shared).stdout
         self.assertIn("rusboqan_version", shown)
