@@ -1,4 +1,7 @@
-"""Which pieces conflict, and the sets that say it: each pair stands in one set at least, and no set has more than 16."""
+"""Which pieces conflict, and the sets that say it: each pair stands in one set at least, and no set has more than 16.
+
+The piece on which an aircraft stands conflicts with those that it meets, and with no other however near: so who stands there or
+works there shuts no neighbour."""
 import itertools
 
 from ground_network.plane import Grid, gap
@@ -48,6 +51,8 @@ class Conflicts:
         spans = [self.span(number) for number in range(len(self.pieces.all))]
         grid = Grid(max(50.0, reach))
         for number, piece in enumerate(self.pieces.all):
+            if piece.stand >= 0:
+                continue
             line = self.pieces.points(piece)
             for other in grid.near(*line, reach):
                 if other not in self.others[number]:

@@ -3,9 +3,10 @@ import argparse
 import sys
 
 from ground_network import output
-from ground_network.aircraft import classes_of
+from ground_network.aircraft import MOST_CLASSES, classes_of, names_of
 from ground_network.drawing import FIRST, read_drawing
 from ground_network.making import Choices, make_airport
+from ground_network.names import is_name
 from ground_network.pieces import Cutting
 from ground_network.problem import BAD_WORDS, NOTHING_TO_MAKE, UNWRITTEN, Problem, Report, unreadable
 from ground_network.source import opened
@@ -40,6 +41,7 @@ NUMBERS = (
     ("--piece", "piece", 20, 10_000, 250, "the longest piece of an edge that is cut"),
     ("--cut-from", "cut_from", 20, 100_000, 120, "edges of this length or more are cut"),
     ("--lead-in", "lead_in", 1, 5000, 250, "the longest lead-in to a stand"),
+    ("--place", "place", 1, 200, 10, "how many metres before a stand the piece begins on which an aircraft stands"),
     ("--sharp", "sharp", 0, 180, 140, "turns by more degrees than this are forbidden"),
 )
 CLASS = "NAME:speed=8:lead=3:clearance=8:size=C:kinds=jets+turboprops"
@@ -56,6 +58,9 @@ def words():
     parser.add_argument("airport", metavar="ICAO", nargs="?", help="the airport's code, where the file has more than one")
     parser.add_argument("--list", action="store_true", help="only list the airports that have a ground network")
     parser.add_argument("--map", metavar="MAP", help="write a map in GeoJSON to this file")
+    parser.add_argument("--runways", metavar="FILE", help="write a list of the runways and the segments on them to this file, in JSON")
+    parser.add_argument("--pushback", type=in_range(0, 1800, int), default=0, metavar="SECONDS",
+                        help="for each class make a second one for departures, which takes so much longer on the two pieces at a stand")
     parser.add_argument("--version", type=int, choices=(1, 2), default=1, help="of the airport file; 2 has clearances (default 1)")
     parser.add_argument("--horizon", type=in_range(1, 604_800, int), default=86_400, metavar="SECONDS",
                         help="the seconds of the day, 1 to 604800 (default 86400)")
@@ -92,17 +97,29 @@ def read_source(told, report):
 
 def choices_of(told):
     """What the options choose."""
-    cutting = Cutting(told.cut_from, told.stub, told.piece)
+    cutting = Cutting(told.cut_from, told.stub, told.piece, told.place)
     classes = tuple(classes_of(told.classes))
-    return Choices(classes, cutting, told.lead_in, told.span, told.sharp, told.keep_runway_edges, told.dead_ends)
+    if told.pushback:
+        with_pushback(classes)
+    more = {"are_default_classes": not told.classes, "pushback": told.pushback}
+    return Choices(classes, cutting, told.lead_in, told.span, told.sharp, told.keep_runway_edges, told.dead_ends, **more)
 
 
-def write(text, map_text, map_path):
-    """Writes the map where one is asked for, and then the airport."""
+def with_pushback(classes):
+    """Ends the run where the classes for departures with pushback would have no room or no name."""
+    names = [aircraft_class.name + output.PUSHBACK for aircraft_class in classes]
+    wrong = [name for name in names if not is_name(name) or name in names_of(classes)]
+    if wrong or 2 * len(names) > MOST_CLASSES:
+        why = f"{wrong[0]} can't be the name of a class" if wrong else f"at most {MOST_CLASSES // 2} classes can have a second one"
+        raise Problem(BAD_WORDS, f"--pushback: {why}")
+
+
+def write(text, beside):
+    """Writes the files that are asked for beside the airport, each a path and its text, and then the airport."""
     try:
-        if map_path:
-            with open(map_path, "w", encoding="ascii", newline="\n") as stream:
-                stream.write(map_text)
+        for path, other in beside:
+            with open(path, "w", encoding="ascii", newline="\n") as stream:
+                stream.write(other)
         sys.stdout.write(text)
         sys.stdout.flush()
     except OSError as error:
@@ -113,7 +130,7 @@ def run(arguments, report):
     """Writes what the words ask for: the list of airports, or one airport and its map."""
     told = words().parse_args(arguments)
     if told.list:
-        write("".join(line + "\n" for line in list_entries(told.file)), "", None)
+        write("".join(line + "\n" for line in list_entries(told.file)), [])
         return
     choices = choices_of(told)
     source = read_source(told, report)
@@ -122,7 +139,8 @@ def run(arguments, report):
     if len(text) > output.MOST_BYTES:
         size = f"the airport file would have {len(text)} bytes of at most {output.MOST_BYTES}"
         raise Problem(NOTHING_TO_MAKE, f"{size}; give fewer classes")
-    write(text, output.map_text(airport, source.projection) if told.map else "", told.map)
+    makers = ((told.map, output.map_text), (told.runways, output.runways_text))
+    write(text, [(path, make(airport, source.runways, source.projection)) for path, make in makers if path])
 
 
 def main(arguments):

@@ -1,14 +1,14 @@
 """Makes the airport out of what was read, step by step."""
 import itertools
 import math
-from dataclasses import dataclass
+from dataclasses import dataclass, replace
 
 from ground_network import output
 from ground_network.aircraft import names_of
 from ground_network.conflicts import Conflicts
-from ground_network.network import build, keep_useful, mark_runways, thin_runways
+from ground_network.network import build, keep_useful, mark_runways, tell_runways, thin_runways
 from ground_network.pieces import Cutting, Pieces
-from ground_network.problem import NOTHING_TO_MAKE, Problem
+from ground_network.problem import NOTHING_TO_MAKE, Problem, Report, counted
 from ground_network.stands import StandMaker, add_dead_ends
 from ground_network.turns import drop_unreached, forbid_turns
 from ground_network.ways import Spread, Ways
@@ -27,15 +27,26 @@ class Choices:
     sharpest: float = 140.0
     keep_runway_edges: bool = False
     dead_ends: bool = False
+    are_default_classes: bool = False
+    pushback: int = 0
 
 
 def make_airport(source, choices, report):
     """The airport that comes of a source; the report tells what was made and what was left out."""
     network = make_network(source, choices, report)
     start_at = make_stands(network, source, choices, report)
+    idle = idle_classes(network, start_at, choices)
+    if idle:
+        kept = tuple(aircraft_class for aircraft_class in choices.classes if aircraft_class.name not in idle)
+        choices = replace(choices, classes=kept)
+        what = "default class" if len(idle) == 1 else "default classes"
+        report.say(f"left out the {what} {' and '.join(idle)}, which no stand takes; --class gives a class in any case")
+        # What is left out for the other classes was told above.
+        network = make_network(source, choices, Report())
+        start_at = make_stands(network, source, choices, Report())
     turns, spared = forbid_turns(network, choices.classes, choices.sharpest)
     if spared:
-        report.say(f"let be, sharp turns or turns through a stand ({spared}), without which somebody would lose a way")
+        report.say(f"kept {counted(spared, 'sharp turn')} or turns through a stand that some class needs to reach a stand or to leave it")
     if len(turns) > output.MOST_FORBIDS:
         report.warn(f"{len(turns)} turns are unwanted, and {output.MOST_FORBIDS} are forbidden; a larger --sharp makes them fewer")
         turns = turns[: output.MOST_FORBIDS]
@@ -55,6 +66,7 @@ def make_network(source, choices, report):
         raise Problem(NOTHING_TO_MAKE, f"{source.title} has {why}")
     if not choices.keep_runway_edges:
         thin_runways(network, source.runways, report)
+    tell_runways(network, source.runways)
     keep_useful(network, choices.classes, report)
     if not network.edges:
         raise Problem(NOTHING_TO_MAKE, f"{source.title} has no taxiway that leads from a runway node and to one")
@@ -81,6 +93,12 @@ def make_stands(network, source, choices, report):
     return start_at
 
 
+def idle_classes(network, start_at, choices):
+    """The names of the default classes that no stand takes. Classes that were asked for stay in any case."""
+    taken = frozenset().union(*(allowed_at(network, node) for node in start_at))
+    return [one.name for one in choices.classes if choices.are_default_classes and one.name not in taken]
+
+
 def cut_to_fit(network, turns, choices, report):
     """Cuts the edges as chosen, or where the airport file would be too large, into longer pieces."""
     cutting, why = choices.cutting, ""
@@ -96,7 +114,7 @@ def cut_to_fit(network, turns, choices, report):
         if not why:
             if times > 1:
                 report.warn(f"edges are cut {times} times as coarsely as asked for, since the airport file takes no more")
-            return output.Airport(pieces, choices.classes, turns, sets)
+            return output.Airport(pieces, choices.classes, turns, sets, choices.pushback)
     refuse_too_large(why)
     return None
 
@@ -125,6 +143,10 @@ def tell_made(airport, start_at, source, report):
         report.say(f"class {name}, {speed:g} m/s on taxiways, {lead:g} m/s on lead-ins, {stands} stands")
         if not stands:
             report.warn(f"no stand takes class {name}; see --class, or leave it out")
+    if airport.pushback:
+        names = ", ".join(airport.pushback_name(aircraft_class) for aircraft_class in airport.classes)
+        report.say(f"classes for departures with {airport.pushback} s of pushback: {names}")
+    tell_short_names(airport, report)
     tell_long_leads(airport, report)
     tell_unused_runways(pieces.network, airport.classes, source.runways, report)
 
@@ -141,7 +163,20 @@ def tell_long_leads(airport, report):
     names = [f"{airport.name(edge.stand)} {network.length(edge):.0f} m" for edge in long]
     if names:
         advice = "see on the map whether their stands belong there"
-        report.warn(f"{len(names)} lead-ins are longer than {FAR_LEAD_IN:g} m, {advice}: {', '.join(names)}")
+        are = "1 lead-in is" if len(names) == 1 else f"{len(names)} lead-ins are"
+        report.warn(f"{are} longer than {FAR_LEAD_IN:g} m, {advice}: {', '.join(names)}")
+
+
+def tell_short_names(airport, report):
+    """Tells the segments of the stands whose names had to be shortened, a line for each stand."""
+    found = {}
+    for piece in airport.pieces.all:
+        edge = airport.pieces.network.edges[piece.key]
+        if piece.stand >= 0 or edge.stand >= 0 and not edge.label:
+            found.setdefault(airport.name(max(piece.stand, edge.stand)), []).append(piece.name)
+    for stand, names in found.items():
+        if any(name[2:] != stand and not name[2:].startswith(stand + ".") for name in names):
+            report.say(f"segments of the stand {stand}: {', '.join(names)}")
 
 
 def at_stands(ways, names, backward):

@@ -32,18 +32,27 @@ class Namer:
                 self.nodes[node] = self.names.take(name_of(told.wanted) or name_of(f"S{told.origin}"))
 
     def name_pieces(self):
-        """Names the segments: those of one taxiway, or of one edge where its taxiway has no name, are numbered in order."""
-        bases = [self.base_of(self.pieces.network.edges[piece.key]) for piece in self.pieces.all]
+        """Names the segments: those of one taxiway, or of one edge where its taxiway has no name, are numbered in order. Those
+        along a runway are numbered as they lie there."""
+        bases = [self.base_of(piece) for piece in self.pieces.all]
         counts, given, names = {}, {}, Names()
         for base in bases:
             counts[base] = counts.get(base, 0) + 1
-        for piece, base in zip(self.pieces.all, bases):
+        for piece, base in sorted(zip(self.pieces.all, bases), key=lambda pair: self.pieces.along_runway(pair[0])):
             given[base] = given.get(base, 0) + 1
-            ending = f".{given[base]}" if counts[base] > 1 else ""
+            is_runway = self.pieces.runway(piece) is not None
+            sign = "-" if is_runway else "."
+            ending = f"{sign}{given[base]}" if counts[base] > 1 or is_runway else ""
             piece.name = names.take(base[: 16 - len(ending)] + ending)
 
-    def base_of(self, edge):
-        """The name of a taxiway, for a lead-in its stand's, else one of the numbers of the edge's nodes."""
+    def base_of(self, piece):
+        """For a stand's piece and for a lead-in the stand's name, for a piece along a runway the runway's, else that of a
+        taxiway, or one of the numbers of the edge's nodes."""
+        edge, runway = self.pieces.network.edges[piece.key], self.pieces.runway(piece)
+        if piece.stand >= 0:
+            return "S-" + name_of(self.nodes[piece.stand], 14)
+        if runway is not None:
+            return "R-" + (name_of(runway.name, 11) or "RW")
         if edge.order[0] >= BEHIND_ALL:
             return "L-" + name_of(self.nodes[edge.stand], 14)
         by_nodes = f"T{edge.label}"

@@ -27,8 +27,8 @@ class Node:
 @dataclass
 class Edge:
     """A straight taxiway between two nodes by their numbers. `order` sorts edges as the source has them, `label` has the
-    numbers of its nodes there, `size` is a letter where it limits the classes, `stand` a node where it leads to a stand, and
-    `classes` are the names of those that may use it."""
+    numbers of its nodes there, `size` is a letter where it limits the classes, `stand` a node where it leads to a stand, `runway`
+    the one along which it leads, and `classes` are the names of those that may use it."""
 
     first: int
     second: int
@@ -39,6 +39,7 @@ class Edge:
     size: str = ""
     on_runway: bool = False
     stand: int = -1
+    runway: object = None
     classes: frozenset = field(default_factory=frozenset)
 
     def other(self, node):
@@ -182,19 +183,27 @@ def mark_runways(network, runways, report):
             report.warn("no node lies on the pavement of a runway; the ends of the edges that are called runway are taken")
 
 
-def is_along_runway(network, edge, runways):
-    """Whether an edge leads along a runway: the source says so, or both ends are on its pavement, nearer to its direction
-    than to across."""
-    if edge.on_runway:
-        return True
+def runway_along(network, edge, runways):
+    """The runway along which an edge leads, or None: both ends are on its pavement, nearer to its direction than to across."""
     p, q = network.line(edge)
     for runway in runways:
         wide = runway.width / 2 + BESIDE_RUNWAY
         if max(distance_to_line(point, runway.start, runway.end) for point in (p, q)) <= wide:
             angle = turn_angle(p, q, runway.start, runway.end)
             if min(angle, 180 - angle) < 45:
-                return True
-    return False
+                return runway
+    return None
+
+
+def is_along_runway(network, edge, runways):
+    """Whether an edge leads along a runway: the source says so, or it lies so."""
+    return edge.on_runway or runway_along(network, edge, runways) is not None
+
+
+def tell_runways(network, runways):
+    """Gives each edge the runway along which it leads."""
+    for edge in network.edges.values():
+        edge.runway = runway_along(network, edge, runways)
 
 
 def thin_runways(network, runways, report):

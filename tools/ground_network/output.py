@@ -1,20 +1,25 @@
-"""Writes the airport file and the map."""
+"""Writes the airport file, the map and the list of runways."""
 import json
 
+from ground_network.names import name_of
 from ground_network.naming import Namer
+from ground_network.plane import gap, lines_cross
 from ground_network.problem import NOTHING_TO_MAKE, Problem
 
 MOST_NODES = MOST_SEGMENTS = MOST_SETS = 10_000
 MOST_FORBIDS = 50_000
 MOST_BYTES = 4_194_304
 MOST_SECONDS = 3_600
+PUSHBACK = "-PUSH"
 
 
 class Airport:
-    """All that the two files say. `turns` are pairs of arcs of the network, `sets` are lists of numbers of pieces."""
+    """All that the files say. `turns` are pairs of arcs of the network, `sets` are lists of numbers of pieces, `pushback` the
+    seconds by which departures take longer at their stand, or 0."""
 
-    def __init__(self, pieces, classes, turns, sets):
-        self.pieces, self.classes, self.turns, self.sets = pieces, classes, turns, sets
+    def __init__(self, pieces, classes, turns, sets, pushback=0):
+        self.pieces, self.classes, self.turns, self.sets, self.pushback = pieces, classes, turns, sets, pushback
+        self.slow = slow_pieces(pieces)
         namer = Namer(pieces)
         namer.name_all()
         self.order, self.names = namer.order, namer.nodes
@@ -26,7 +31,21 @@ class Airport:
     def seconds(self, piece):
         """The seconds of each class that may use a piece, by its name."""
         allowed = [aircraft_class for aircraft_class in self.classes if aircraft_class.name in piece.classes]
-        return {aircraft_class.name: aircraft_class.seconds_on(piece.metres, piece.is_lead) for aircraft_class in allowed}
+        found = {aircraft_class.name: aircraft_class.seconds_on(piece.metres, piece.is_lead) for aircraft_class in allowed}
+        if self.pushback:
+            more = self.pushback if id(piece) in self.slow else 0
+            found |= {self.pushback_name(aircraft_class): found[aircraft_class.name] + more for aircraft_class in allowed}
+        return found
+
+    def pushback_name(self, aircraft_class):
+        """The name of the class of departures that goes with a class."""
+        return aircraft_class.name + PUSHBACK
+
+    def class_names(self):
+        """The names of all classes, and their clearances."""
+        told = [(aircraft_class.name, aircraft_class.clearance) for aircraft_class in self.classes]
+        more = [(self.pushback_name(aircraft_class), aircraft_class.clearance) for aircraft_class in self.classes]
+        return told + more if self.pushback else told
 
     def direction(self, piece):
         """The word for the directions of a piece."""
@@ -46,15 +65,15 @@ def rows(airport, version, horizon):
     yield f"horizon,{horizon}"
     for node in airport.order:
         yield f"node,{airport.name(node)},{airport.pieces.nodes[node].kind}"
-    for aircraft_class in airport.classes:
-        yield f"class,{aircraft_class.name}"
+    for name, _ in airport.class_names():
+        yield f"class,{name}"
     for piece in airport.pieces.all:
         yield f"segment,{piece.name},{airport.name(piece.first)},{airport.name(piece.second)},{airport.direction(piece)}"
     for piece in airport.pieces.all:
         yield from seconds_rows(airport, piece)
-    for aircraft_class in airport.classes:
-        if version == 2 and aircraft_class.clearance:
-            yield f"clearance,{aircraft_class.name},{aircraft_class.clearance}"
+    for name, clearance in airport.class_names():
+        if version == 2 and clearance:
+            yield f"clearance,{name},{clearance}"
     yield from turn_rows(airport)
     for members in airport.sets:
         yield "conflict," + ",".join(airport.pieces.all[number].name for number in members)
@@ -77,6 +96,39 @@ def turn_rows(airport):
         yield f"forbid,{first},{second}"
 
 
+def slow_pieces(pieces):
+    """What a departure uses for its pushback: the pieces at stands, and those before them."""
+    found, inner = set(), set()
+    for piece in pieces.all:
+        if piece.stand >= 0:
+            found.add(id(piece))
+            inner.add((piece.key, piece.first if piece.second == piece.stand else piece.second))
+    return found | {id(piece) for piece in pieces.all if {(piece.key, piece.first), (piece.key, piece.second)} & inner}
+
+
+def runways_of(airport, runways, projection):
+    """What is known of each runway: its name, width and ends, the segments along it, and those that reach onto its pavement."""
+    pieces = airport.pieces
+    for runway in runways:
+        along = sorted((piece for piece in pieces.all if pieces.runway(piece) is runway), key=pieces.along_runway)
+        along = [piece.name for piece in along]
+        reach = [piece.name for piece in pieces.all if pieces.runway(piece) is not runway and is_on(pieces.points(piece), runway)]
+        ends = [projection.to_globe(point) for point in (runway.start, runway.end)]
+        places = [[round(longitude, 7), round(latitude, 7)] for latitude, longitude in ends]
+        yield {"name": runway.name, "width": runway.width, "ends": places, "segments": along, "crossings": reach}
+
+
+def is_on(line, runway):
+    """Whether a line reaches onto the pavement of a runway."""
+    return lines_cross(*line, runway.start, runway.end) or gap(*line, runway.start, runway.end) < runway.width / 2
+
+
+def runways_text(airport, runways, projection):
+    """The list of runways as JSON, one a line of the file."""
+    lines = [json.dumps(told, ensure_ascii=True) for told in runways_of(airport, runways, projection)]
+    return '{"runways": [\n' + ",\n".join(lines) + "\n]}\n"
+
+
 def feature(geometry, points, projection, properties):
     """A line of the map: a LineString through some points of the plane, or a Point at the first of them."""
     globe = [projection.to_globe(point) for point in points]
@@ -85,12 +137,23 @@ def feature(geometry, points, projection, properties):
     return json.dumps({"type": "Feature", "properties": properties, "geometry": shape}, ensure_ascii=True)
 
 
-def map_text(airport, projection):
-    """The map, in GeoJSON: a line for each segment and a point for each node, one a line of the file."""
-    features = []
+def runway_features(airport, runways, projection):
+    """A line of the map for each runway, drawn beneath all else."""
+    told = runways_of(airport, runways, projection)
+    for runway, known in zip(runways, told):
+        properties = {"name": known["name"], "kind": "runway", "width": known["width"], "segments": known["segments"]}
+        yield feature("LineString", [runway.start, runway.end], projection, properties | {"crossings": known["crossings"]})
+
+
+def map_text(airport, runways, projection):
+    """The map, in GeoJSON: a line for each runway and each segment and a point for each node, one a line of the file."""
+    features = list(runway_features(airport, runways, projection))
     for piece in airport.pieces.all:
         told = {"name": piece.name, "kind": "segment", "from": airport.name(piece.first), "to": airport.name(piece.second)}
         told |= {"direction": airport.direction(piece), "metres": round(piece.metres, 1), "seconds": airport.seconds(piece)}
+        edge, runway = airport.pieces.network.edges[piece.key], airport.pieces.runway(piece)
+        told |= {"taxiway": edge.name} if name_of(edge.name) else {}
+        told |= {"runway": runway.name} if runway else {}
         features.append(feature("LineString", airport.pieces.points(piece), projection, told))
     for node in airport.order:
         place = airport.pieces.nodes[node]

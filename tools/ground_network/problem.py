@@ -16,6 +16,11 @@ def unreadable(path, error):
     return Problem(UNREADABLE, f"{path} can't be read: {error.strerror or error}")
 
 
+def counted(number, word):
+    """A number of things in words."""
+    return f"{number} {word}" if number == 1 else f"{number} {word}s"
+
+
 class Report:
     """Lines for standard error, in the order in which they were told."""
 

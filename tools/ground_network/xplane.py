@@ -6,8 +6,11 @@ import zlib
 from collections import Counter
 
 from ground_network.plane import Projection, distance
-from ground_network.problem import NOTHING_TO_MAKE, UNREADABLE, Problem, unreadable
+from ground_network.problem import NOTHING_TO_MAKE, UNREADABLE, Problem, counted, unreadable
 from ground_network.source import FARTHEST, Runway, Source, SourceEdge, SourceNode, Start, number, opened
+
+# An older startup location this near to a newer one is the same.
+SAME_START = 15.0
 
 HEADERS = (b"1", b"16", b"17")
 OLDEST, NEWEST = 1000, 1200
@@ -125,7 +128,7 @@ def list_entries(path):
     for entry in entries(lines):
         nodes = entry.count(b"1201")
         if nodes:
-            starts = entry.count(b"1300") or entry.count(b"15")
+            starts = entry.count(b"1300") + entry.count(b"15")
             name = entry.name.encode("ascii", "replace").decode()
             yield f"{entry.code} {nodes} nodes {entry.count(b'1202')} edges {starts} startup locations {name}"
 
@@ -157,17 +160,24 @@ class Reader:
         return self.source
 
     def finish(self):
-        """Takes the older startup locations where there are no others, and tells the rows that were left out."""
-        if not self.source.starts:
-            self.source.starts = self.old_starts
-            self.old_starts = []
-        if self.old_starts:
-            self.other["15"] += len(self.old_starts)
+        """Takes the older startup locations too, and tells the rows that were left out."""
+        self.take_old_starts()
         self.report.left_out("rows", self.faulty, "too short, a number or a word that is none, or given before")
         self.report.left_out("rows", self.far, f"more than {FARTHEST / 1000:.0f} km from the first place of the airport")
         if sum(self.other.values()):
-            kinds = ", ".join(f"{count} of {code}" for code, count in sorted(self.other.items()) if count)
-            self.report.left_count("rows", sum(self.other.values()), f"of kinds that aren't used: {kinds}")
+            types = ", ".join(f"type {code} ({counted(count, 'row')})" for code, count in sorted(self.other.items()) if count)
+            self.report.say(f"ignored {counted(sum(self.other.values()), 'row')} of types that aren't used: {types}")
+
+    def take_old_starts(self):
+        """Takes each older startup location, but for those beside a newer one."""
+        newer = len(self.source.starts)
+        points = [start.point for start in self.source.starts]
+        taken = [one for one in self.old_starts if all(distance(one.point, point) > SAME_START for point in points)]
+        self.source.starts += taken
+        if newer and self.old_starts:
+            told = f"took {counted(len(taken), 'older startup location')} (type 15) beside {newer} newer (type 1300)"
+            doubled = [one.name for one in self.old_starts if one not in taken]
+            self.report.say(told + (f"; within {SAME_START:g} m of a newer one: {', '.join(doubled)}" if doubled else ""))
 
     def place(self, latitude, longitude):
         """A point of the plane. The first place of the airport is its origin."""

@@ -49,17 +49,21 @@ def run(text, *options, name="airport.dat"):
         out, err = io.StringIO(), io.StringIO()
         with contextlib.redirect_stdout(out), contextlib.redirect_stderr(err):
             status = main([path, *told])
-        map_path = os.path.join(folder, "map")
-        made_map = None
-        if os.path.exists(map_path):
-            with open(map_path) as stream:
-                made_map = json.load(stream)
-        return Made(status, out.getvalue(), err.getvalue(), made_map)
+        made_map, runways = (json_of(os.path.join(folder, name)) for name in ("map", "runways"))
+        return Made(status, out.getvalue(), err.getvalue(), made_map, runways)
+
+
+def json_of(path):
+    """What a JSON file says, or None where there is none."""
+    if not os.path.exists(path):
+        return None
+    with open(path) as stream:
+        return json.load(stream)
 
 
 class Made:
-    def __init__(self, status, out, told, made_map):
-        self.status, self.out, self.told, self.map = status, out, told, made_map
+    def __init__(self, status, out, told, made_map, runways=None):
+        self.status, self.out, self.told, self.map, self.runways = status, out, told, made_map, runways
         self.rows = [line.split(",") for line in out.splitlines()]
 
     def of(self, word):
@@ -99,16 +103,21 @@ class OnXPlane(unittest.TestCase):
         self.assertEqual(segments["T1-2"], ["09/27.1", "J2", "both"])
         # 222.6 m, where three meet at one end alone: 40 m and the rest.
         self.assertEqual(segments["B.1"], ["J2", "X-B.1", "both"])
-        self.assertEqual(segments["B.2"], ["X-B.1", "Gate_7", "both"])
+        self.assertEqual(segments["B.2"], ["X-B.1", "X-B.2", "both"])
+        # The last 10 m to a stand are a piece of their own.
+        self.assertEqual(segments["S-Gate_7"], ["X-B.2", "Gate_7", "both"])
         # Two one-way edges between the same nodes are one both ways, cut where the lead-in meets.
         self.assertEqual(segments["T4-2.1"], ["J4", "J-Ramp_Ost", "both"])
-        self.assertEqual(segments["L-Ramp_Ost"], ["J-Ramp_Ost", "Ramp_Ost", "both"])
+        self.assertEqual(segments["L-Ramp_Ost"], ["J-Ramp_Ost", "X-L-Ramp_Ost", "both"])
+        self.assertEqual(segments["S-Ramp_Ost"], ["X-L-Ramp_Ost", "Ramp_Ost", "both"])
 
     def test_seconds(self):
-        # 110.6 m at 8 and 7 m/s; 182.6 m at 3 and 2.5 m/s, for heavy and jets; a lead-in of 55.3 m at 3 m/s, for props.
+        # 110.6 m at 8 and 7 m/s; 172.6 m and 10 m at 3 and 2.5 m/s, for heavy and jets; 45.3 m and 10 m at 3 m/s, for props.
         self.assertEqual(self.made.seconds("T1-2"), {"L": 14, "M": 14, "H": 16})
-        self.assertEqual(self.made.seconds("B.2"), {"M": 61, "H": 74})
-        self.assertEqual(self.made.seconds("L-Ramp_Ost"), {"L": 19})
+        self.assertEqual(self.made.seconds("B.2"), {"M": 58, "H": 70})
+        self.assertEqual(self.made.seconds("S-Gate_7"), {"M": 4, "H": 4})
+        self.assertEqual(self.made.seconds("L-Ramp_Ost"), {"L": 16})
+        self.assertEqual(self.made.seconds("S-Ramp_Ost"), {"L": 4})
 
     def test_versions(self):
         self.assertEqual(self.made.rows[:2], [["taxi-airport", "2"], ["horizon", "86400"]])
@@ -120,7 +129,7 @@ class OnXPlane(unittest.TestCase):
 
     def test_map(self):
         features = self.made.map["features"]
-        lines = {f["properties"]["name"]: f for f in features if f["geometry"]["type"] == "LineString"}
+        lines = {f["properties"]["name"]: f for f in features if f["properties"]["kind"] == "segment"}
         points = {f["properties"]["name"]: f for f in features if f["geometry"]["type"] == "Point"}
         self.assertEqual(set(lines), {row[0] for row in self.made.of("segment")})
         self.assertEqual({(name, f["properties"]["kind"]) for name, f in points.items()}, {tuple(row) for row in self.made.of("node")})
@@ -169,7 +178,7 @@ class Files(unittest.TestCase):
         made = run(AIRPORT.replace("1201 -0.001 0.003 both 4 node", "1201 -0.001 0.003\n1999 x").replace("99\n", "", 1))
         self.assertEqual(made.status, 0)
         self.assertIn("row 1201 in line 10", made.told)
-        self.assertIn("1 of 1999", made.told)
+        self.assertIn("ignored 1 row of types that aren't used: type 1999 (1 row)", made.told)
         self.assertIn("left out, edges (2), an end is no node: 4-2, 2-4", made.told)
 
     def test_a_file_that_is_cut(self):
@@ -219,9 +228,10 @@ class Stands(unittest.TestCase):
         made = run(AIRPORT, "--class", "M:speed=10:clearance=0", "--class", "H2:size=F:kinds=jets+heavy:lead=1", "--version", "2")
         self.assertEqual(made.of("class"), [["M"], ["H2"]])
         self.assertEqual(made.of("clearance"), [["H2", "8"]])
-        # 110.6 m at 10 and 8 m/s, 182.6 m at 3 and 1 m/s.
+        # 110.6 m at 10 and 8 m/s, 172.6 m and 10 m at 3 and 1 m/s.
         self.assertEqual(made.seconds("T1-2"), {"M": 12, "H2": 14})
-        self.assertEqual(made.seconds("B.2"), {"M": 61, "H2": 183})
+        self.assertEqual(made.seconds("B.2"), {"M": 58, "H2": 173})
+        self.assertEqual(made.seconds("S-Gate_7"), {"M": 4, "H2": 10})
         self.assertIn("no class may use them: Ramp (\u00d6st)", made.told)
 
     def test_what_is_left_out_is_named(self):
@@ -232,9 +242,13 @@ class Stands(unittest.TestCase):
         self.assertIn("on a runway: Threshold", made.told)
         self.assertEqual(sum(kind == "stand" for _, kind in made.of("node")), 2)
 
-    def test_older_rows_count_where_there_are_no_others(self):
-        older = AIRPORT.replace("1300 -0.0015 0.004 0.0 tie_down props Ramp (\u00d6st)", "15 -0.0015 0.004 0.0 Old")
-        self.assertNotIn(["Old", "stand"], run(older).of("node"))
+    def test_older_rows(self):
+        """An older row counts beside newer ones, unless it is 11.1 m from one."""
+        older = AIRPORT.replace("1300 -0.0015 0.004 0.0 tie_down props Ramp (\u00d6st)", "15 -0.0015 0.004 0.0 Old\n15 -0.00101 0.00711 0.0 Again")
+        made = run(older)
+        self.assertEqual([row for row in made.of("node") if row[1] == "stand"], [["Gate_7", "stand"], ["Old", "stand"]])
+        told = "took 1 older startup location (type 15) beside 1 newer (type 1300); within 15 m of a newer one: Again"
+        self.assertIn(told, made.told)
         self.assertIn(["Old", "stand"], run(without(older, "1300")).of("node"))
         ends = run(without(AIRPORT, "1300"))
         self.assertIn("no startup location", ends.told)
@@ -247,8 +261,43 @@ class Stands(unittest.TestCase):
         self.assertEqual(segments["L-E"], "J-E")
         self.assertEqual((segments["L-P"], segments["L-Q"]), ("J-P", "J-P"))
         self.assertEqual(segments["L-S"], "M")
-        # The place is 805, so P's lead-in has the square root of 50 * 50 + 5 * 5, which is 50.2 m, at 3 m/s.
-        self.assertEqual(made.seconds("L-P"), {"M": 17})
+        # The place is 805, so P's lead-in has the square root of 50 * 50 + 5 * 5, which is 50.2 m, at 3 m/s; 10 m are its stand's.
+        self.assertEqual(made.seconds("L-P"), {"M": 14})
+        self.assertEqual(made.seconds("S-P"), {"M": 4})
+        self.assertEqual((segments["S-P"], segments["S-S"]), ("X-L-P", "X-L-S"))
+
+    def test_a_stand_near_its_taxiway(self):
+        """A lead-in of 12 m: half of it is the stand's."""
+        made = run(drawing(*GROUND, "stand,T,1012,-100,M"))
+        self.assertEqual(made.seconds("L-T"), {"M": 2})
+        self.assertEqual(made.seconds("S-T"), {"M": 2})
+        self.assertEqual(run(drawing(*GROUND, "stand,T,1012,-100,M"), "--place", "3").seconds("L-T"), {"M": 3})
+
+    def test_pushback(self):
+        """A departure takes 60 s more on its stand's piece and on the lead-in before it."""
+        made = run(drawing(*GROUND), "--pushback", "60", "--version", "2", "--class", "M")
+        self.assertEqual(made.of("class"), [["M"], ["M-PUSH"]])
+        self.assertEqual(made.of("clearance"), [["M", "8"], ["M-PUSH", "8"]])
+        # 50 m and 10 m at 3 m/s, 100 m at 8 m/s.
+        self.assertEqual(made.seconds("S-S"), {"M": 4, "M-PUSH": 64})
+        self.assertEqual(made.seconds("L-S"), {"M": 17, "M-PUSH": 77})
+        self.assertEqual(made.seconds("N"), {"M": 13, "M-PUSH": 13})
+        self.assertIn("classes for departures with 60 s of pushback: M-PUSH", made.told)
+        self.assertEqual(run(drawing(*GROUND), "--pushback", "60", "--class", "ABCDEFGHIJKL").status, 1)
+
+    def test_a_default_class_that_no_stand_takes(self):
+        text = AIRPORT.replace("jets|heavy Gate 7", "jets Gate 7")
+        made = run(text)
+        self.assertEqual(made.of("class"), [["L"], ["M"]])
+        self.assertIn("left out the default class H, which no stand takes", made.told)
+        asked = run(text, "--class", "M", "--class", "H")
+        self.assertEqual(asked.of("class"), [["M"], ["H"]])
+        self.assertIn("warning: no stand takes class H", asked.told)
+
+    def test_long_names(self):
+        made = run(drawing(*GROUND, "stand,North_Ra_Helipad,900,-100,M"))
+        self.assertIn("segments of the stand North_Ra_Helipad: L-North_Ra_Helip, S-North_Ra_Helip\n", made.told)
+        self.assertNotIn("segments of the stand S:", made.told)
 
 
 class Networks(unittest.TestCase):
@@ -285,10 +334,29 @@ class Networks(unittest.TestCase):
         self.assertIn("left out, edges along a runway (2)", made.told)
         self.assertIn("which have no taxiway: 13", made.told)
         names = [row[0] for row in made.of("segment")]
-        self.assertTrue(any(name.startswith("T11-12") for name in names))
-        self.assertFalse(any(name.startswith(("T1-11", "T12-13")) for name in names))
+        self.assertEqual([row for row in made.of("segment") if row[0].startswith("R-")], [["R-09/27-1", "09/27.2", "09/27.1", "both"]])
+        self.assertFalse(any(name.startswith(("T1-11", "T12-13", "T11-12")) for name in names))
         kept = run(text, "--keep-runway-edges")
-        self.assertTrue(any(row[0].startswith("T12-13") for row in kept.of("segment")))
+        # From the start on: 12-13 in one piece, 11-12 cut at both ends, 1-11 cut at 11, where three meet.
+        along = {row[0]: row[1:3] for row in kept.of("segment") if row[0].startswith("R-")}
+        self.assertEqual(sorted(along), [f"R-09/27-{number}" for number in range(1, 7)])
+        self.assertEqual(along["R-09/27-1"], ["09/27.2", "09/27.1"])
+        self.assertEqual(along["R-09/27-6"][0], "09/27.4")
+
+    def test_runways_beside_the_airport_file(self):
+        """A runs across the runway with no node on it; N begins on it; the edge from R to P lies along it."""
+        lines = ("node,P,1300,0", "node,V,500,-300", "node,W,500,300", "taxiway,T,both,R,P", "taxiway,Z,both,P,M", "taxiway,A,both,M,V,W")
+        options = ("--keep-runway-edges", "--cut-from", "5000", "--runways", "FOLDER/runways", "--map", "FOLDER/map")
+        made = run(drawing(*GROUND, *lines, "stand,S2,500,310,all"), *options)
+        self.assertEqual(made.status, 0, made.told)
+        runway = made.map["features"][0]
+        self.assertEqual((runway["properties"]["kind"], runway["properties"]["name"], runway["properties"]["width"]), ("runway", "09/27", 40.0))
+        self.assertEqual(runway["properties"]["segments"], ["R-09/27-1"])
+        self.assertEqual(sorted(runway["properties"]["crossings"]), ["A.3", "N", "Z"])
+        self.assertEqual(made.runways["runways"][0]["segments"], ["R-09/27-1"])
+        self.assertEqual(made.runways["runways"][0]["crossings"], runway["properties"]["crossings"])
+        told = {f["properties"]["name"]: f["properties"] for f in made.map["features"][1:]}
+        self.assertEqual((told["R-09/27-1"]["runway"], told["A.1"]["taxiway"], "taxiway" in told["L-S"]), ("09/27", "A", False))
 
     def test_what_is_cut_off(self):
         made = run(AIRPORT.replace("1202 1 2", "1201 -0.004 0.005 both 8 n\n1201 -0.004 0.006 both 9 n\n1202 8 9 twoway taxiway Z\n1202 1 2"))
@@ -347,6 +415,14 @@ class Conflicts(unittest.TestCase):
         made = run(drawing(*GROUND))
         self.assertTrue(made.conflict("N", "L-S"))
 
+    def test_the_piece_at_a_stand(self):
+        """Two stands 20 m apart: their lead-ins conflict, the pieces at the stands with nothing but the own lead-in."""
+        made = run(drawing(*GROUND, "stand,S2,1020,-160,all"))
+        self.assertTrue(made.conflict("L-S", "L-S2"))
+        self.assertTrue(made.conflict("L-S", "S-S"))
+        for other in ("L-S2", "S-S2", "N"):
+            self.assertFalse(made.conflict("S-S", other), other)
+
     def test_wing_span(self):
         """Two stands side by side, their lead-ins on two taxiways that share no node."""
         for apart, is_close in ((35, True), (37, False)):
@@ -384,7 +460,7 @@ class Turns(unittest.TestCase):
         made = run(drawing(*GROUND, *lines), "--cut-from", "5000")
         # From B to the stand S there is no other way.
         self.assertEqual(made.of("forbid"), [])
-        self.assertIn("sharp turns or turns through a stand (2), without which somebody would lose a way", made.told)
+        self.assertIn("kept 2 sharp turns or turns through a stand that some class needs to reach a stand or to leave it", made.told)
         loop = ("node,G,1500,-300", "node,H,900,-300", "node,I,900,-100", "taxiway,C,both,F,G,H,I,M")
         made = run(drawing(*GROUND, *lines, *loop), "--cut-from", "5000")
         self.assertEqual(made.of("forbid"), [["A.1+", "B-"], ["B+", "A.1-"]])
@@ -394,7 +470,7 @@ class Turns(unittest.TestCase):
         """A stand on a taxiway beside which there is another: nobody goes through it."""
         lines = ("node,P,1040,-150", "node,Q,1000,-300", "node,O,960,-150", "taxiway,A,both,M,P,Q,O,M", "stand,T,1040,-150,all")
         made = run(drawing(*GROUND, *lines), "--sharp", "180")
-        self.assertEqual(sorted(made.of("forbid")), [["A.1+", "A.2+"], ["A.2-", "A.1-"]])
+        self.assertEqual(sorted(made.of("forbid")), [["S-T.1+", "S-T.2+"], ["S-T.2-", "S-T.1-"]])
         self.assertEqual(dict(made.of("node"))["T"], "stand")
 
 

@@ -29,6 +29,33 @@ class Days(unittest.TestCase):
         stands = {row[1][3:]: row[4] for row in rows[2:] if row[0] == "arrival"}
         self.assertTrue(all(stands[row[1][3:]] == row[3] for row in rows[2:] if row[0] == "departure"))
 
+    def test_departures_with_pushback(self):
+        """An airport with the class M-PUSH: arrivals have M, and departures M-PUSH."""
+        airport = PARTED.replace(b"class,L", b"class,M-PUSH").replace(b"seconds,A,L", b"seconds,A,M-PUSH") + b"seconds,B,M-PUSH,90\n"
+        with tempfile.NamedTemporaryFile() as file:
+            file.write(airport.replace(b"horizon,100", b"horizon,40000"))
+            file.flush()
+            words = [sys.executable, os.path.join(TOOLS, "make_day"), file.name, "--flights", "6"]
+            rows = subprocess.run(words, capture_output=True, text=True, check=True).stdout.splitlines()[2:]
+        self.assertEqual({tuple(row.split(",")[0:3:2]) for row in rows}, {("arrival", "M"), ("departure", "M-PUSH")})
+
+    def test_words_that_make_no_day(self):
+        for words, told in ((["--flights", "-5"], "--flights -5 is below 0"), (["--from", "40000", "--until", "30000"], "is not after --from")):
+            ran = subprocess.run([sys.executable, os.path.join(TOOLS, "make_day"), __file__, *words], capture_output=True, text=True)
+            self.assertEqual((ran.returncode, ran.stdout), (2, ""))
+            self.assertIn(told, ran.stderr)
+
+    def test_a_full_disk_and_a_closed_pipe(self):
+        words = [sys.executable, os.path.join(TOOLS, "make_day"), os.path.join(os.path.dirname(TOOLS), "examples", "meadow", "airport.csv")]
+        with open("/dev/full", "w") as full:
+            ran = subprocess.run(words, stdout=full, stderr=subprocess.PIPE, check=False)
+        self.assertEqual((ran.returncode, ran.stderr), (4, b"make_day: the output can't be written: the disk is full\n"))
+        reader, writer = os.pipe()
+        os.close(reader)
+        ran = subprocess.run(words, stdout=writer, stderr=subprocess.PIPE, check=False)
+        os.close(writer)
+        self.assertEqual((ran.returncode, ran.stderr), (4, b""))
+
     def test_a_file_that_is_no_airport(self):
         ran = subprocess.run([sys.executable, os.path.join(TOOLS, "make_day"), __file__], capture_output=True, text=True)
         self.assertEqual((ran.returncode, ran.stdout), (2, ""))
@@ -81,17 +108,18 @@ for line in sys.stdin:
     words = line.split()
     if words[0] == "cancel":
         print("cancelled", words[1], flush=True)
-    elif words[4 if words[0] == "arrival" else 3].startswith("N"):
+    elif words[4 if words[0] == "arrival" else 3].startswith("N") or "Q" in words and words[0] == "departure":
         print("no-route 1\\nlabel T+ 0 100 5", flush=True)
     elif words[0] == "arrival":
         print("route A 30 1 1\\nstep T+ 0 30\\nlabel T+ 0 100 30", flush=True)
     else:
-        print("route D", int(words[4]) - 20, "1 0\\nstep T- 10 30", flush=True)
+        print("route D", int(words[5]) - 20, "1 0\\nstep T- 10 30", flush=True)
 print("done 1")
 """
 ASKED = """taxi-airport,1
 horizon,100
 node,R,runway
+node,Q,runway
 node,S,stand
 %s
 class,M
@@ -110,18 +138,29 @@ class CheckAirport(unittest.TestCase):
                 with open(os.path.join(folder, name), "w") as stream:
                     stream.write(text)
             os.chmod(os.path.join(folder, "program"), 0o700)
-            words = [os.path.join(TOOLS, "check_airport"), os.path.join(folder, "program"), os.path.join(folder, "airport.csv")]
+            words = [os.path.join(TOOLS, "check_airport"), os.path.join(folder, "airport.csv"), "--program", os.path.join(folder, "program")]
             ran = subprocess.run([sys.executable, *words], capture_output=True, text=True)
             return ran.returncode, ran.stdout.splitlines() + ran.stderr.splitlines()
 
     def test_stands(self):
-        there = ["S M: from R 30 s, to R 20 s"]
-        self.assertEqual(self.check(ASKED % ("node,J,junction", "J")), (0, there + ["1 of 1 stands have a way there and out"]))
-        cut_off = ["N1 M: from nowhere, to nowhere", "1 of 2 stands have a way there and out, not N1"]
-        self.assertEqual(self.check(ASKED % ("node,N1,stand", "N1")), (1, there + cut_off))
+        """Nobody gets from a stand to Q. Two runway nodes are reached in 30 s, so the first by name is named."""
+        there, head = ["S M: from Q 30 s, to R 20 s"], ["", "class M, seconds there/out:", ""]
+        table = ["stand      R     Q", "S      30/20  30/-", ""]
+        last = "1 of 1 stands have a way there and out"
+        self.assertEqual(self.check(ASKED % ("node,J,junction", "J")), (0, there + head + table + [last]))
+        cut_off = ["N1 M: from nowhere, to nowhere"]
+        table.insert(2, "N1       -/-   -/-")
+        last = "1 of 2 stands have a way there and out, not N1"
+        self.assertEqual(self.check(ASKED % ("node,N1,stand", "N1")), (1, there + cut_off + head + table + [last]))
 
     def test_an_airport_that_is_refused(self):
-        self.assertEqual(self.check("taxi-airport,1\n"), (2, ["airport refused at record 2: no-horizon"]))
+        status, lines = self.check("taxi-airport,1\n")
+        self.assertEqual(status, 2)
+        self.assertRegex(lines[0], r"^check_airport: .*/airport.csv: airport refused at record 2: no-horizon$")
+
+    def test_help(self):
+        ran = subprocess.run([sys.executable, os.path.join(TOOLS, "check_airport"), "--help"], capture_output=True, text=True)
+        self.assertEqual((ran.returncode, ran.stderr), (0, ""))
 
 
 if __name__ == "__main__":
