@@ -80,7 +80,9 @@ class Engine:
 
     def answer(self, command: str | bytes) -> Reply:
         """The reply to one command, a line with or without its line end. A comment or a blank line gets a Comment, which is false."""
-        text, asked = self._alone(self._answered, line_of(command))
+        line = line_of(command)
+        text, number, count = self._alone(self._answered, line)
+        asked = Asked(line, number, count, self._heads)
         return Reply(text, asked) if text else Comment(text, asked)
 
     def answer_bytes(self, line: bytes) -> bytes:
@@ -162,8 +164,8 @@ class Engine:
             finally:
                 self._is_inside = False
 
-    def _answered(self, line: bytes) -> tuple[bytes, Asked]:
-        """The text of the reply, and what it answers."""
+    def _answered(self, line: bytes) -> tuple[bytes, int, int]:
+        """The text of the reply, and which line and which command it answers."""
         if self._handle is None:
             raise ValueError("the engine is closed")
         self._note(line)
@@ -174,7 +176,7 @@ class Engine:
             text = bytes_at(self._text.value, length)
             if self._log is not None and text == b"refused memory\n":
                 self._log.pop()
-        return text, Asked(line, self._lines, self._commands, self._heads)
+        return text, self._lines, self._commands
 
     def _note(self, line: bytes) -> None:
         """Counts and logs a line. This comes before the call, for what a signal handler raises comes when the call has had its effect."""
