@@ -41,9 +41,17 @@ class Router:
         return line.split()
 
 
-router = Router(sys.argv[1], sys.argv[2])
-for line in map(str.strip, sys.stdin):
-    if line and not line.startswith("#"):
-        for block in router.ask(line):
-            steps = [words[1] for words in block if words[0] == "step"]
-            print(f"{block[0][1]}: at {block[0][2]} by {' '.join(steps)}" if steps else " ".join(block[0]))
+def main():
+    """Asks each command of standard input."""
+    if len(sys.argv) != 3:
+        sys.exit("driver.py TAXI AIRPORT <COMMANDS")
+    router = Router(sys.argv[1], sys.argv[2])
+    for line in map(str.strip, sys.stdin):
+        if line and not line.startswith("#"):
+            for block in router.ask(line):
+                steps = [words[1] for words in block if words[0] == "step"]
+                print(f"{block[0][1]}: at {block[0][2]} by {' '.join(steps)}" if steps else " ".join(block[0]))
+
+
+if __name__ == "__main__":
+    main()

@@ -33,7 +33,15 @@ def said(answer):
     return [f"{answer['flight']}: {answer['reply']}" if "flight" in answer else answer["reply"]]
 
 
-router = Router(sys.argv[1], sys.argv[2])
-for line in map(str.strip, sys.stdin):
-    if line and not line.startswith("#"):
-        print(*said(router.ask(line)), sep="\n")
+def main():
+    """Asks each command of standard input."""
+    if len(sys.argv) != 3:
+        sys.exit("objects.py TAXI-TOOLS AIRPORT <COMMANDS")
+    router = Router(sys.argv[1], sys.argv[2])
+    for line in map(str.strip, sys.stdin):
+        if line and not line.startswith("#"):
+            print(*said(router.ask(line)), sep="\n")
+
+
+if __name__ == "__main__":
+    main()

@@ -176,11 +176,17 @@ if [ -n "${build-}" ] && [ $# -eq 0 ]; then
   exit 0
 fi
 if ! are_words "$@"; then
+  . "$here/tools/launch_checks.sh"
+  case "${2-}" in
+    --help | -h) help; exit 0 ;;
+  esac
   usage
   say "these words are of no form; try: $name --help"
   exit 1
 fi
 tell_trouble "$@" && stops=1
+. "$here/tools/launch_checks.sh"
+check_words "$@"
 if [ -n "${unproved-}" ]; then
   need_toolchain
   run_unproved "$@"
@@ -193,4 +199,4 @@ if [ -n "$cause" ]; then
   fi
   build_or_tell "$cause"
 fi
-exec "$program" "$@"
+run_program "$@"

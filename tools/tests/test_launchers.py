@@ -6,7 +6,8 @@ import tempfile
 import unittest
 
 TOP = os.path.dirname(os.path.dirname(os.path.dirname(os.path.abspath(__file__))))
-COPIED = ("taxi", "taxi-tools", "tools/launch.sh", "tools/build_program", "CHANGELOG.md", "crates/program_words/src/usage.rt")
+COPIED = ("taxi", "taxi-tools", "tools/launch.sh", "tools/launch_checks.sh", "tools/refused/forms.ere", "tools/build_program", "CHANGELOG.md",
+          "crates/program_words/src/usage.rt")
 MADE = ("HANDLES", "crates/taxi_cli/src/main.rt", "crates/taxi_tools/src/main.rt", "crates/taxi_base/specs/Lib.antt", "airport.csv",
         "day.txt")
 CRATES = "taxi_base:\ntaxi_cli: taxi_base\ntaxi_tools: taxi_base\n"
