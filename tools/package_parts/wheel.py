@@ -56,7 +56,7 @@ def taxi_tools() -> None:
     """The command `taxi-tools`."""
     run("taxi-tools")
 '''
-LAUNCHED = (*PROGRAMS, "tools/launch.sh", "CHANGELOG.md")
+LAUNCHED = (*PROGRAMS, "tools/launch.sh", "tools/launch_checks.sh", "CHANGELOG.md")
 
 
 def tag(built: Built) -> str:
