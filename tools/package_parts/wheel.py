@@ -56,7 +56,8 @@ def taxi_tools() -> None:
     """The command `taxi-tools`."""
     run("taxi-tools")
 '''
-LAUNCHED = (*PROGRAMS, "tools/launch.sh", "tools/launch_checks.sh", "CHANGELOG.md")
+# What of the launchers' folder they need beside the programs.
+LAUNCHED = (*PROGRAMS, "libexec/", "tools/launch", "tools/refused/forms.ere", "CHANGELOG.md")
 
 
 def tag(built: Built) -> str:
@@ -72,7 +73,7 @@ def wheel_tree(identity: Identity, built: Built, sources: str) -> Tree:
     tree.add_file("rusboqan/librusboqan.so", built.path("librusboqan.so"))
     tree["rusboqan/librusboqan.so"] = tree["rusboqan/librusboqan.so"].as_data()
     programs = layout.home(identity, built)
-    kept = Tree({place: it for place, it in programs.items() if place in LAUNCHED or place.startswith("libexec/")})
+    kept = Tree({place: it for place, it in programs.items() if place.startswith(LAUNCHED)})
     tree.update(kept.below("rusboqan/programs"))
     tree.add("rusboqan/programs/__init__.py", COMMANDS)
     tree.add("rusboqan/SOURCES.txt", sources)

@@ -14,9 +14,9 @@ import unittest
 import zipfile
 
 TOP = os.path.dirname(os.path.dirname(os.path.dirname(os.path.abspath(__file__))))
-COPIED = ("package", "install", "taxi", "taxi-tools", "tools/launch.sh", "tools/build_program", "tools/endings.py", "tools/package_parts",
-          "tools/day_replay", "tools/day_page", "include", "python/rusboqan", "examples/choice", "README.md", "CHANGELOG.md",
-          "LICENSE-APACHE", "LICENSE-MIT", "docs/INSTALL.md")
+COPIED = ("package", "install", "taxi", "taxi-tools", "tools/launch.sh", "tools/launch_checks.sh", "tools/refused",
+          "tools/build_program", "tools/endings.py", "tools/package_parts", "tools/day_replay", "tools/day_page",
+          "include", "python/rusboqan", "examples/choice", "README.md", "CHANGELOG.md", "LICENSE-APACHE", "LICENSE-MIT", "docs/INSTALL.md")
 with open(f"{TOP}/CHANGELOG.md", encoding="utf-8") as file:
     VERSION = re.search(r"^## (\d+\.\d+\.\d+)", file.read(), re.M)[1]
 # 2026-12-02T00:00:00 in UTC.
@@ -137,6 +137,10 @@ class Packages(PackageTest):
                 wanted = base64.urlsafe_b64encode(hashlib.sha256(data).digest()).decode().rstrip("=")
                 self.assertEqual((digest, size), (f"sha256={wanted}", str(len(data))))
             self.assertEqual(set(file.namelist()) - set(record), {listed})
+            for it in (it for it in file.infolist() if it.filename.startswith("rusboqan/programs/")):
+                os.chmod(file.extract(it, f"{self.out}/wheel"), it.external_attr >> 16)
+        ran = run(f"{self.out}/wheel/rusboqan/programs/taxi", "migrate", f"{TOP}/examples/choice/airport.csv")
+        self.assertEqual((ran.returncode, ran.stderr), (0, ""))
         self.assertLessEqual({"rusboqan/librusboqan.so", "rusboqan/py.typed", "rusboqan/programs/libexec/taxi"}, set(record))
 
     def look_at_deb(self):
