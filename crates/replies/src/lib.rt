@@ -14,8 +14,8 @@ mod words;
 pub use block::Block;
 pub use entries::{Entries, Entry, are_told};
 pub use laws::{
-    due_replies_are_one, exchanges_lower_totals, replies_keep_flights_sound, replies_pass,
-    what_passes_is_best,
+    due_replies_are_one, exchanges_lower_totals, late_repairs_keep_what_was_entered,
+    replies_keep_flights_sound, replies_pass, what_passes_is_best,
 };
 pub use named::{has_no_runway, has_no_stand, nodes_named};
 pub use refused::{delay_refused, fixed_refused};
