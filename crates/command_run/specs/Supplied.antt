@@ -1,22 +1,10 @@
--- What is a run in which memory runs out for no command, and what is kept of its blocks?
-use Rattle.std.specs.Prelude.{ℕ, ◌≡◌, ◌-◌, List, [], ◌∷◌, ◌++◌, take, slice_get, Option, All}
-use Rattle.taxi_base.specs.declared.answers.Refusal.TheVariants as refusal
+-- What is kept of the blocks of a run in which memory runs out for no command, and what is such a run before a command?
+use Rattle.std.specs.Prelude.{ℕ, ◌≡◌, ◌-◌, List, [], ◌∷◌, ◌++◌, take, slice_get, Option}
 use Rattle.taxi_base.specs.Airport.{Airport}
-use Rattle.taxi_base.specs.State.{State, no_holder}
+use Rattle.taxi_base.specs.State.{State}
 use Rattle.replies.specs.declared.block.Block.{Block}
-use Rattle.replies.specs.declared.block.Block.TheVariants.{Refused}
 use Rattle.replies.specs.Replies.{IsAnswered}
-use Rattle.transcripts.specs.Runs.{IsRun}
-
--- memory did not run out for this block
-abbrev pub FoundMemory : Block → Type 0
-FoundMemory block = block ≡ Refused refusal.Memory → ⊥
-
--- a run over commands from no holder in force, in which memory ran out for none, and what is in force after it
-pub record IsSuppliedRun (airport : Airport) (commands : List (List ℕ)) (after : State) : Type 0 where
-  pub blocks : List Block
-  pub run : IsRun airport no_holder commands blocks after
-  pub found_memory : All FoundMemory blocks
+pub use Rattle.transcripts.specs.Supplied.{FoundMemory, IsSuppliedRun}
 
 -- Such a run over the commands before the one of this number, counted from 1. The next is that command's line, which is not
 -- answered, if there are so many.

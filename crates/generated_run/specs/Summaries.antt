@@ -1,12 +1,12 @@
 -- What comes of the commands of a made input?
 use Rattle.std.specs.Prelude.{ℕ, ◌≡◌, ◌-◌, ◌++◌, ◌∷◌, [], Bool, true, false, List, All, length, count_by, sum_by, codes, decimal}
-use Rattle.taxi_base.specs.declared.answers.Refusal.TheVariants as refusal
 use Rattle.taxi_base.specs.Airport.{Airport}
 use Rattle.taxi_base.specs.State.{State, no_holder}
 use Rattle.taxi_base.specs.Walks.{begin_of, end_of}
 use Rattle.replies.specs.declared.block.Block.{Block}
-use Rattle.replies.specs.declared.block.Block.TheVariants.{Refused, Route, NoRoute}
+use Rattle.replies.specs.declared.block.Block.TheVariants.{Route, NoRoute}
 use Rattle.transcripts.specs.Runs.{IsRun}
+pub use Rattle.transcripts.specs.Supplied.{FoundMemory}
 use Rattle.traffic_generator.specs.Grid.{grid_airport}
 use Rattle.traffic_generator.specs.Flights.{command_lines}
 use Rattle.generated_run.specs.declared.summary.Summary.{Summary}
@@ -40,10 +40,6 @@ summary_of airport blocks = record {
 }
 
 -- ---- runs
-
--- memory didn't run out for the command
-abbrev pub FoundMemory : Block → Type 0
-FoundMemory block = block ≡ Refused refusal.Memory → ⊥
 
 -- what came of a run over lines from no holder on, in which memory ran out for no command
 pub record IsSummaryOf (airport : Airport) (lines : List (List ℕ)) (summary : Summary) : Type 0 where

@@ -1,3 +1,4 @@
 pub mod RunLaws
 pub mod CommandsIn
 pub mod OneAfter
+pub mod OneRun

@@ -3,10 +3,12 @@
 
 mod block_checker;
 mod last_line;
+mod laws;
 mod refused;
 mod router;
 
 pub use block_checker::BlockChecker;
 pub use last_line::done_line;
+pub use laws::supplied_runs_are_one;
 pub use refused::CheckRefused;
 pub use router::Router;
