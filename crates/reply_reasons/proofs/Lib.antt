@@ -14,3 +14,4 @@ pub mod HeldSeconds
 pub mod HeldAhead
 pub mod HeldBehind
 pub mod NamedLaws
+pub mod OneExplanation

@@ -237,7 +237,7 @@ module _ (airport : Airport) (state : State) (block : Block) (after : State) whe
 
 module _ (airport : Airport) (state : State) where
   -- nothing refuses what is asked for where a route is due
-  due-parts : (command : Command) (asking : Asking) → asking_due airport state command ≡ Some asking → (first_refusal airport state command ≡ None) × (asking_of airport state command ≡ Some asking)
+  pub due-parts : (command : Command) (asking : Asking) → asking_due airport state command ≡ Some asking → (first_refusal airport state command ≡ None) × (asking_of airport state command ≡ Some asking)
   due-parts command asking due =
       let found = and_then-some (λ asking. option_map_or (λ why. None) (first_refusal airport state command) (Some asking)) (asking_of airport state command) asking due in
       go found.0 found.1 (first_refusal airport state command) refl found.2

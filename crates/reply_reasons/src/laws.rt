@@ -3,7 +3,7 @@ ghost use Rattle.std.specs.Prelude.{◌≡◌, ◌↔◌, ◌<◌, ℕ, [], List
 ghost use Rattle.taxi_base.specs.declared.numbers.Node.{Node};
 ghost use Rattle.taxi_base.specs.declared.answers.Request.TheVariants as request;
 ghost use Rattle.taxi_base.specs.Walks.{AtLast};
-ghost use Rattle.taxi_base.specs.Airport.{Airport as AirportSeen};
+ghost use Rattle.taxi_base.specs.Airport.{Airport as AirportSeen, IsWellFormed};
 ghost use Rattle.taxi_base.specs.State.{State, without};
 ghost use Rattle.taxi_text.specs.declared.command.Command.{Command};
 ghost use Rattle.replies.specs.declared.block.Block.{Block};
@@ -46,4 +46,9 @@ pub fn waits_name_holders()
         All (NamesWaitedFor others) reasons }
     ensures queues { (airport : AirportSeen) (asking : AskingSeen) (others : State) (reasons : List ReasonSeen) (from to : Node) (time queue : ℕ) → asking.request ≡ request.Departure from to time queue → (told : IsRouteExplained airport asking others reasons) →
         IfSome told.answer (AtLast (λ last. held_until airport asking.class last < airport.horizon)) → All (NamesHolder others) reasons }
+{}
+
+/// A line that is given in a state has one explanation. So its text depends on the airport, the holders in force and the line alone.
+pub fn explanations_are_one()
+    ensures { (airport : AirportSeen) (state : State) (line : List ℕ) (reasons others : List ReasonSeen) → IsWellFormed airport → IsExplained airport state line reasons → IsExplained airport state line others → reasons ≡ others }
 {}

@@ -18,7 +18,8 @@ mod waits;
 pub use asking::{Asking, Way};
 pub use explaining::explain;
 pub use laws::{
-    answers_are_those_of_replies, no_holder_is_worth_more_than_all, waits_name_holders,
+    answers_are_those_of_replies, explanations_are_one, no_holder_is_worth_more_than_all,
+    waits_name_holders,
 };
 pub use reason::Reason;
 pub use text::write_reasons;
