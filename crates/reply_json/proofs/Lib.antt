@@ -6,3 +6,5 @@ mod ObjectTexts
 mod Encoded
 mod ReadBack
 mod LineBack
+mod Readable
+mod ReadAgain

@@ -43,7 +43,7 @@ pub plain-append : (bs more : List ℕ) → ArePlain bs → ArePlain more → Ar
 plain-append [] more one two = two
 plain-append (b ∷ bs) more one two = (one.0, plain-append bs more one.1 two)
 
-other : (b n : ℕ) → (b ≡ n → ⊥) → (b == n) ≡ false
+pub other : (b n : ℕ) → (b ≡ n → ⊥) → (b == n) ≡ false
 other b n apart = grind (arith, nat_tests)
 
 escape-one : (b : ℕ) → IsPlain b → escape_byte b ≡ b ∷ []

@@ -1,5 +1,5 @@
 -- What is written of a command and its reply, and last of all?
-use Rattle.std.specs.Prelude.{◌≡◌, ℕ, List, [], ◌∷◌, ◌++◌, codes, decimal, map}
+use Rattle.std.specs.Prelude.{ℕ, List, [], ◌∷◌, ◌++◌, codes, decimal, map}
 use Rattle.taxi_base.specs.Airport.{Airport}
 use Rattle.taxi_text.specs.Words.{words_of}
 use Rattle.replies.specs.declared.block.Block.{Block}

@@ -15,5 +15,7 @@ mod rows;
 mod short_replies;
 mod words;
 
-pub use laws::{objects_give_the_line, objects_give_the_transcript, words_give_the_line};
+pub use laws::{
+    objects_are_read_back, objects_give_the_line, objects_give_the_transcript, words_give_the_line,
+};
 pub use line::{done_line, write_object_line};
