@@ -143,7 +143,7 @@ departure-no_unused c from to node time queue steps step stand meets on at unuse
 -- ---- idle turns
 
 -- a pair that is kept is forbidden as before
-kept-forbidden : (keep : Arc × Arc → Bool) (x y : Arc) (pairs : List (Arc × Arc)) → IsTrue (keep (x, y)) → is_forbidden (filter keep pairs) x y ≡ is_forbidden pairs x y
+pub kept-forbidden : (keep : Arc × Arc → Bool) (x y : Arc) (pairs : List (Arc × Arc)) → IsTrue (keep (x, y)) → is_forbidden (filter keep pairs) x y ≡ is_forbidden pairs x y
 kept-forbidden keep x y [] kept = refl
 kept-forbidden keep x y (p ∷ pairs) kept = elim (cases_Bool (keep p)) [
   | inl stays ↦ rw stays (ap (λ b. (p.0.0 == x.0 && p.1.0 == y.0) || b) (kept-forbidden keep x y pairs kept))

@@ -1,0 +1,6 @@
+//! Runs at an airport without the rules that make no difference.
+#![tactic(auto)]
+
+mod laws;
+
+pub use laws::runs_are_the_same;
