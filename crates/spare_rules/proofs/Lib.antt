@@ -5,3 +5,4 @@ pub mod LateTo
 pub mod BatchTo
 pub mod DueTo
 pub mod Spares
+pub mod Told

@@ -3,4 +3,4 @@
 
 mod laws;
 
-pub use laws::runs_are_the_same;
+pub use laws::{runs_are_the_same, spare_rules_are_told};
