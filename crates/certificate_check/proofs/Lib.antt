@@ -28,3 +28,4 @@ mod LateBase
 mod LateTurn
 mod LateTurns
 mod LateJudged
+mod PassedLate

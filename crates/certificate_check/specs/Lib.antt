@@ -8,3 +8,4 @@ pub mod Late
 pub mod Reports
 pub mod Checker
 pub mod Parties
+pub mod PassedLate

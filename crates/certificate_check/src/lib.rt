@@ -18,6 +18,7 @@ mod late_order;
 mod late_turn;
 mod late_turns;
 mod late_way;
+mod laws;
 mod line;
 mod parties;
 mod plain;
@@ -27,4 +28,5 @@ mod routed;
 mod searches;
 
 pub use checker::Checker;
+pub use laws::repairs_that_pass_keep_what_was_entered;
 pub use transcripts::CheckRefused;
