@@ -18,8 +18,8 @@ use denote.RawPtr.{block_ptr}
 use denote.RawPtr.Bytes.{bytes, bytes_apart, bytes_whole}
 use denote.Slice.{elements_shared}
 use Rattle.std.specs.contracts.impls.GlobalAllocator.TheImpl.{ghosts}
-use Rattle.taxi_engine.specs.Engine.{EngineState}
-use Rattle.taxi_engine.specs.contracts.engine.Engine.{the_row as R}
+use Rattle.engine_texts.specs.Session.{SessionState}
+use Rattle.engine_texts.specs.contracts.session.Session.{the_row as R}
 use Rattle.taxi_library.specs.Open.{heap, holds}
 
 module _ {M : Type 1} {𝓤 : Ura M} (𝓛 : Logic 𝓤) where
@@ -36,7 +36,7 @@ module _ {M : Type 1} {𝓤 : Ura M} (𝓛 : Logic 𝓤) where
       (each_opens 𝓛 u8 (uint_Copied 𝓛 w8) xs b o)
 
   -- what was taken, given back, gives the token; so the lifetime ends, and the engine is its owner's again
-  pub given_back : (α : ℕ) (engine : EngineState) (b o : ℕ) (taken : Fml)
+  pub given_back : (α : ℕ) (engine : SessionState) (b o : ℕ) (taken : Fml)
       → ent 𝓤 (sep 𝓤 (wand 𝓤 (sem 𝓛 taken) (H.⇛ (lfts 𝓛 ((α ∷ [], full_share) ∷ [])))) (sep 𝓤 (A.lent (α ∷ []) (part_at R full_share engine b o)) (sem 𝓛 (ghosts.dealloc_token heap (bare (lone R.mir)) (block_ptr b o)))))
       (wand 𝓤 (sem 𝓛 taken) (H.⇛ (sem 𝓛 (holds (block_ptr b o) engine))))
   given_back α engine b o taken =

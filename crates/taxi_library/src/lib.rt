@@ -1,21 +1,23 @@
-//! The engine for callers in C: handles, answers and the texts of replies.
+//! The engine for callers in C: handles, answers and the texts of replies, and what the tools tell of a run.
 #![tactic(auto)]
 
+mod asked;
 mod calls;
 mod loose;
 mod why;
 
 ghost use Rattle.std.specs.Prelude.{◌≡◌, Option, length};
 ghost use types.Logic.{sem};
-ghost use Rattle.taxi_engine.specs.Engine.{EngineState};
+ghost use Rattle.engine_texts.specs.Session.{SessionState};
 ghost use Rattle.taxi_library.specs.Open.{holds, IsOpen, Lends};
-ghost use Rattle.taxi_library.specs.Calls.{IsMade, IsWhy, IsAnswer, IsCopied};
+ghost use Rattle.taxi_library.specs.Calls.{IsMade, IsWhy, IsRule, IsAnswer, IsCopied, IsObjectAsked, IsPlanAsked, AreFiguresAsked, IsCheckpointAsked, IsExplanationAsked};
 
-use calls::{answered, copied, opened, told, why_refused};
+use asked::{checkpoint_told, explanation_told, figures_told, object_told, plan_told};
+use calls::{answered, opened, replied, reply_copied, rule_copied, told, why_refused};
+use engine_texts::Session;
 use loose::Loose;
 use std::alloc::Global;
-use taxi_engine::Engine;
-use why::Why;
+use why::{Why, number_of};
 
 /// What C knows of an engine: its address. The byte is never read.
 #[repr(C)]
@@ -31,11 +33,11 @@ pub extern "C" fn rusboqan_version() -> u32
     10300
 }
 
-/// Opens an engine over the airport of a file's bytes, and writes its handle. False where the bytes are no airport, or
+/// Opens an engine over the airport of a file's bytes, and writes its handle. False where the bytes are no airport or too many, or
 /// memory runs out; then no handle is written.
 #[unsafe(no_mangle)]
 pub extern "C" fn rusboqan_open(alloc: Global, airport: &[u8], out: &mut *mut Rusboqan) -> bool
-    ensures* { ∃ₛ (λ (engine : Option EngineState). sem 𝓛 (IsOpen out.new engine) ∗ ⌜ IsMade airport.now result out.old out.new engine ⌝) }
+    ensures* { ∃ₛ (λ (engine : Option SessionState). sem 𝓛 (IsOpen out.new engine) ∗ ⌜ IsMade airport.now result out.old out.new engine ⌝) }
 {
     match opened(alloc, airport) {
         Some(engine) => {
@@ -53,31 +55,40 @@ pub extern "C" fn rusboqan_why(alloc: Global, airport: &[u8], at: &mut u32) -> u
     ensures { IsWhy airport.now result at.old at.new }
 {
     let why = why_refused(alloc, airport);
-    if let Why::Refused { at: record } = why {
+    if let Some(Why::Refused { at: record, .. }) = why {
         *at = record;
     }
-    why.number()
+    number_of(why)
+}
+
+/// Copies the word of the rule that the first bad record of these bytes breaks, where it fits, and gives its length. 0 where no record is known
+/// to break one.
+#[unsafe(no_mangle)]
+pub extern "C" fn rusboqan_rule(alloc: Global, airport: &[u8], room: &mut [u8]) -> usize
+    ensures { IsRule airport.now result room.old room.new }
+{
+    rule_copied(alloc, airport, room)
 }
 
 /// Answers the command of a line, and gives the length of the reply; 0 where the line holds no command.
 #[unsafe(no_mangle)]
 pub unsafe extern "C" fn rusboqan_answer(at: *mut Rusboqan, line: &[u8]) -> usize
-    ghost held: { EngineState }
+    ghost held: { SessionState }
     requires* { sem 𝓛 (holds at held) }
-    ensures* { ∃ₛ (λ (after : EngineState). sem 𝓛 (holds at after) ∗ ⌜ IsAnswer line.now held after result ⌝) }
+    ensures* { ∃ₛ (λ (after : SessionState). sem 𝓛 (holds at after) ∗ ⌜ IsAnswer line.now held after result ⌝) }
 {
-    answered(&mut *(at as *mut Engine), line)
+    answered(&mut *(at as *mut Session), line)
 }
 
 /// Lends the text of the last reply: writes where it begins, and gives its length. It can be read until the next call for
 /// this engine.
 #[unsafe(no_mangle)]
 pub unsafe extern "C" fn rusboqan_text(at: *mut Rusboqan, text: &mut *const u8) -> usize
-    ghost held: { EngineState }
+    ghost held: { SessionState }
     requires* { sem 𝓛 (holds at held) }
-    ensures* { Lends 𝓛 at held text.new ∗ ⌜ result ≡ length held.reply ⌝ }
+    ensures* { Lends 𝓛 at held text.new held.engine.reply ∗ ⌜ result ≡ length held.engine.reply ⌝ }
 {
-    let reply = told(&*(at as *mut Engine));
+    let reply = replied(&*(at as *mut Session));
     *text = reply.as_ptr();
     reply.len()
 }
@@ -85,25 +96,89 @@ pub unsafe extern "C" fn rusboqan_text(at: *mut Rusboqan, text: &mut *const u8) 
 /// Copies the text of the last reply, where it fits, and gives its length. Where it doesn't fit the room stays as it is.
 #[unsafe(no_mangle)]
 pub unsafe extern "C" fn rusboqan_reply(at: *mut Rusboqan, room: &mut [u8]) -> usize
-    ghost held: { EngineState }
+    ghost held: { SessionState }
     requires* { sem 𝓛 (holds at held) }
-    ensures* { sem 𝓛 (holds at held) ∗ ⌜ IsCopied held.reply result room.old room.new ⌝ }
+    ensures* { sem 𝓛 (holds at held) ∗ ⌜ IsCopied held.engine.reply result room.old room.new ⌝ }
 {
-    copied(&mut *(at as *mut Engine), room)
+    reply_copied(&mut *(at as *mut Session), room)
+}
+
+/// Tells of the last command and its reply as a JSON object, where the command's line has this number. Gives the length of the text, which
+/// `rusboqan_told` lends, or 2^64 - 1 where memory runs out.
+#[unsafe(no_mangle)]
+pub unsafe extern "C" fn rusboqan_json(at: *mut Rusboqan, line: u64) -> usize
+    ghost held: { SessionState }
+    requires* { sem 𝓛 (holds at held) }
+    ensures* { ∃ₛ (λ (after : SessionState). sem 𝓛 (holds at after) ∗ ⌜ IsObjectAsked line held after result ⌝) }
+{
+    object_told(&mut *(at as *mut Session), line)
+}
+
+/// Tells of what is in force as a table, with civil times where a start is given. Gives the length of the text, 2^64 - 1 where memory runs out,
+/// or 2^64 - 2 where the start is no civil time.
+#[unsafe(no_mangle)]
+pub unsafe extern "C" fn rusboqan_plan(at: *mut Rusboqan, start: &[u8]) -> usize
+    ghost held: { SessionState }
+    requires* { sem 𝓛 (holds at held) }
+    ensures* { ∃ₛ (λ (after : SessionState). sem 𝓛 (holds at after) ∗ ⌜ IsPlanAsked start.now held after result ⌝) }
+{
+    plan_told(&mut *(at as *mut Session), start)
+}
+
+/// Tells the figures of the commands that were answered. Gives the length of the text, or 2^64 - 1 where memory runs out.
+#[unsafe(no_mangle)]
+pub unsafe extern "C" fn rusboqan_figures(at: *mut Rusboqan) -> usize
+    ghost held: { SessionState }
+    requires* { sem 𝓛 (holds at held) }
+    ensures* { ∃ₛ (λ (after : SessionState). sem 𝓛 (holds at after) ∗ ⌜ AreFiguresAsked held after result ⌝) }
+{
+    figures_told(&mut *(at as *mut Session))
+}
+
+/// Tells of what is in force as a command file. Gives the length of the text, or 2^64 - 1 where memory runs out.
+#[unsafe(no_mangle)]
+pub unsafe extern "C" fn rusboqan_checkpoint(at: *mut Rusboqan) -> usize
+    ghost held: { SessionState }
+    requires* { sem 𝓛 (holds at held) }
+    ensures* { ∃ₛ (λ (after : SessionState). sem 𝓛 (holds at after) ∗ ⌜ IsCheckpointAsked held after result ⌝) }
+{
+    checkpoint_told(&mut *(at as *mut Session))
+}
+
+/// Tells why a line would be answered as it would, which is not done. Gives the length of the text, or 2^64 - 1 where memory runs out.
+#[unsafe(no_mangle)]
+pub unsafe extern "C" fn rusboqan_explain(at: *mut Rusboqan, line: &[u8]) -> usize
+    ghost held: { SessionState }
+    requires* { sem 𝓛 (holds at held) }
+    ensures* { ∃ₛ (λ (after : SessionState). sem 𝓛 (holds at after) ∗ ⌜ IsExplanationAsked line.now held after result ⌝) }
+{
+    explanation_told(&mut *(at as *mut Session), line)
+}
+
+/// Lends the text that was told last: writes where it begins, and gives its length. It can be read until the next call for this engine.
+#[unsafe(no_mangle)]
+pub unsafe extern "C" fn rusboqan_told(at: *mut Rusboqan, text: &mut *const u8) -> usize
+    ghost held: { SessionState }
+    requires* { sem 𝓛 (holds at held) }
+    ensures* { Lends 𝓛 at held text.new held.told ∗ ⌜ result ≡ length held.told ⌝ }
+{
+    let told = told(&*(at as *mut Session));
+    *text = told.as_ptr();
+    told.len()
 }
 
 /// Gives an engine's memory back. The handle is worth nothing from then on.
 #[unsafe(no_mangle)]
 pub unsafe extern "C" fn rusboqan_close(alloc: Global, at: *mut Rusboqan)
-    ghost held: { EngineState }
+    ghost held: { SessionState }
     requires* { sem 𝓛 (holds at held) }
 {
     ended(Loose {
-        at: at as *mut Engine,
+        at: at as *mut Session,
         alloc,
     })
 }
 
-fn ended(engine: Loose<Engine, Global>) {
+fn ended(engine: Loose<Session, Global>) {
     let _whole = engine.into_box();
 }

@@ -37,16 +37,16 @@ use denote.Triple.Table.{framed}
 use denote.Triple.Walked.{Stays, stay_dropped, stay_ref, Goes-dropped, Goes-ref, walk_of}
 use Rattle.std.proofs.raw_atomic.Walks.{proved_at, leaves}
 use Rattle.std.specs.contracts.impls.GlobalAllocator.TheImpl.{ghosts}
-use Rattle.taxi_engine.specs.contracts.engine.Engine.{the_row as R}
-use Rattle.taxi_engine.proofs.engine.Engine.TheLaws.{the_row_laws as LR}
+use Rattle.engine_texts.specs.contracts.session.Session.{the_row as R}
+use Rattle.engine_texts.proofs.session.Session.TheLaws.{the_row_laws as LR}
 use Rattle.taxi_library.specs.Open.{heap, holds, reads}
 use Rattle.taxi_library.proofs.Loan.{text_at, text_opens, given_back}
 use Rattle.taxi_library.specs.contracts.rusboqan_text as f
 use Rattle.taxi_library.specs.contracts.rusboqan_text.Key.{name as #self}
 use Rattle.taxi_library.proofs.rusboqan_text.Statement.{statement}
 use Rattle.taxi_library.proofs.rusboqan_text.Code as code
-use Rattle.taxi_library.specs.contracts.calls.told as g
-use Rattle.taxi_library.proofs.calls.told.Met.{met}
+use Rattle.taxi_library.specs.contracts.calls.replied as g
+use Rattle.taxi_library.proofs.calls.replied.Met.{met}
 
 abbrev stayed : Stays f.ended.signature.params f.ended.kept
 stayed = (stay_dropped (plain (λ _. RawPtr)) yes, (stay_ref (0 ∷ []) tt (plain (λ _. RawPtr)), tt))
@@ -74,9 +74,9 @@ rusboqan_text_spec 𝓤 𝓛 𝓜 𝓡 wired =
     let y : G.Ghost = (((κ', tt), (full_share, tt), tt, (d, tt), (vptr b o ∷ [], tt)), tt) in
     nothing ! $ move ! (1 ∷ 0 ∷ []) $ join ! $ nothing ! $ move ! (3 ∷ 0 ∷ []) $ join ! $ join ! $
     nothing ! $ move ! (1 ∷ 0 ∷ []) $ use2 𝓛 (raw (G.pre y)) (id⊢ 𝓤 _) $
-    calls_at ! (framed 𝓤 H 𝓜 𝓣) G (met 𝓤 𝓛 𝓜 𝓡 (code.calls-taxi_library::calls::told 𝓡.env wired)) y (and_then ! (get ! refl) (no_more !)) (λ v.
+    calls_at ! (framed 𝓤 H 𝓜 𝓣) G (met 𝓤 𝓛 𝓜 𝓡 (code.calls-taxi_library::calls::replied 𝓡.env wired)) y (and_then ! (get ! refl) (no_more !)) (λ v.
     use1 𝓛 (later (some (λ (s : Bor (List ℕ)). ((‵ (flft κ' full_share) ⊛ ‵ ftrue) ⊛ ‵ ((ShrSlice (named 0) κ' u8).own_val s (v ∷ []))) ⊛
-    some (λ (ws : Lasts g.ended y.0.0 y.0.3). ‵ (lasts g.ended y.0.0 y.0.3 ws) ⊛ raw (fact 𝓤 (s.now ≡ x.reply)))))) (id⊢ 𝓤 _) $
+    some (λ (ws : Lasts g.ended y.0.0 y.0.3). ‵ (lasts g.ended y.0.0 y.0.3 ws) ⊛ raw (fact 𝓤 (s.now ≡ x.engine.reply)))))) (id⊢ 𝓤 _) $
     await ! tt $ pick ! (λ s. split ! $ split ! $ split ! $ move ! (3 ∷ []) $ pick ! (λ ws. split ! $ drop ! $ heard ! _ (λ said. move ! (2 ∷ []) $ fsplit ! $ fsplit ! $ feq_l ! (λ is. fsplit ! $ flt_l ! (λ fits. drop ! $ unhide ! $
     let n = length s.now in let b' = s.ref_ptr.0 in let o' = s.ref_ptr.1 in let text : Ptr = block_ptr b' o' in let taken = text_at 𝓛 s.now b' o' in
     -- [the bytes; the token of α; nothing; the right to the engine; the right to free; out; nothing; the token; nothing]
@@ -93,8 +93,8 @@ rusboqan_text_spec 𝓤 𝓛 𝓜 𝓡 wired =
     let Lent : Ptr → List ℕ → Share → SProp 𝓤 = λ π bytes t. sep 𝓤 (sem 𝓛 (reads t text bytes)) (wand 𝓤 (sem 𝓛 (reads t text bytes)) (H.⇛ (sem 𝓛 (holds π x)))) in
     move ! (1 ∷ 7 ∷ 8 ∷ []) $ use3 𝓛 (raw (Back-to (block_ptr b o))) (given_back 𝓛 α x b o (taken share)) $
     move ! (1 ∷ 0 ∷ []) $ use2 𝓛 (raw (ex 𝓤 (Lent (block_ptr b o) s.now))) (ex_i 𝓤 (Lent (block_ptr b o) s.now) share) $
-    rewrite ! 0 (λ (bytes : List ℕ). raw (ex 𝓤 (Lent (block_ptr b o) bytes))) said refl $ rewrite ! 0 (λ (π : Ptr). raw (ex 𝓤 (Lent π x.reply))) (sym e) refl $
-    use0 𝓛 (raw (fact 𝓤 (n ≡ length x.reply))) (fact_i 𝓤 (n ≡ length x.reply) (emp 𝓤) (ap (λ (bytes : List ℕ). length bytes) said)) $ move ! (1 ∷ 0 ∷ []) $ join ! $
+    rewrite ! 0 (λ (bytes : List ℕ). raw (ex 𝓤 (Lent (block_ptr b o) bytes))) said refl $ rewrite ! 0 (λ (π : Ptr). raw (ex 𝓤 (Lent π x.engine.reply))) (sym e) refl $
+    use0 𝓛 (raw (fact 𝓤 (n ≡ length x.engine.reply))) (fact_i 𝓤 (n ≡ length x.engine.reply) (emp 𝓤) (ap (λ (bytes : List ℕ). length bytes) said)) $ move ! (1 ∷ 0 ∷ []) $ join ! $
     -- [the loan; two parts of out; the token; out's first part; nothing; nothing; nothing]
     move ! (4 ∷ 1 ∷ 2 ∷ []) $ fjoin3 ! $ nothing ! $ move ! (1 ∷ 0 ∷ []) $ fjoin ! $ nothing ! $ fjoin ! $ nothing ! $ move ! (3 ∷ 0 ∷ []) $ join ! $
     owned ! usize (Is usize) (uint_Makes 𝓛 w64) n (vint w64 n ∷ []) (refl, fits) $

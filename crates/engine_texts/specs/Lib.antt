@@ -1,0 +1,4 @@
+pub mod Log
+pub mod Session
+pub mod InStep
+pub mod Texts
