@@ -36,6 +36,14 @@ class RusboqanEngine {
         return engine.get();
     }
 
+    // The text of that length that was made last; none if none was made.
+    std::optional<std::string> told(std::size_t length) const {
+        if (length >= RUSBOQAN_NO_START) return std::nullopt;
+        const uint8_t *text = nullptr;
+        rusboqan_told(asked(), &text);
+        return std::string(reinterpret_cast<const char *>(text), length);
+    }
+
 public:
     // An engine over the bytes of an airport file, or why there is none.
     static RusboqanOpened open(std::string_view airport);
@@ -51,6 +59,27 @@ public:
         if (length) rusboqan_text(asked(), &text);
         return {reinterpret_cast<const char *>(text), length};
     }
+
+    // What `taxi-tools` writes of the commands that were answered. Each gives none if memory runs out, for its text or for a command
+    // before, as rusboqan.h says.
+
+    // The last command and its reply as an object, with this number as that of its line.
+    std::optional<std::string> json(uint64_t line) { return told(rusboqan_json(asked(), line)); }
+
+    // What is in force as a table. With a start, the civil time of second 0, its times are civil times; none too if it is no such time.
+    std::optional<std::string> plan(std::string_view start = {}) {
+        return told(rusboqan_plan(asked(), rusboqan_detail::bytes_of(start), start.size()));
+    }
+
+    std::optional<std::string> figures() { return told(rusboqan_figures(asked())); }
+
+    // What is in force as a command file.
+    std::optional<std::string> checkpoint() { return told(rusboqan_checkpoint(asked())); }
+
+    // Why this line would be answered as it would if it came next. It is not answered.
+    std::optional<std::string> explain(std::string_view line) {
+        return told(rusboqan_explain(asked(), rusboqan_detail::bytes_of(line), line.size()));
+    }
 };
 
 // Why no engine was opened.
@@ -58,8 +87,10 @@ struct RusboqanRefusal {
     uint8_t why = RUSBOQAN_SOUND; // what rusboqan_why gives; RUSBOQAN_SOUND and RUSBOQAN_MEMORY mean that memory ran out
     uint32_t record = 0;          // with RUSBOQAN_REFUSED, the number of the first record that breaks a rule
 
+    std::string rule;             // and the word of that rule, as `no-horizon`
+
     std::string text() const {
-        if (why == RUSBOQAN_REFUSED) return "record " + std::to_string(record) + " breaks a rule";
+        if (why == RUSBOQAN_REFUSED) return "record " + std::to_string(record) + " breaks a rule: " + rule;
         return why == RUSBOQAN_TOO_LARGE ? "more than 4,194,304 bytes" : "memory ran out";
     }
 };
@@ -85,6 +116,9 @@ inline RusboqanOpened RusboqanEngine::open(std::string_view airport) {
     if (rusboqan_open(bytes, airport.size(), &opened)) return RusboqanEngine(opened);
     RusboqanRefusal refusal;
     refusal.why = rusboqan_why(bytes, airport.size(), &refusal.record);
+    uint8_t word[64]; // No rule has a longer word.
+    const std::size_t length = rusboqan_rule(bytes, airport.size(), word, sizeof word);
+    refusal.rule.assign(reinterpret_cast<const char *>(word), length);
     return refusal;
 }
 

@@ -17,11 +17,6 @@
 #define MOST_FLIGHTS 64
 #define IN_FORCE "flight %s filed M 0 30\n"
 
-#ifndef RUSBOQAN_NO_MEMORY
-#define RUSBOQAN_NO_MEMORY SIZE_MAX
-#define RUSBOQAN_NO_START (SIZE_MAX - 1)
-#endif
-
 static const size_t HUGE_REPLY = ((size_t)1 << 31) + 5;
 static atomic_long faults, engines;
 

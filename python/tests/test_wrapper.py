@@ -27,7 +27,7 @@ class TestWrapper(unittest.TestCase):
         return subprocess.run([self.program, what], capture_output=True, text=True, timeout=60, check=False)
 
     def test_engines(self):
-        for what in ("opens", "why", "moves"):
+        for what in ("opens", "why", "moves", "run"):
             ran = self.run_with(what)
             self.assertEqual((ran.returncode, ran.stderr), (0, ""), what)
 
