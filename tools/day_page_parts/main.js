@@ -23,6 +23,7 @@ function start() {
   parts.tools = new Tools(view, parts);
   parts.keys = new Keys(view, parts);
   parts.timeline.follow();
+  if (view.filter.mark !== "all") parts.timeline.showFiltered();
   if (view.selected) parts.timeline.showSelected();
   else parts.timeline.scrollToTime();
   window.dayPage = { day, view, clock, ...parts, opened: performance.now() };

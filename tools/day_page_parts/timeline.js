@@ -19,7 +19,8 @@ class Timeline {
     this.box.addEventListener("pointermove", (event) => this.hover(event));
     this.box.addEventListener("pointerleave", () => tip(null));
     new ResizeObserver(() => this.resize()).observe(this.box);
-    view.listen(["day", "rows", "plan", "filter"], () => this.refill());
+    view.listen(["day", "rows", "plan"], () => this.refill());
+    view.listen(["filter"], () => this.showFiltered());
     view.listen(["from", "to"], () => this.moved());
     view.listen(["selected", "stand", "colours", "limit"], () => this.draw());
     view.listen(["selected"], () => this.showSelected());
@@ -34,6 +35,15 @@ class Timeline {
     const all = this.top + this.rows.length * ROW + 8;
     this.spacer.style.height = `${Math.max(0, all - this.height)}px`;
     this.draw();
+  }
+
+  // What passes the filter is brought into sight, where it is all at other seconds.
+  showFiltered() {
+    this.refill();
+    const { view } = this;
+    const width = view.to - view.from;
+    const isSeen = (row) => row.begin < view.to && row.end > view.from;
+    if (view.rows === "flights" && this.rows.length && !this.rows.some(isSeen)) view.showFrom(this.rows[0].begin - width / 10, width);
   }
 
   measure() {
