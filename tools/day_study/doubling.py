@@ -17,14 +17,10 @@ def name_beside(segment, taken):
             return name
 
 
-def with_other(fields, segment, other, is_arc):
-    """The fields with the second segment in place of the first, or None where the first is none of them."""
-    def renamed(word):
-        name, sign = (word[:-1], word[-1]) if is_arc else (word, "")
-        return other + sign if name == segment else word
-
-    changed = [renamed(word) for word in fields]
-    return changed if changed != fields else None
+def with_other(words, segment, other):
+    """Two arc words with the second segment in place of the first; none if the first is in neither."""
+    changed = [other + word[-1] if word[:-1] == segment else word for word in words]
+    return [changed] if changed != words else []
 
 
 def turns_back(segment, other, one_way):
@@ -35,23 +31,38 @@ def turns_back(segment, other, one_way):
     return [["forbid", first + sign, second + back] for first, second in pairs for sign, back in ("+-", "-+")]
 
 
-def records_beside(record, segment, other):
-    """The record that a record needs beside it for the second segment; none for most."""
+def conflicts(members, segment, other, touching):
+    """The conflict sets in place of one that names the first segment: one without it, and one for each of the two with those that don't
+    meet them."""
+    others = [name for name in members if name != segment]
+    apart = [name for name in others if name not in touching]
+    sets = [others] if len(others) > 1 else []
+    return sets + [[name, *apart] for name in (segment, other) if apart]
+
+
+def records_for(record, segment, other, touching):
+    """The records in place of one. TOUCHING are the segments that meet the first."""
     word, fields = record[0], record[1:]
-    if word == "segment" and fields[0] == segment or word == "seconds" and fields[0] == segment:
-        return [[word, other, *fields[1:]]]
-    changed = None
+    if word in ("segment", "seconds") and fields[0] == segment:
+        return [record, [word, other, *fields[1:]]]
     if word == "forbid":
-        changed = with_other(fields, segment, other, True)
-    elif word == "conflict":
-        changed = with_other(fields, segment, other, False)
-    return [[word, *changed]] if changed else []
+        return [record, *([word, *changed] for changed in with_other(fields, segment, other))]
+    if word == "conflict" and segment in fields:
+        return [[word, *members] for members in conflicts(fields, segment, other, touching)]
+    return [record]
+
+
+def meeting(segments, segment):
+    """The segments that have a node in common with one of them, itself among them."""
+    ends = set(segments[segment][2:4])
+    return {name for name, record in segments.items() if ends & set(record[2:4])}
 
 
 def doubled(data, segment):
-    """The airport file with a second segment between the same nodes, for the same classes and with the same conflicts.
+    """The airport file with a second segment between the same nodes and for the same classes. Gives its bytes and the name of the second.
 
-    The two don't conflict with one another. Gives its bytes and the name of the second segment.
+    The two have room at both ends: they conflict with no segment that meets them there. Otherwise whoever is on one of the two would shut
+    the way to the other.
     """
     text = data.decode("utf-8-sig")
     records = [record for record in csv.reader(io.StringIO(text, newline="")) if record]
@@ -62,9 +73,9 @@ def doubled(data, segment):
     if tail == head:
         raise Refused(f"segment {segment} leads back to its own node, so it can't be doubled")
     other = name_beside(segment, segments)
-    made = []
+    made, touching = [], meeting(segments, segment)
     for record in records:
-        made += [record, *records_beside(record, segment, other)]
+        made += records_for(record, segment, other, touching)
     made += turns_back(segment, other, direction == "one")
     lines = io.StringIO()
     csv.writer(lines, lineterminator="\n").writerows(made)

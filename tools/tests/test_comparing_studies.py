@@ -143,8 +143,9 @@ class Doubled(ScriptTest):
         text = FORK + "forbid,A+,B+\n"
         lines = doubled(text.encode(), "B")[0].decode().splitlines()
         self.assertEqual([line for line in lines if "B_2" in line], ["segment,B_2,J,S1,one", "seconds,B_2,M,30", "forbid,A+,B_2+"])
-        lines = doubled(text.encode(), "A")[0].decode().splitlines()
-        self.assertEqual([line for line in lines if line.startswith("conflict")], ["conflict,A,D", "conflict,A_2,D"])
+        # D meets A at R, and E meets it nowhere.
+        lines = doubled((FORK + "conflict,D,A,E\n").encode(), "A")[0].decode().splitlines()
+        self.assertEqual([line for line in lines if line.startswith("conflict")], ["conflict,D,E", "conflict,A,E", "conflict,A_2,E"])
 
     def test_names(self):
         self.assertEqual(name_beside("A", {"A", "A_2"}), "A_3")
