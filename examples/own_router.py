@@ -2,7 +2,8 @@
 """A small router of one's own, to compare with Rusboqan: own_router.py AIRPORT COMMANDS.
 
 Each flight takes its quickest way and doesn't stop on it. An arrival begins as soon as this way is free, and a departure as late as it is.
-Flights are served in the order of the file. The routes are written as `file` lines, for `--own` of tools/many_days. See docs/STUDY.md.
+Flights are served in the order of the file. Of other lines it knows `work` alone. The routes are written as `file` lines, for `--own` of
+tools/many_days. See docs/STUDY.md.
 """
 import heapq
 import os
