@@ -59,6 +59,7 @@ use Rattle.program_files.proofs.InputLaws.{one-judgement, not-longer}
 use Rattle.taxi_cli.specs.Outcomes.{IsTranscript}
 use Rattle.taxi_cli.specs.Endings.{Call, IsDueText, IsCutShort, Ends}
 use Rattle.taxi_cli.specs.Headline.{IsBestWalk, AnswersSearch, AnswersCommand, AnswersAll, IsWholeAnswer, Headline}
+use Rattle.taxi_cli.proofs.ServedLaws.{reply-entered, reply-no_dearer}
 use Rattle.transcripts.proofs.RunLaws.{none-sound, run-over}
 
 -- ---- one command
@@ -231,8 +232,12 @@ answers-command airport state line b after well sound answered =
       searches = searches-answered airport state line b best;
       all_told = best.all_told;
       searched = λ command read none s is memory. searched command read none s is memory (passed.keeps rule.Reply);
-      batched = λ requests read none memory. batched requests read none memory (passed.keeps rule.Reply);
+      batched = λ requests read none memory. (
+        batched requests read none memory (passed.keeps rule.Reply),
+        reply-no_dearer airport state line b after well answered.reply requests read none memory,
+      );
       repaired = λ name time until read none memory. repaired name time until read none memory (passed.keeps rule.Reply);
+      entered = λ name time until read. reply-entered airport state line b after sound answered.reply name time until read;
       clash_free = answered.clash_free;
       passes = passed;
     }

@@ -2,15 +2,17 @@
 -- an arrival's route is feasible among the commitments then standing and no feasible walk ends earlier; a departure's is
 -- feasible and none pushes back later; no-route comes exactly when no feasible walk exists; no two aircraft ever hold
 -- conflicting segments at one moment; and the checker accepts the transcript.
-use Rattle.std.specs.Prelude.{◌≡◌, ◌↔◌, ◌⊎◌, ℕ, List, [], ◌∷◌, map, All, IsPermutation, Option, Some, None, ⊤}
+use Rattle.std.specs.Prelude.{◌≡◌, ◌↔◌, ◌⊎◌, ℕ, List, [], ◌∷◌, map, All, Contains, IsPermutation, Option, Some, None, ⊤}
 use Rattle.taxi_base.specs.declared.answers.Request.{Request}
 use Rattle.taxi_base.specs.declared.answers.Request.TheVariants as request
+use Rattle.taxi_base.specs.declared.answers.Flight.{Flight}
 use Rattle.taxi_base.specs.declared.answers.Refusal.TheVariants as refusal
 use Rattle.taxi_base.specs.declared.rows.Step.{Step}
 use Rattle.taxi_base.specs.declared.rows.LabelRow.{LabelRow}
 use Rattle.taxi_base.specs.Airport.{Airport}
 use Rattle.taxi_base.specs.Walks.{EndsEarliest, BeginsLatest, begin_of, end_of}
-use Rattle.taxi_base.specs.State.{State, no_holder, IsClashFree}
+use Rattle.taxi_base.specs.Late.{KeepsEntered}
+use Rattle.taxi_base.specs.State.{State, no_holder, step_begun, IsClashFree}
 use Rattle.taxi_text.specs.declared.command.BatchRequest.{BatchRequest}
 use Rattle.taxi_text.specs.declared.command.Command.{Command}
 use Rattle.taxi_text.specs.declared.command.Command.TheVariants as command
@@ -20,8 +22,11 @@ use Rattle.taxi_io.specs.Counts.{Rose}
 use Rattle.taxi_io.specs.Files.{Files}
 use Rattle.taxi_io.specs.Written.{Grew, GrewInPart}
 use Rattle.replies.specs.declared.block.Block.{Block}
-use Rattle.replies.specs.declared.block.Block.TheVariants.{Refused, Route, NoRoute}
+use Rattle.replies.specs.declared.block.Block.TheVariants.{Refused, Route, NoRoute, Batch}
+use Rattle.replies.specs.declared.entries.Entry.{Entry}
+use Rattle.replies.specs.declared.wish.Wish.{Wish}
 use Rattle.replies.specs.Asked.{asked_in}
+use Rattle.replies.specs.Batches.{wishes_of, IsNoDearer}
 use Rattle.replies.specs.Refusals.{first_refusal}
 use Rattle.replies.specs.Repairs.{TellsRepair}
 use Rattle.replies.specs.Replies.{IsReply}
@@ -56,6 +61,21 @@ pub record AnswersSearch (turn : Turn) : Type 0 where
   -- no-route comes exactly when no feasible walk exists
   pub no_route : TellsNoRoute turn.told ↔ ((steps : List Step) → IsWalkFor turn.sought steps → ⊥)
 
+-- each flight that had begun by a time is in force afterwards, with the arcs and enters of the steps that it had entered
+abbrev pub KeepEntered : State → ℕ → State → Type 0
+KeepEntered state time after =
+    (flight : Flight) → Contains state.flights flight → (begun : Step) → step_begun time flight.steps ≡ Some begun
+    → (now : Flight) × Contains after.flights now × (now.name ≡ flight.name) × KeepsEntered time flight.steps now.steps
+
+-- requests are served in an order that is no dearer than the given one, and that no exchange of neighbours makes cheaper
+pub record IsServedNoDearer (airport : Airport) (state : State) (requests : List BatchRequest) (block : Block) (after : State) : Type 0 where
+  pub wishes : List Wish
+  pub known : wishes_of airport requests ≡ Some wishes
+  pub total : ℕ
+  pub entries : List (List ℕ × Entry)
+  pub block_is : block ≡ Batch total entries
+  pub no_dearer : IsNoDearer airport state wishes total entries after
+
 -- one command in its turn
 pub record AnswersCommand (airport : Airport) (state : State) (line : List ℕ) (block : Block) (after : State) : Type 0 where
   -- the block is the reply that is due, or that memory ran out, which leaves the state
@@ -68,13 +88,16 @@ pub record AnswersCommand (airport : Airport) (state : State) (line : List ℕ) 
   pub searched : (command : Command) → command_of line ≡ Some command → first_refusal airport state command ≡ None
       → (sought : Sought) → sought_of airport state command ≡ Some sought → (block ≡ Refused refusal.Memory → ⊥)
       → turns_of airport state line block ≡ record { sought = sought; told = block } ∷ []
-  -- so is each request of a batch that is refused nothing and finds memory, once and in some order
+  -- so is each request of a batch that is refused nothing and finds memory, once and in some order, which is no dearer than the given one
   pub batched : (requests : List BatchRequest) → command_of line ≡ Some (command.Batch requests) → first_refusal airport state (command.Batch requests) ≡ None
       → (block ≡ Refused refusal.Memory → ⊥)
       → IsPermutation (map (λ turn. turn.sought.name) (turns_of airport state line block)) (map (λ request. (asked_in request).flight) requests)
+      × IsServedNoDearer airport state requests block after
   -- so are the flight that is late and those in its way, in turn; who asked for nothing is dropped
   pub repaired : (name : List ℕ) → (time until : ℕ) → command_of line ≡ Some (command.Late name time until) → first_refusal airport state (command.Late name time until) ≡ None
       → (block ≡ Refused refusal.Memory → ⊥) → TellsRepair airport state name time until block
+  -- what a flight had entered by the time of a late one, it keeps
+  pub entered : (name : List ℕ) → (time until : ℕ) → command_of line ≡ Some (command.Late name time until) → KeepEntered state time after
   -- no two aircraft hold conflicting segments at one moment
   pub clash_free : IsClashFree airport after
   -- the checker accepts the block
