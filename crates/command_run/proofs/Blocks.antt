@@ -12,9 +12,9 @@ use Rattle.transcripts.specs.Runs.{IsRun, blocks_text}
 use Rattle.command_run.specs.declared.refused.RunRefused.{RunRefused}
 use Rattle.command_run.specs.declared.refused.RunRefused.TheVariants as refused
 use Rattle.command_run.specs.Ended.{commands_among, lines_within}
-use Rattle.command_run.specs.HowFar.{Pieces}
-use Rattle.command_run.specs.Answered.{texts_of, AreAnswered, LinesAreAnswered, IsBlockCut, IsWholeRun, IsHaltedRun, IsCutRun, IsPrompt, IsStopped}
-use Rattle.command_run.specs.Told.{Numbered, numbered_among, texts_told, all_told, block_told, AreTold, IsCommandCut, IsWholeTold, IsHaltedTold, IsCutTold, IsPromptTold, IsStoppedTold}
+use Rattle.command_run.specs.HowFar.{Pieces, IsReadWhole, IsReadUpTo}
+use Rattle.command_run.specs.Answered.{texts_of, AreAnswered, LinesAreAnswered, AreAnsweredBy, IsBlockCut, IsWholeRun, IsHaltedRun, IsCutRun, IsPrompt, IsStopped}
+use Rattle.command_run.specs.Told.{Numbered, numbered_among, texts_told, all_told, block_told, AreTold, last_text, AreToldBy, IsCommandCut, IsWholeTold, IsHaltedTold, IsCutTold, IsPromptTold, IsStoppedTold, IsHandedOn}
 use Rattle.command_run.proofs.Told.{told-count, unread-cut}
 
 pub none-answered : (airport : Airport) (before after : State) (now : Output) → after ≡ before → AreAnswered airport before [] (now, now) 0 after
@@ -53,7 +53,55 @@ module _ (airport : Airport) where
     counted = told.counted;
   }
 
+  answered-by : (last : List ℕ × List ℕ) (state : State) (lines : List (List ℕ)) (w0 w1 : Output) (count : ℕ) (after : State)
+      → AreToldBy block_told airport last state lines (w0, w1) count after → AreAnsweredBy airport last state lines (w0, w1) count after
+  unfolding lines-answered
+  answered-by last state lines w0 w1 count after by = record {
+    answered = lines-answered lines w0 w1 count after by.told;
+    in_force = by.in_force;
+    last_reply = by.last_told ∙ ap (last_text last.0) (all-texts lines by.told.blocks after by.told.run);
+  }
+
   module _ (limit : ℕ) (old left : Option (List ℕ)) (w0 w1 : Output) where
+    whole-by : (last : List ℕ × List ℕ) (state : State) (count : ℕ) → IsReadWhole (AreToldBy block_told airport last state) limit (old, left) (w0, w1) count
+        → IsReadWhole (AreAnsweredBy airport last state) limit (old, left) (w0, w1) count
+    whole-by last state count whole = record {
+      bytes = whole.bytes;
+      gave = whole.gave;
+      file = whole.file;
+      at_end = whole.at_end;
+      within = whole.within;
+      after = whole.after;
+      told = answered-by last state _ w0 w1 count whole.after whole.told;
+    }
+
+    halted-by : (last : List ℕ × List ℕ) (state : State) (taken : List ℕ) → IsReadUpTo (AreToldBy block_told airport last state) limit (old, left) (w0, w1) taken
+        → IsReadUpTo (AreAnsweredBy airport last state) limit (old, left) (w0, w1) taken
+    halted-by last state taken halted = record {
+      gave = halted.gave;
+      count = halted.count;
+      after = halted.after;
+      told = answered-by last state _ w0 w1 halted.count halted.after halted.told;
+    }
+
+    on-by : (last : List ℕ × List ℕ) (state : State) (why : RunRefused) → IsHandedOn (AreToldBy block_told airport last state) limit (old, left) (w0, w1) why
+        → IsHandedOn (AreAnsweredBy airport last state) limit (old, left) (w0, w1) why
+    on-by last state refused.ReadFault on = (on.0, halted-by last state on.0 on.1)
+    on-by last state refused.TooLarge on = (on.0, halted-by last state on.0 on.1)
+    on-by last state refused.WriteFault on = tt
+    on-by last state refused.Memory on = tt
+
+    -- who answered is handed on
+    pub whole-handed_on : (last : List ℕ × List ℕ) (state : State) (result : Result ℕ RunRefused) → IfOk result (IsReadWhole (AreToldBy block_told airport last state) limit (old, left) (w0, w1))
+        → IfOk result (IsReadWhole (AreAnsweredBy airport last state) limit (old, left) (w0, w1))
+    whole-handed_on last state (Ok count) whole = whole-by last state count whole
+    whole-handed_on last state (Err why) whole = tt
+
+    pub stopped-handed_on : (last : List ℕ × List ℕ) (state : State) (result : Result ℕ RunRefused) → IfErr result (IsHandedOn (AreToldBy block_told airport last state) limit (old, left) (w0, w1))
+        → IfErr result (IsHandedOn (AreAnsweredBy airport last state) limit (old, left) (w0, w1))
+    stopped-handed_on last state (Ok count) on = tt
+    stopped-handed_on last state (Err why) on = on-by last state why on
+
     whole-run : (count : ℕ) → IsWholeTold block_told airport limit (old, left) (w0, w1) count → IsWholeRun airport limit (old, left) (w0, w1) count
     whole-run count whole = record {
       bytes = whole.bytes;

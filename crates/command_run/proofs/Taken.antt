@@ -178,7 +178,7 @@ module _ (limit : ℕ) (old left : Option (List ℕ)) (given : Pieces) (kept : L
         given_more = taken.given_more;
         joined = taken.joined ∙ sym all;
         last = ap lines_of (sym (append-nil through)) ∙ passed.lines [] ∙ append-nil (read ++ line ∷ []);
-        at_once = inl (taken.short line first);
+        at_once = inl (taken.short line first, ap ended_lines_of (sym (append-nil through)) ∙ passed-ended through (read ++ line ∷ []) passed [] ∙ append-nil (read ++ line ∷ []));
       }
 
   -- the last line has no line feed, and the last read gave nothing

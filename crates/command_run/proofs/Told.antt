@@ -21,9 +21,9 @@ use Rattle.transcripts.proofs.RunLaws.{none-sound, in_turn-append, IsRun-sound, 
 use Rattle.command_run.specs.declared.refused.RunRefused.{RunRefused}
 use Rattle.command_run.specs.declared.refused.RunRefused.TheVariants as refused
 use Rattle.command_run.specs.Ended.{commands_among, ended_lines_of, lines_within}
-use Rattle.command_run.specs.HowFar.{Told, Pieces, Outputs, AreLeft, last_piece, IsInTime}
+use Rattle.command_run.specs.HowFar.{Told, Pieces, Outputs, AreLeft, last_piece, IsReadWhole, IsReadUpTo, IsInTime}
 use Rattle.command_run.specs.Refusals.{refused_for_read, refused_for_write}
-use Rattle.command_run.specs.Told.{Numbered, numbered_from, numbered_among, Telling, texts_told, AreTold, IsTold, IsCommandCut, IsWholeTold, IsHaltedTold, IsCutTold, IsPromptTold, IsStoppedTold, IsLineTold, IsLineCut}
+use Rattle.command_run.specs.Told.{Numbered, numbered_from, numbered_among, Telling, texts_told, AreTold, last_text, AreToldBy, IsHandedOn, IsTold, IsCommandCut, IsWholeTold, IsHaltedTold, IsCutTold, IsPromptTold, IsStoppedTold, IsLineTold, IsLineCut}
 use Rattle.command_run.proofs.Reading.{among-append, among-skipped, among-holds}
 use Rattle.command_run.proofs.Taken.{IsTaken, IsFirst, nothing-taken, taken-fed, taken-dropped, taken-ended, first-in_time, last-in_time, taken-few, lines-few, are-first, whole-lines, whole-file, last-first, ended-at_fault, ended-at_limit, longer-by_one}
 
@@ -33,6 +33,11 @@ use Rattle.command_run.proofs.Taken.{IsTaken, IsFirst, nothing-taken, taken-fed,
 pub failed-of : (why : Trouble) → refused_for_write why ≡ refused.WriteFault → why ≡ trouble.Failed
 failed-of trouble.Failed is = refl
 failed-of trouble.Memory is = absurd (cc is)
+
+-- where a write ends a run nothing is said of who told
+pub write-on : (AreDone : List (List ℕ) → Outputs → ℕ → State → Type 0) (limit : ℕ) (left : Told) (written : Outputs) (why : Trouble) → IsHandedOn AreDone limit left written (refused_for_write why)
+write-on AreDone limit left written trouble.Failed = tt
+write-on AreDone limit left written trouble.Memory = tt
 
 pub same-err : (result : Result ℕ RunRefused) (one other : RunRefused) → result ≡ Err one → result ≡ Err other → one ≡ other
 same-err result one other a b = cc (a, b)
@@ -99,6 +104,10 @@ joined-append texts more = flat_map-append (λ (text : List ℕ). text) texts mo
 
 joined-one : (texts : List (List ℕ)) (text : List ℕ) → joined (texts ++ text ∷ []) ≡ joined texts ++ text
 joined-one texts text = joined-append texts (text ∷ []) ∙ ap (λ (t : List ℕ). joined texts ++ t) (append-nil text)
+
+last_text-one : (before : List ℕ) (texts : List (List ℕ)) (text : List ℕ) → last_text before (texts ++ text ∷ []) ≡ text
+last_text-one before [] text = refl
+last_text-one before (first ∷ texts) text = last_text-one first texts text
 
 module _ (telling : Telling) (airport : Airport) where
   -- ---- lines that are told
@@ -173,6 +182,28 @@ module _ (telling : Telling) (airport : Airport) where
           counted = let counted = told.counted in let l = length-append told.blocks (one.block ∷ []) in omega (arith, counted, l);
         }
 
+  -- ---- by whom they are told
+
+  module _ (lines : List (List ℕ)) (w0 w1 : Output) (count : ℕ) (state : State) (l0 l1 : List ℕ) (by : AreToldBy telling airport (l0, l1) state lines (w0, w1) count state) where
+    by-skipped : (line : List ℕ) → is_skipped line ≡ true → AreToldBy telling airport (l0, l1) state (lines ++ line ∷ []) (w0, w1) count state
+    unfolding told-skipped told-by
+    by-skipped line skipped = record {
+      told = told-skipped lines w0 w1 count state by.told line skipped;
+      in_force = refl;
+      last_told = by.last_told ∙ ap (λ (n : List Numbered). last_text l0 (texts_told telling airport n by.told.blocks))
+          (sym (numbered-append 1 1 lines (line ∷ []) ∙ ap (λ (n : List Numbered). numbered_among lines ++ n) (one-skipped (1 + length (commands_among lines)) (1 + length lines) line skipped) ∙ append-nil (numbered_among lines)));
+    }
+
+    by-line : (line : List ℕ) (number : ℕ) (is : number ≡ length lines + 1) (holds : is_skipped line ≡ false) (text : List ℕ) (after : State)
+        → IsTold telling airport state (record { command = count + 1; line = number; text = line }) text after → (w2 : Output) → Grew w1 w2 text → Handed w1 w2 text
+        → AreToldBy telling airport (l0, text) after (lines ++ line ∷ []) (w0, w2) (count + 1) after
+    unfolding told-line
+    by-line line number is holds text after one w2 grew handed = record {
+      told = told-line lines w0 w1 count state by.told line number is holds text after one w2 grew handed;
+      in_force = refl;
+      last_told = sym (ap (last_text l0) (more-texts lines w0 w1 count state by.told line number is holds text after one) ∙ last_text-one l0 (texts lines w0 w1 count state by.told) text);
+    }
+
   -- ---- cut short
 
   -- a front is written of what is told of some lines, and the run goes on over the others
@@ -221,36 +252,59 @@ module _ (telling : Telling) (airport : Airport) where
         (grew-more w0 w1 now (joined texts) cut.front.0 told.grew cut.front.4)
         (subst (AreHandedInPart w0 now) (sym same) (handed-on w0 w1 now texts (cut.text ∷ []) told.handed (inl (inr cut.in_part))))
 
+  -- ---- by whom, where a run ends
+
+  pub whole-told : (limit : ℕ) (old left : Option (List ℕ)) (w0 w1 : Output) (last : List ℕ × List ℕ) (state : State) (count : ℕ)
+      → IsReadWhole (AreToldBy telling airport last state) limit (old, left) (w0, w1) count → IsWholeTold telling airport limit (old, left) (w0, w1) count
+  whole-told limit old left w0 w1 last state count whole = record {
+    bytes = whole.bytes;
+    gave = whole.gave;
+    file = whole.file;
+    at_end = whole.at_end;
+    within = whole.within;
+    after = whole.after;
+    told = whole.told.told;
+  }
+
+  halted-told : (limit : ℕ) (old left : Option (List ℕ)) (taken : List ℕ) (w0 w1 : Output) (last : List ℕ × List ℕ) (state : State)
+      → IsReadUpTo (AreToldBy telling airport last state) limit (old, left) (w0, w1) taken → IsHaltedTold telling airport limit (old, left) (w0, w1) taken
+  halted-told limit old left taken w0 w1 last state halted = record { gave = halted.gave; count = halted.count; after = halted.after; told = halted.told.told }
+
   -- ---- so far
 
   -- the lines that are read of the file are told, and so many they are
-  pub record IsToldSoFar (limit : ℕ) (left : Told) (given : Pieces) (written : Outputs) (kept : List ℕ) (room number count : ℕ) (state : State) : Type 0 where
+  pub record IsToldSoFar (limit : ℕ) (left : Told) (given : Pieces) (written : Outputs) (kept : List ℕ) (room number count : ℕ) (last : List ℕ × List ℕ) (state : State) : Type 0 where
     pub read : List (List ℕ)
     pub taken : IsTaken limit left given kept room read
     pub numbered : number ≡ length read
-    pub told : AreTold telling airport read written count state
+    pub by : AreToldBy telling airport last state read written count state
 
-  pub so_far-nothing : (limit : ℕ) (left : Option (List ℕ)) (given : List (List ℕ)) (now : Output) (state : State) → state ≡ no_holder
-      → IsToldSoFar limit (left, left) (given, given) (now, now) [] limit 0 0 state
-  so_far-nothing limit left given now state fresh = record { read = []; taken = nothing-taken limit left given; numbered = refl; told = nothing-told now state fresh }
+  pub so_far-nothing : (limit : ℕ) (left : Option (List ℕ)) (given : List (List ℕ)) (now : Output) (last : List ℕ) (state : State) → state ≡ no_holder
+      → IsToldSoFar limit (left, left) (given, given) (now, now) [] limit 0 0 (last, last) state
+  so_far-nothing limit left given now last state fresh = record {
+    read = [];
+    taken = nothing-taken limit left given;
+    numbered = refl;
+    by = record { told = nothing-told now state fresh; in_force = refl; last_told = refl };
+  }
 
-  module _ (limit : ℕ) (old left : Option (List ℕ)) (given : Pieces) (w0 w1 : Output) (kept : List ℕ) (room number count : ℕ) (state : State)
-      (so_far : IsToldSoFar limit (old, left) given (w0, w1) kept room number count state) where
+  module _ (limit : ℕ) (old left : Option (List ℕ)) (given : Pieces) (w0 w1 : Output) (kept : List ℕ) (room number count : ℕ) (l0 l1 : List ℕ) (state : State)
+      (so_far : IsToldSoFar limit (old, left) given (w0, w1) kept room number count (l0, l1) state) where
     pub told-fed : (next : Option (List ℕ)) (now : List (List ℕ)) (piece : List ℕ) (more : ℕ) → first_line_of kept ≡ None → Gave left next piece → now ≡ given.1 ++ piece ∷ []
-        → length piece ≤ 4096 → length piece ≤ room → more ≡ room - length piece → IsToldSoFar limit (old, next) (given.0, now) (w0, w1) (kept ++ piece) more number count state
+        → length piece ≤ 4096 → length piece ≤ room → more ≡ room - length piece → IsToldSoFar limit (old, next) (given.0, now) (w0, w1) (kept ++ piece) more number count (l0, l1) state
     told-fed next now piece more none gave told few within less = record {
       read = so_far.read;
       taken = taken-fed limit old left given kept room so_far.read so_far.taken next now piece more none gave told few within less;
       numbered = so_far.numbered;
-      told = so_far.told;
+      by = so_far.by;
     }
 
     -- the file has ended, as the last read told, which gave nothing
     pub told-ended : (next : Option (List ℕ)) (now : List (List ℕ)) (piece : List ℕ) → next ≡ left → now ≡ given.1 ++ piece ∷ [] → piece ≡ [] → first_line_of kept ≡ None
-        → (ended : IsToldSoFar limit (old, next) (given.0, now) (w0, w1) kept room number count state) × (last_piece ended.taken.pieces ≡ [])
+        → (ended : IsToldSoFar limit (old, next) (given.0, now) (w0, w1) kept room number count (l0, l1) state) × (last_piece ended.taken.pieces ≡ [])
     told-ended next now piece same told nothing none =
         let ended = taken-ended limit old left given kept room so_far.read so_far.taken next now piece same told nothing none in (
-          record { read = so_far.read; taken = ended.0; numbered = so_far.numbered; told = so_far.told },
+          record { read = so_far.read; taken = ended.0; numbered = so_far.numbered; by = so_far.by },
           ended.1,
         )
 
@@ -259,25 +313,27 @@ module _ (telling : Telling) (airport : Airport) where
     next-number = let numbered = so_far.numbered in omega (arith, numbered)
 
     -- a line more is told
-    one-more : (line : List ℕ) (w2 : Output) (few : ℕ) (after : State) → IsLineTold telling airport state count (number + 1) line (w1, w2) few after
-        → AreTold telling airport (so_far.read ++ line ∷ []) (w0, w2) (count + few) after
-    one-more line w2 few after (inl (skipped, none, same, kept_state)) =
+    one-more : (line l2 : List ℕ) (w2 : Output) (few : ℕ) (after : State) → IsLineTold telling airport state count (number + 1) line (l1, l2) (w1, w2) few after
+        → AreToldBy telling airport (l0, l2) after (so_far.read ++ line ∷ []) (w0, w2) (count + few) after
+    one-more line l2 w2 few after (inl (skipped, none, same, kept_state, kept_text)) =
         let none_more : count ≡ count + few = omega (arith, none) in
-        subst (λ (n : ℕ). AreTold telling airport (so_far.read ++ line ∷ []) (w0, w2) n after) none_more
-        (subst (λ (w : Output). AreTold telling airport (so_far.read ++ line ∷ []) (w0, w) count after) (sym same)
-        (subst (λ (s : State). AreTold telling airport (so_far.read ++ line ∷ []) (w0, w1) count s) (sym kept_state) (told-skipped so_far.read w0 w1 count state so_far.told line skipped)))
-    one-more line w2 few after (inr (holds, one, (text, told, grew, handed))) =
+        subst (λ (n : ℕ). AreToldBy telling airport (l0, l2) after (so_far.read ++ line ∷ []) (w0, w2) n after) none_more
+        (subst (λ (w : Output). AreToldBy telling airport (l0, l2) after (so_far.read ++ line ∷ []) (w0, w) count after) (sym same)
+        (subst (λ (s : State). AreToldBy telling airport (l0, l2) s (so_far.read ++ line ∷ []) (w0, w1) count s) (sym kept_state)
+        (subst (λ (l : List ℕ). AreToldBy telling airport (l0, l) state (so_far.read ++ line ∷ []) (w0, w1) count state) (sym kept_text)
+        (by-skipped so_far.read w0 w1 count state l0 l1 so_far.by line skipped))))
+    one-more line l2 w2 few after (inr (holds, one, told, grew, handed)) =
         let one_more : count + 1 ≡ count + few = omega (arith, one) in
-        subst (λ (n : ℕ). AreTold telling airport (so_far.read ++ line ∷ []) (w0, w2) n after) one_more
-        (told-line so_far.read w0 w1 count state so_far.told line (number + 1) next-number holds text after told w2 grew handed)
+        subst (λ (n : ℕ). AreToldBy telling airport (l0, l2) after (so_far.read ++ line ∷ []) (w0, w2) n after) one_more
+        (by-line so_far.read w0 w1 count state l0 l1 so_far.by line (number + 1) next-number holds l2 after told w2 grew handed)
 
-    pub told-first : (line : List ℕ) → first_line_of kept ≡ Some line → (w2 : Output) (few : ℕ) (after : State) → IsLineTold telling airport state count (number + 1) line (w1, w2) few after
-        → IsToldSoFar limit (old, left) given (w0, w2) (behind_first_line kept) room (number + 1) (count + few) after
-    told-first line first w2 few after line_told = record {
+    pub told-first : (line : List ℕ) → first_line_of kept ≡ Some line → (l2 : List ℕ) (w2 : Output) (few : ℕ) (after : State) → IsLineTold telling airport state count (number + 1) line (l1, l2) (w1, w2) few after
+        → IsToldSoFar limit (old, left) given (w0, w2) (behind_first_line kept) room (number + 1) (count + few) (l0, l2) after
+    told-first line first l2 w2 few after line_told = record {
       read = so_far.read ++ line ∷ [];
       taken = taken-dropped limit old left given kept room so_far.read so_far.taken line first;
       numbered = let numbered = so_far.numbered in let l = length-append so_far.read (line ∷ []) in omega (arith, numbered, l);
-      told = one-more line w2 few after line_told;
+      by = one-more line l2 w2 few after line_told;
     }
 
     -- there are no more lines than bytes, and no more commands than lines
@@ -285,8 +341,8 @@ module _ (telling : Telling) (airport : Airport) where
     numbers-few =
         let lines = lines-few limit old left given kept room so_far.read so_far.taken in
         let numbered = so_far.numbered in
-        let counted = so_far.told.counted in
-        let blocks = in_turn-length IsAnswered airport no_holder state (commands_among so_far.read) so_far.told.blocks so_far.told.run in
+        let counted = so_far.by.told.counted in
+        let blocks = in_turn-length IsAnswered airport no_holder state (commands_among so_far.read) so_far.by.told.blocks so_far.by.told.run in
         let fewer = among-few so_far.read in
         (omega (arith, lines, numbered), omega (arith, lines, counted, blocks, fewer))
 
@@ -294,7 +350,7 @@ module _ (telling : Telling) (airport : Airport) where
 
     -- memory runs out between two lines, perhaps with a piece more taken
     pub so_far-left : (next : Option (List ℕ)) → IsCutTold telling airport limit (old, next) (w0, w1)
-    so_far-left next = told-stays limit old next so_far.read w0 w1 count state so_far.told (are-first limit old left given kept room so_far.read so_far.taken)
+    so_far-left next = told-stays limit old next so_far.read w0 w1 count state so_far.by.told (are-first limit old left given kept room so_far.read so_far.taken)
 
     -- what is told of the next line is cut short
     cut-stops : (why : Trouble) (now : Output) → IsCutTold telling airport limit (old, left) (w0, now) → IsStoppedTold telling airport limit (old, left) (w0, now) (refused_for_write why)
@@ -310,7 +366,7 @@ module _ (telling : Telling) (airport : Airport) where
       between = w1;
       count = count;
       state = state;
-      told = so_far.told;
+      told = so_far.by.told;
       cut = subst (λ (n : ℕ). IsCommandCut telling airport state (record { command = count + 1; line = n; text = line }) (w1, now)) next-number cut;
     }
 
@@ -318,7 +374,7 @@ module _ (telling : Telling) (airport : Airport) where
     pub first-stops : (line : List ℕ) → first_line_of kept ≡ Some line → (now : Output) → IsLineCut telling airport state count (number + 1) line (w1, now) → (why : Trouble)
         → IsStoppedTold telling airport limit (old, left) (w0, now) (refused_for_write why)
     first-stops line first now cut why =
-        cut-stops why now (told-cut limit old left so_far.read w0 w1 count state so_far.told line (number + 1) now next-number
+        cut-stops why now (told-cut limit old left so_far.read w0 w1 count state so_far.by.told line (number + 1) now next-number
         (are-first limit old left given kept room so_far.read so_far.taken)
         (are-first limit old left given (behind_first_line kept) room (so_far.read ++ line ∷ []) (taken-dropped limit old left given kept room so_far.read so_far.taken line first)) cut)
 
@@ -331,65 +387,67 @@ module _ (telling : Telling) (airport : Airport) where
       pub last-stops : (line : List ℕ) → last_line_of kept ≡ Some line → AreLeft left [] → (now : Output) → IsLineCut telling airport state count (number + 1) line (w1, now) → (why : Trouble)
           → IsStoppedTold telling airport limit (old, left) (w0, now) (refused_for_write why)
       last-stops line last ended now cut why =
-          cut-stops why now (told-cut limit old left so_far.read w0 w1 count state so_far.told line (number + 1) now next-number
+          cut-stops why now (told-cut limit old left so_far.read w0 w1 count state so_far.by.told line (number + 1) now next-number
           (are-first limit old left given kept room so_far.read so_far.taken) (last-first limit old left given kept room so_far.read so_far.taken none line last ended) cut)
 
       pub last-prompt : (line : List ℕ) → last_line_of kept ≡ Some line → last_piece so_far.taken.pieces ≡ [] → (now : Output)
           → IsCommandCut telling airport state (record { command = count + 1; line = number + 1; text = line }) (w1, now) → IsPromptTold telling airport (old, left) given (w0, now)
       last-prompt line last ended now cut = prompt-of line now (last-in_time limit old left given kept room so_far.read so_far.taken none line last ended) cut
 
-      whole-with : (lines : List (List ℕ)) (w2 : Output) (n : ℕ) (after : State) → AreLeft left [] → so_far.read ++ only_line (last_line_of kept) ≡ lines
-          → AreTold telling airport lines (w0, w2) n after → IsWholeTold telling airport limit (old, left) (w0, w2) n
-      whole-with lines w2 n after ended are told = record {
+      whole-with : (lines : List (List ℕ)) (l2 : List ℕ) (w2 : Output) (n : ℕ) (after : State) → AreLeft left [] → so_far.read ++ only_line (last_line_of kept) ≡ lines
+          → AreToldBy telling airport (l0, l2) after lines (w0, w2) n after → IsReadWhole (AreToldBy telling airport (l0, l2) after) limit (old, left) (w0, w2) n
+      whole-with lines l2 w2 n after ended are told = record {
         bytes = so_far.taken.front ++ kept;
         gave = so_far.taken.gave;
         file = whole-file limit old left given kept room so_far.read so_far.taken none ended;
         at_end = ended;
         within = taken-few limit old left given kept room so_far.read so_far.taken;
         after = after;
-        told = subst (λ (l : List (List ℕ)). AreTold telling airport l (w0, w2) n after) (sym (whole-lines limit old left given kept room so_far.read so_far.taken none ∙ are)) told;
+        told = subst (λ (l : List (List ℕ)). AreToldBy telling airport (l0, l2) after l (w0, w2) n after) (sym (whole-lines limit old left given kept room so_far.read so_far.taken none ∙ are)) told;
       }
 
       -- the file is read to its end, and its last line is told too
-      pub whole-last : (line : List ℕ) → last_line_of kept ≡ Some line → AreLeft left [] → (w2 : Output) (few : ℕ) (after : State)
-          → IsLineTold telling airport state count (number + 1) line (w1, w2) few after → IsWholeTold telling airport limit (old, left) (w0, w2) (count + few)
-      whole-last line last ended w2 few after line_told =
-          whole-with (so_far.read ++ line ∷ []) w2 (count + few) after ended (ap (λ (l : Option (List ℕ)). so_far.read ++ only_line l) last) (one-more line w2 few after line_told)
+      pub by-last : (line : List ℕ) → last_line_of kept ≡ Some line → AreLeft left [] → (l2 : List ℕ) (w2 : Output) (few : ℕ) (after : State)
+          → IsLineTold telling airport state count (number + 1) line (l1, l2) (w1, w2) few after → IsReadWhole (AreToldBy telling airport (l0, l2) after) limit (old, left) (w0, w2) (count + few)
+      by-last line last ended l2 w2 few after line_told =
+          whole-with (so_far.read ++ line ∷ []) l2 w2 (count + few) after ended (ap (λ (l : Option (List ℕ)). so_far.read ++ only_line l) last) (one-more line l2 w2 few after line_told)
 
       -- or there is none
-      pub whole-none : last_line_of kept ≡ None → AreLeft left [] → IsWholeTold telling airport limit (old, left) (w0, w1) count
-      whole-none last ended =
-          whole-with so_far.read w1 count state ended (ap (λ (l : Option (List ℕ)). so_far.read ++ only_line l) last ∙ append-nil so_far.read) so_far.told
+      pub by-none : last_line_of kept ≡ None → AreLeft left [] → IsReadWhole (AreToldBy telling airport (l0, l1) state) limit (old, left) (w0, w1) count
+      by-none last ended =
+          whole-with so_far.read l1 w1 count state ended (ap (λ (l : Option (List ℕ)). so_far.read ++ only_line l) last ∙ append-nil so_far.read) so_far.by
 
-      halted-with : (next : Option (List ℕ)) (taken : List ℕ) → Gave old next taken → so_far.read ≡ ended_lines_of (take limit taken) → IsHaltedTold telling airport limit (old, next) (w0, w1) taken
+      halted-with : (next : Option (List ℕ)) (taken : List ℕ) → Gave old next taken → so_far.read ≡ ended_lines_of (take limit taken)
+          → IsReadUpTo (AreToldBy telling airport (l0, l1) state) limit (old, next) (w0, w1) taken
       halted-with next taken gave are = record {
         gave = gave;
         count = count;
         after = state;
-        told = subst (λ (l : List (List ℕ)). AreTold telling airport l (w0, w1) count state) are so_far.told;
+        told = subst (λ (l : List (List ℕ)). AreToldBy telling airport (l0, l1) state l (w0, w1) count state) are so_far.by;
       }
 
       -- a read fails, or gives one byte too many
       pub read-stops : (next : Option (List ℕ)) (why : ReadRefused) → (why ≡ reads.TooLarge → (room ≡ 0) × GaveByte left next) → (why ≡ reads.Fault → next ≡ left)
-          → IsStoppedTold telling airport limit (old, next) (w0, w1) (refused_for_read why)
+          → IsStoppedTold telling airport limit (old, next) (w0, w1) (refused_for_read why) × IsHandedOn (AreToldBy telling airport (l0, l1) state) limit (old, next) (w0, w1) (refused_for_read why)
       read-stops next reads.Fault large same =
           let stays = same refl in
-          let few = taken-few limit old left given kept room so_far.read so_far.taken in (
-            so_far.taken.front ++ kept,
-            few,
-            halted-with next (so_far.taken.front ++ kept) (subst (λ (l : Option (List ℕ)). Gave old l (so_far.taken.front ++ kept)) (sym stays) so_far.taken.gave)
-                (sym (ended-at_fault limit old left given kept room so_far.read so_far.taken none)),
+          let few = taken-few limit old left given kept room so_far.read so_far.taken in
+          let halted = halted-with next (so_far.taken.front ++ kept) (subst (λ (l : Option (List ℕ)). Gave old l (so_far.taken.front ++ kept)) (sym stays) so_far.taken.gave)
+          (sym (ended-at_fault limit old left given kept room so_far.read so_far.taken none)) in (
+            (so_far.taken.front ++ kept, few, halted-told limit old next (so_far.taken.front ++ kept) w0 w1 (l0, l1) state halted),
+            (so_far.taken.front ++ kept, halted),
           )
       read-stops next reads.TooLarge large same =
           let byte = large refl in
-          let long = longer-by_one limit old left given kept room so_far.read so_far.taken none byte.1.0 byte.0 in (
-            (so_far.taken.front ++ kept) ++ byte.1.0 ∷ [],
-            omega (arith, long),
-            halted-with next ((so_far.taken.front ++ kept) ++ byte.1.0 ∷ []) (gave-more old left next (so_far.taken.front ++ kept) (byte.1.0 ∷ []) so_far.taken.gave byte.1.1)
-                (sym (ended-at_limit limit old left given kept room so_far.read so_far.taken none byte.1.0 byte.0)),
+          let taken = (so_far.taken.front ++ kept) ++ byte.1.0 ∷ [] in
+          let long = longer-by_one limit old left given kept room so_far.read so_far.taken none byte.1.0 byte.0 in
+          let halted = halted-with next taken (gave-more old left next (so_far.taken.front ++ kept) (byte.1.0 ∷ []) so_far.taken.gave byte.1.1)
+          (sym (ended-at_limit limit old left given kept room so_far.read so_far.taken none byte.1.0 byte.0)) in (
+            (taken, omega (arith, long), halted-told limit old next taken w0 w1 (l0, l1) state halted),
+            (taken, halted),
           )
-      read-stops next reads.Memory large same = so_far-left next
+      read-stops next reads.Memory large same = (so_far-left next, tt)
 
   -- nothing was read, and nothing is told
   pub unread-cut : (limit : ℕ) (left : Option (List ℕ)) (now : Output) → IsCutTold telling airport limit (left, left) (now, now)
-  unread-cut limit left now = so_far-left limit left left ([], []) now now [] limit 0 0 no_holder (so_far-nothing limit left [] now no_holder refl) left
+  unread-cut limit left now = so_far-left limit left left ([], []) now now [] limit 0 0 [] [] no_holder (so_far-nothing limit left [] now [] no_holder refl) left

@@ -13,6 +13,7 @@ use Rattle.command_run.specs.declared.refused.RunRefused.TheVariants.{ReadFault,
 use Rattle.command_run.specs.Ended.{commands_among, commands_within}
 pub use Rattle.command_run.specs.HowFar.{Told, Pieces, Outputs, AreLeft}
 use Rattle.command_run.specs.HowFar.{IsReadWhole, IsReadUpTo, IsInTime}
+use Rattle.command_run.specs.Told.{last_text}
 
 -- what each block says, as text
 abbrev pub texts_of : Airport → List Block → List (List ℕ)
@@ -25,6 +26,13 @@ pub record AreAnswered (airport : Airport) (before : State) (commands : List (Li
   pub grew : Grew written.0 written.1 (blocks_text airport blocks)
   pub handed : AreHanded written.0 written.1 (texts_of airport blocks)
   pub counted : count ≡ length blocks
+
+-- The same of the commands among lines, from no holder in force, and of who answered: what it holds in force is what the commands left,
+-- and its last reply, before and after, is that to the last command, or as it was where there is none.
+pub record AreAnsweredBy (airport : Airport) (last : List ℕ × List ℕ) (state : State) (lines : List (List ℕ)) (written : Outputs) (count : ℕ) (after : State) : Type 0 where
+  pub answered : AreAnswered airport no_holder (commands_among lines) written count after
+  pub in_force : state ≡ after
+  pub last_reply : last.1 ≡ last_text last.0 (texts_of airport answered.blocks)
 
 -- the same of the commands among lines, from no holder in force
 abbrev pub LinesAreAnswered : Airport → List (List ℕ) → Outputs → ℕ → State → Type 0

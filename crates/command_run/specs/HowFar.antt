@@ -50,8 +50,8 @@ last_piece (piece ∷ []) = piece
 last_piece (piece ∷ next ∷ more) = last_piece (next ∷ more)
 
 -- A line of a file is the next to be done, behind these. Of the file these pieces were taken: what comes up to the end of the line, and
--- what stands ahead of it. The line ends in the last of them, so no read was made once it had ended; or the last read gave nothing,
--- since the file ended, and the line has no line feed.
+-- what stands ahead of it. The line has ended, and it ends in the last of them, so no read was made once it had ended; or the last read
+-- gave nothing, since the file ended, and the line has no line feed.
 pub record IsInTime (left : Told) (given : Pieces) (before : List (List ℕ)) (line : List ℕ) : Type 0 where
   pub through : List ℕ
   pub ahead : List ℕ
@@ -61,4 +61,5 @@ pub record IsInTime (left : Told) (given : Pieces) (before : List (List ℕ)) (l
   pub given_more : given.1 ≡ given.0 ++ pieces
   pub joined : flat_map (λ piece. piece) pieces ≡ through ++ ahead
   pub last : lines_of through ≡ before ++ line ∷ []
-  pub at_once : (length ahead < length (last_piece pieces)) ⊎ ((last_piece pieces ≡ []) × (ahead ≡ []) × (ended_lines_of through ≡ before))
+  pub at_once : ((length ahead < length (last_piece pieces)) × (ended_lines_of through ≡ before ++ line ∷ []))
+      ⊎ ((last_piece pieces ≡ []) × (ahead ≡ []) × (ended_lines_of through ≡ before))

@@ -1,5 +1,5 @@
 -- What is written of each command of a file beside its block, and what was written, by how the run ended?
-use Rattle.std.specs.Prelude.{◌≡◌, ◌<◌, ◌≤◌, ◌⊎◌, ◌+◌, ℕ, true, false, List, [], ◌∷◌, ◌++◌, length, if◌then◌else◌}
+use Rattle.std.specs.Prelude.{◌≡◌, ◌<◌, ◌≤◌, ◌⊎◌, ◌+◌, ⊤, ℕ, true, false, List, [], ◌∷◌, ◌++◌, length, if◌then◌else◌}
 use Rattle.std.specs.List.{flat_map}
 use Rattle.taxi_base.specs.Airport.{Airport}
 use Rattle.taxi_base.specs.State.{State, no_holder}
@@ -57,6 +57,18 @@ pub record AreTold (telling : Telling) (airport : Airport) (lines : List (List �
   pub handed : AreHanded written.0 written.1 (texts_told telling airport (numbered_among lines) blocks)
   pub counted : count ≡ length blocks
 
+-- the last of some texts, or this one where there is none
+abbrev pub last_text : List ℕ → List (List ℕ) → List ℕ
+last_text before [] = before
+last_text before (text ∷ texts) = last_text text texts
+
+-- The same, and of who told: what it holds in force is what the commands left, and its last text, before and after, is that of the last
+-- command, or as it was where there is none.
+pub record AreToldBy (telling : Telling) (airport : Airport) (last : List ℕ × List ℕ) (state : State) (lines : List (List ℕ)) (written : Outputs) (count : ℕ) (after : State) : Type 0 where
+  pub told : AreTold telling airport lines written count after
+  pub in_force : state ≡ after
+  pub last_told : last.1 ≡ last_text last.0 (texts_told telling airport (numbered_among lines) told.blocks)
+
 -- one command is answered by a block, and what is told of it is this text
 pub record IsTold (telling : Telling) (airport : Airport) (before : State) (command : Numbered) (text : List ℕ) (after : State) : Type 0 where
   pub block : Block
@@ -86,6 +98,13 @@ IsWholeTold telling airport = IsReadWhole (AreTold telling airport)
 -- bytes count.
 abbrev pub IsHaltedTold : Telling → Airport → ℕ → Told → Outputs → List ℕ → Type 0
 IsHaltedTold telling airport = IsReadUpTo (AreTold telling airport)
+
+-- where reading failed, or gave more than the limit, who told is handed on with what is so of the lines that had ended
+abbrev pub IsHandedOn : (List (List ℕ) → Outputs → ℕ → State → Type 0) → ℕ → Told → Outputs → RunRefused → Type 0
+IsHandedOn AreDone limit left written ReadFault = (taken : List ℕ) × IsReadUpTo AreDone limit left written taken
+IsHandedOn AreDone limit left written TooLarge = (taken : List ℕ) × IsReadUpTo AreDone limit left written taken
+IsHandedOn AreDone limit left written WriteFault = ⊤
+IsHandedOn AreDone limit left written Memory = ⊤
 
 -- a front was written of what is told of the file's commands, each text handed over as one piece
 pub record IsCutTold (telling : Telling) (airport : Airport) (limit : ℕ) (left : Told) (written : Outputs) : Type 0 where
@@ -121,12 +140,12 @@ IsStoppedTold telling airport limit left written Memory = IsCutTold telling airp
 -- ---- one line, for private clauses
 
 -- a line that holds no command is passed over; else its command is told, and what is told is handed over as one piece
-abbrev pub IsLineTold : Telling → Airport → State → (count line : ℕ) → List ℕ → Outputs → ℕ → State → Type 0
-IsLineTold telling airport before count line text written few after =
-    ((is_skipped text ≡ true) × (few ≡ 0) × (written.1 ≡ written.0) × (after ≡ before))
+abbrev pub IsLineTold : Telling → Airport → State → (count line : ℕ) → List ℕ → List ℕ × List ℕ → Outputs → ℕ → State → Type 0
+IsLineTold telling airport before count line text last written few after =
+    ((is_skipped text ≡ true) × (few ≡ 0) × (written.1 ≡ written.0) × (after ≡ before) × (last.1 ≡ last.0))
     ⊎ ((is_skipped text ≡ false) × (few ≡ 1)
-    × ((told : List ℕ) × IsTold telling airport before (record { command = count + 1; line = line; text = text }) told after
-    × Grew written.0 written.1 told × Handed written.0 written.1 told))
+    × IsTold telling airport before (record { command = count + 1; line = line; text = text }) last.1 after
+    × Grew written.0 written.1 last.1 × Handed written.0 written.1 last.1)
 
 -- nothing is written of a line, or what is told of its command is cut short
 abbrev pub IsLineCut : Telling → Airport → State → (count line : ℕ) → List ℕ → Outputs → Type 0

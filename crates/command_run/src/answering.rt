@@ -3,7 +3,9 @@ ghost use Rattle.std.specs.Prelude.{◌≡◌, ◌<◌, ◌≤◌, ◌^◌, true
 ghost use Rattle.taxi_base.specs.State.{no_holder};
 ghost use Rattle.taxi_io.specs.Counts.{Rose};
 ghost use Rattle.taxi_io.specs.Files.{SameNames};
-ghost use Rattle.command_run.specs.Answered.{IsWholeRun, IsStopped};
+ghost use Rattle.command_run.specs.Answered.{AreAnsweredBy, IsWholeRun, IsStopped};
+ghost use Rattle.command_run.specs.HowFar.{IsReadWhole};
+ghost use Rattle.command_run.specs.Told.{IsHandedOn};
 
 use crate::refused::RunRefused;
 use crate::telling::run_told;
@@ -30,6 +32,9 @@ pub fn run_commands<R: Router, S: Shelf, K: Sink>(
 
     ensures whole { IfOk result (IsWholeRun (R.airport router.old) limit (S.rest shelf.old, S.rest shelf.new) (K.written out.old, K.written out.new)) }
     ensures stopped { IfErr result (IsStopped (R.airport router.old) limit (S.rest shelf.old, S.rest shelf.new) (S.given shelf.old, S.given shelf.new) (K.written out.old, K.written out.new)) }
+    // The router is handed on with what the last command left, and with its reply.
+    ensures handed_on { IfOk result (IsReadWhole (AreAnsweredBy (R.airport router.old) (R.replied router.old, R.replied router.new) (R.state router.new)) limit (S.rest shelf.old, S.rest shelf.new) (K.written out.old, K.written out.new)) }
+    ensures stopped_on { IfErr result (IsHandedOn (AreAnsweredBy (R.airport router.old) (R.replied router.old, R.replied router.new) (R.state router.new)) limit (S.rest shelf.old, S.rest shelf.new) (K.written out.old, K.written out.new)) }
     ensures read_fault { IsErrOf result RunRefused.ReadFault → Rose (S.faults shelf.old) (S.faults shelf.new) }
     ensures write_fault { IsErrOf result RunRefused.WriteFault → Rose (K.faults out.old) (K.faults out.new) }
 

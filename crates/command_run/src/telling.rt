@@ -4,7 +4,8 @@ ghost use Rattle.taxi_base.specs.Airport.{Airport};
 ghost use Rattle.taxi_base.specs.State.{State, no_holder};
 ghost use Rattle.taxi_io.specs.Counts.{Rose};
 ghost use Rattle.taxi_io.specs.Files.{SameNames};
-ghost use Rattle.command_run.specs.Told.{Telling, IsTold, IsWholeTold, IsStoppedTold, IsPromptTold, IsCommandCut, IsLineTold, IsLineCut, block_told};
+ghost use Rattle.command_run.specs.HowFar.{IsReadWhole};
+ghost use Rattle.command_run.specs.Told.{Telling, AreToldBy, IsTold, IsWholeTold, IsStoppedTold, IsPromptTold, IsHandedOn, IsCommandCut, IsLineTold, IsLineCut, block_told};
 
 use crate::refused::RunRefused;
 use std::alloc::Global;
@@ -82,6 +83,9 @@ pub fn run_told<T: Teller, S: Shelf, K: Sink>(
     ensures stopped { IfErr result (IsStoppedTold T.telling (T.airport teller.old) limit (S.rest shelf.old, S.rest shelf.new) (K.written out.old, K.written out.new)) }
     // Where a text can't be written whole, no read was made once its command's line had ended.
     ensures pace { IsErrOf result RunRefused.WriteFault → IsPromptTold T.telling (T.airport teller.old) (S.rest shelf.old, S.rest shelf.new) (S.given shelf.old, S.given shelf.new) (K.written out.old, K.written out.new) }
+    // The teller is handed on with what the last command left, and with what was told of it.
+    ensures handed_on { IfOk result (IsReadWhole (AreToldBy T.telling (T.airport teller.old) (T.told teller.old, T.told teller.new) (T.state teller.new)) limit (S.rest shelf.old, S.rest shelf.new) (K.written out.old, K.written out.new)) }
+    ensures stopped_on { IfErr result (IsHandedOn (AreToldBy T.telling (T.airport teller.old) (T.told teller.old, T.told teller.new) (T.state teller.new)) limit (S.rest shelf.old, S.rest shelf.new) (K.written out.old, K.written out.new)) }
     ensures read_fault { IsErrOf result RunRefused.ReadFault → Rose (S.faults shelf.old) (S.faults shelf.new) }
     ensures write_fault { IsErrOf result RunRefused.WriteFault → Rose (K.faults out.old) (K.faults out.new) }
 
@@ -128,7 +132,7 @@ fn tell_line<T: Teller, K: Sink>(
     out: &mut K,
 ) -> Result<u64, Trouble>
     requires { count + 1 < 2 ^ 64 }
-    ensures told { IfOk result (λ few. IsLineTold T.telling (T.airport teller.old) (T.state teller.old) count number line.now (K.written out.old, K.written out.new) few (T.state teller.new)) }
+    ensures told { IfOk result (λ few. IsLineTold T.telling (T.airport teller.old) (T.state teller.old) count number line.now (T.told teller.old, T.told teller.new) (K.written out.old, K.written out.new) few (T.state teller.new)) }
     ensures cut { OnErr result (IsLineCut T.telling (T.airport teller.old) (T.state teller.old) count number line.now (K.written out.old, K.written out.new)) }
     ensures cut_short { IsErrOf result Trouble.Failed → IsCommandCut T.telling (T.airport teller.old) (T.state teller.old) (record { command = count + 1; line = number; text = line.now }) (K.written out.old, K.written out.new) }
     ensures failed { IsErrOf result Trouble.Failed → Rose (K.faults out.old) (K.faults out.new) }

@@ -10,7 +10,7 @@ invariant-loop-line g l =
     let s = g.S.Shelf in
     let k = g.K.Sink in
     record {
-      so_far : IsToldSoFar t.telling (t.airport l.fn.teller) l.fn.limit (s.rest l.fn.shelf, s.rest l.shelf) (s.given l.fn.shelf, s.given l.shelf) (k.written l.fn.out, k.written l.out) l.reader l.left l.number l.count (t.state l.teller);
+      so_far : IsToldSoFar t.telling (t.airport l.fn.teller) l.fn.limit (s.rest l.fn.shelf, s.rest l.shelf) (s.given l.fn.shelf, s.given l.shelf) (k.written l.fn.out, k.written l.out) l.reader l.left l.number l.count (t.told l.fn.teller, t.told l.teller) (t.state l.teller);
       airport : t.airport l.teller ≡ t.airport l.fn.teller;
       begun : s.begun l.shelf ≡ true;
       tried : s.tried l.shelf ≡ s.tried l.fn.shelf;
